@@ -1,0 +1,12 @@
+pub mod Names
+pub mod OrderLemmas
+pub mod BindingLemmas
+pub mod MatchingLemmas
+pub mod FillingLemmas
+pub mod DomainLemmas
+pub mod Runs
+pub mod Arguments
+pub mod Pieces
+pub mod Terms
+pub mod Texts
+pub mod ReadBack

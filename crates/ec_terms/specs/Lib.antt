@@ -1,0 +1,12 @@
+pub mod Spelling
+pub mod Term
+pub mod Front
+pub mod TextLaws
+pub mod Matching
+pub mod Domain
+pub mod DomainLaws
+pub mod OrderLaws
+pub mod Binding
+pub mod MatchingLaws
+pub mod Matchable
+pub mod Pieces

@@ -1,0 +1,45 @@
+//! Ground terms, patterns and the types of a theory.
+#![tactic(auto)]
+
+mod binding;
+mod domain_laws;
+mod filling;
+mod ground;
+mod ids;
+mod laws;
+mod matching;
+mod matching_laws;
+mod name;
+mod no_memory;
+mod order_laws;
+mod pattern;
+mod reading;
+#[cfg(test)]
+mod reading_tests;
+mod sequence;
+mod spelling;
+mod term_order;
+mod term_text;
+#[cfg(test)]
+mod tests;
+mod theory;
+
+pub use binding::{Binding, MOST_VARIABLES};
+pub use domain_laws::{entries_ascend, exclusive_is_symmetric};
+pub use filling::{fill, fill_ref, tests_hold};
+pub use ground::{Arg, ArgRef, ArgRefs, Args, Ground, GroundRef, MOST_ARGS};
+pub use ids::{PropId, Slot};
+pub use laws::{texts_are_read_back, texts_differ};
+pub use matching::{extend_match, matches};
+pub use matching_laws::fitting_binding_is_unique;
+pub use name::Name;
+pub use no_memory::NoMemory;
+pub use order_laws::{arguments_are_ordered, equality_is_decided, terms_are_ordered};
+pub use pattern::{PatArg, PatArgs, Pattern};
+pub use reading::{read_ground, read_int, read_name};
+pub use sequence::Sequence;
+pub use term_order::order;
+pub use term_text::{TermText, text};
+pub use theory::{
+    Exclusive, Initial, Kind, Literal, Literals, Rule, Strong, Test, TestOp, Tests, Theory,
+};

@@ -1,0 +1,159 @@
+//! Tables for the order, for matching and for filling; the values are those of the calculus.
+
+ghost use Rattle.std.specs.Prelude.{◌≡◌};
+ghost use Rattle.std.specs.List.{list_all};
+ghost use Rattle.ec_terms.specs.Binding.{is_small_place};
+ghost use Rattle.ec_terms.specs.Term.{arg_of, is_argument};
+
+use crate::*;
+use std::cmp::Ordering;
+use std::process::Abort;
+use std::test::Fail;
+
+/// A term with these arguments.
+fn term<'a>(rt: &impl Abort, name: &'a [u8], items: &[ArgRef<'a>]) -> GroundRef<'a> {
+    let mut args = ArgRefs::new();
+    for item in items {
+        assert!(rt; args.len() < 8);
+        args.push(*item);
+    }
+    GroundRef { name, args }
+}
+
+#[test]
+fn a_prefix_numbers_and_fewer_arguments_come_first(rt: HostRuntime) {
+    use ArgRef::{Int, Word};
+    let ascending = [
+        term(&rt, b"lamp", &[]),
+        term(&rt, b"lamp", &[Int(-5)]),
+        term(&rt, b"lamp", &[Int(4)]),
+        term(&rt, b"lamp", &[Int(12)]),
+        term(&rt, b"lamp", &[Word(b"a")]),
+        term(&rt, b"lamp", &[Word(b"a1")]),
+        term(&rt, b"lamp", &[Word(b"aB")]),
+        term(&rt, b"lamp", &[Word(b"aa")]),
+        term(&rt, b"lamp", &[Word(b"b")]),
+        term(&rt, b"lamp", &[Int(4), Int(4)]),
+        term(&rt, b"lamp", &[Int(4), Word(b"a")]),
+        term(&rt, b"lamp2", &[]),
+        term(&rt, b"lamps", &[]),
+        term(&rt, b"plug", &[]),
+    ];
+    for (i, left) in ascending.iter().enumerate() {
+        for (j, right) in ascending.iter().enumerate() {
+            assert!(rt; order(left, right) == i.cmp(&j), "at {i} and {j}");
+        }
+    }
+}
+
+/// Whether the variables at the places are small enough to match, to be asserted.
+fn are_small(places: &[PatArg]) -> bool
+    ensures { result ≡ list_all is_small_place places.now }
+{
+    places.iter().all(is_small)
+}
+
+fn is_small(place: &PatArg) -> bool
+    ensures { result ≡ is_small_place place.now }
+{
+    match place {
+        PatArg::Var(variable) => *variable < 16,
+        PatArg::Any | PatArg::Fixed(_) => true,
+    }
+}
+
+/// Whether the names among the arguments are names, to be asserted.
+fn are_named(args: &[ArgRef<'_>]) -> bool
+    ensures { result ≡ list_all (λ arg. is_argument (arg_of arg)) args.now }
+{
+    args.iter().all(is_named_arg)
+}
+
+#[tactic(auto, unfolding(crate::specs::Term::is_argument))]
+fn is_named_arg(arg: &ArgRef<'_>) -> bool
+    ensures { result ≡ is_argument (arg_of arg.now) }
+{
+    match arg {
+        ArgRef::Int(_) => true,
+        ArgRef::Word(bytes) => spelling::is_name(*bytes),
+    }
+}
+
+/// What `matches` answers, with its conditions asserted.
+fn matched<'a>(rt: &impl Abort, pattern: &Pattern, term: &GroundRef<'a>) -> Option<Binding<'a>> {
+    assert!(rt; pattern.args.len() <= 8);
+    assert!(rt; are_small(pattern.args.as_slice()));
+    assert!(rt; spelling::is_name(term.name));
+    assert!(rt; are_named(term.args.as_slice()));
+    matches(pattern, term)
+}
+
+fn name(rt: &impl Abort, bytes: &[u8]) -> Name {
+    Name::from_bytes(bytes).expect(rt, "a name")
+}
+
+#[test]
+fn a_repeated_variable_has_one_value(rt: HostRuntime) -> Result<(), Fail> {
+    let mut args = PatArgs::new(rt.alloc());
+    args.push(PatArg::Var(0))?;
+    args.push(PatArg::Var(0))?;
+    args.push(PatArg::Any)?;
+    args.push(PatArg::Fixed(Arg::Int(5)))?;
+    args.push(PatArg::Var(1))?;
+    let pattern = Pattern {
+        name: name(&rt, b"meet"),
+        args,
+    };
+    // meet(X, X, _, 5, Y)
+    let rows = [
+        ([7, 7, 8, 5, 9], Some((7, 9))),
+        ([8, 8, 8, 5, 8], Some((8, 8))),
+        ([7, 8, 8, 5, 9], None),
+        ([7, 7, 8, 6, 9], None),
+    ];
+    for (numbers, want) in rows {
+        let items = [
+            ArgRef::Int(numbers[0]),
+            ArgRef::Int(numbers[1]),
+            ArgRef::Int(numbers[2]),
+            ArgRef::Int(numbers[3]),
+            ArgRef::Int(numbers[4]),
+        ];
+        let whole = term(&rt, b"meet", &items);
+        let found = matched(&rt, &pattern, &whole);
+        assert!(rt; found.is_some() == want.is_some());
+        if let Some(found) = found {
+            if let Some((x, y)) = want {
+                assert!(rt; found.get(0) == Some(ArgRef::Int(x)));
+                assert!(rt; found.get(1) == Some(ArgRef::Int(y)));
+                assert!(rt; found.get(2).is_none());
+            }
+        }
+        assert!(rt; matched(&rt, &pattern, &term(&rt, b"met", &items)).is_none());
+        assert!(rt; matched(&rt, &pattern, &term(&rt, b"meet", &items[..4])).is_none());
+    }
+    Ok(())
+}
+
+#[test]
+#[tactic(auto, unfolding(crate::specs::Term::is_argument))]
+fn a_filled_pattern_has_each_value_at_its_place(rt: HostRuntime) -> Result<(), Fail> {
+    let mut binding = Binding::new();
+    binding.set(0, ArgRef::Int(4));
+    binding.set(1, ArgRef::Int(-6));
+    let mut args = PatArgs::new(rt.alloc());
+    args.push(PatArg::Var(1))?;
+    args.push(PatArg::Fixed(Arg::Word(name(&rt, b"lamp"))))?;
+    args.push(PatArg::Var(0))?;
+    let pattern = Pattern {
+        name: name(&rt, b"seen"),
+        args,
+    };
+    let filled = fill(rt.alloc(), &pattern, &binding)?;
+    assert!(rt; filled.name.as_bytes() == b"seen".as_slice());
+    assert_eq!(rt; filled.args.len(), 3);
+    assert!(rt; matches!(filled.args.get(0), Arg::Int(-6)));
+    assert!(rt; matches!(filled.args.get(1), Arg::Word(_)));
+    assert!(rt; matches!(filled.args.get(2), Arg::Int(4)));
+    Ok(())
+}
