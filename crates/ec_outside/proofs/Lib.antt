@@ -1,0 +1,5 @@
+pub mod Counts
+pub mod FailingCalls
+pub mod FoundFiles
+pub mod Streams
+pub mod Waiting

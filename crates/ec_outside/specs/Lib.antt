@@ -1,0 +1,9 @@
+pub mod BufferedState
+pub mod Calls
+pub mod Counts
+pub mod Entries
+pub mod Files
+pub mod FolderState
+pub mod SinkState
+pub mod SourceState
+pub mod Streams
