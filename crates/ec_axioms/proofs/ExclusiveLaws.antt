@@ -1,0 +1,81 @@
+-- A property is broken wherever one that is exclusive to it begins, in both directions.
+use Rattle.std.proofs.Common.{◌≡◌, ℤ, Bool, not, ◌&&◌, ◌||◌, List, filter, flat_map, IsTrue, ap₂, sym, subst, arith}
+use Rattle.std.specs.List.{list_any}
+use Rattle.std.specs.Ordering.{int_eq}
+use Rattle.std.proofs.lemmas.Bool.Decides.{same_from_decides, Decides-like}
+use Rattle.std.proofs.lemmas.Bool.{and_parts, and_from}
+use mathlib.Core.Path.{fun_ext}
+use Rattle.ec_terms.specs.declared.ground.Ground.{Ground}
+use Rattle.ec_terms.specs.declared.theory.Exclusive.{Exclusive}
+use Rattle.ec_terms.specs.declared.theory.Theory.{Theory}
+use Rattle.ec_terms.specs.Term.{term_eq}
+use Rattle.ec_terms.specs.Domain.{GroundEntry, are_exclusive, excludes, both_fit}
+use Rattle.ec_axioms.specs.Calculus.{PlainEvent, Effect, Currency, effects_of, effects_at, has_effect, has_break, is_active, is_initiated, timeline_by, timeline_of, is_current, is_initiating, is_clashing}
+use Rattle.ec_axioms.proofs.Members.{IsMember-filter, IsMember-from_filter, length_member, member_length}
+use Rattle.ec_axioms.proofs.TimelineLaws.{IsBrokenBy, initiated_at}
+use Rattle.ec_terms.proofs.OrderLemmas.{term_eq-Decides}
+
+-- ---- exclusive properties
+
+-- terms are the same in either order
+term_eq-comm : (p q : Ground) → term_eq p q ≡ term_eq q p
+term_eq-comm p q = same_from_decides (term_eq p q) (term_eq q p) (term_eq-Decides p q) (Decides-like (term_eq q p) sym sym (term_eq-Decides q p))
+
+-- one or the other, in either order
+or_comm : (a b : Bool) → (a || b) ≡ (b || a)
+or_comm a b = grind arith
+
+-- a declaration speaks of two properties in either order
+excludes-comm : (p q : Ground) (declaration : Exclusive) → excludes p q declaration ≡ excludes q p declaration
+unfolding excludes
+excludes-comm p q declaration = or_comm (both_fit declaration.left declaration.right p q) (both_fit declaration.left declaration.right q p)
+
+-- two properties are exclusive in either order
+pub are_exclusive-comm : (theory : Theory) (p q : Ground) → are_exclusive theory p q ≡ are_exclusive theory q p
+unfolding are_exclusive
+are_exclusive-comm theory p q =
+    ap₂ (λ same test. not same && list_any test theory.exclusives) (term_eq-comm p q) (fun_ext (excludes-comm p q))
+
+-- ---- clashes
+
+-- an entry that initiates q has it for its head
+head_of_initiating : (q : Ground) (entry : GroundEntry) → IsTrue (is_initiating q entry) → entry.head ≡ q
+unfolding is_initiating
+head_of_initiating q entry initiating = (term_eq-Decides entry.head q).0 (and_parts _ (term_eq entry.head q) initiating).1
+
+-- and clashes with each property that is exclusive to q
+clashing_from_initiating : (theory : Theory) (p q : Ground) → IsTrue (are_exclusive theory p q) → (entry : GroundEntry)
+    → IsTrue (is_initiating q entry) → IsTrue (is_clashing theory p entry)
+unfolding is_clashing
+clashing_from_initiating theory p q exclusive entry initiating =
+    let head = sym (head_of_initiating q entry initiating) in
+    and_from (is_initiating entry.head entry) (are_exclusive theory p entry.head)
+    (subst (λ r. IsTrue (is_initiating r entry)) head initiating) (subst (λ r. IsTrue (are_exclusive theory p r)) head exclusive)
+
+-- an effect of one kind is an effect of each wider kind
+has_effect-wider : (theory : Theory) (events : List PlainEvent) (current : Currency) (narrow wide : GroundEntry → Bool) (t : ℤ)
+    → ((entry : GroundEntry) → IsTrue (narrow entry) → IsTrue (wide entry)) → IsTrue (has_effect theory events current narrow t)
+    → IsTrue (has_effect theory events current wide t)
+unfolding has_effect effects_at
+has_effect-wider theory events current narrow wide t wider some =
+    let all = flat_map (effects_of theory) (filter (λ e. int_eq e.rank t) events) in
+    let found = member_length (effects_at theory events current narrow t) some in
+    let active = IsMember-from_filter (is_active current) (filter (λ effect. narrow effect.entry) all) found.0 found.1 in
+    let kept = IsMember-from_filter (λ (effect : Effect). narrow effect.entry) all found.0 active.0 in
+    length_member (effects_at theory events current wide t) found.0
+    (IsMember-filter (is_active current) (filter (λ effect. wide effect.entry) all) found.0
+    (IsMember-filter (λ (effect : Effect). wide effect.entry) all found.0 kept.0 (wider found.0.entry kept.1)) active.1)
+
+-- a property breaks where one that is exclusive to it is initiated
+has_break-exclusive : (theory : Theory) (events : List PlainEvent) (current : Currency) (p q : Ground) (t : ℤ) → IsTrue (are_exclusive theory p q)
+    → IsTrue (is_initiated theory events current q t) → IsTrue (has_break theory events current p t)
+unfolding has_break
+has_break-exclusive theory events current p q t exclusive initiated =
+    let clash = has_effect-wider theory events current (is_initiating q) (is_clashing theory p) t (clashing_from_initiating theory p q exclusive) initiated in grind arith
+
+-- So the timeline of a property is broken by that of each one that is exclusive to it.
+pub IsBrokenBy-timeline_of : (theory : Theory) (events : List PlainEvent) (p q : Ground) → IsTrue (are_exclusive theory p q)
+    → IsBrokenBy (timeline_of theory events p) (timeline_of theory events q)
+unfolding timeline_of timeline_by
+IsBrokenBy-timeline_of theory events p q exclusive s begin =
+    (begin.0, has_break-exclusive theory events (is_current theory events) p q s exclusive (initiated_at (timeline_of theory events q) s begin))

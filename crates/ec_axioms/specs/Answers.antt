@@ -1,0 +1,64 @@
+-- The answers to lines, and their texts.
+use Rattle.std.specs.Prelude.{ℕ, List, [], ◌∷◌, ◌++◌, Option, Some, None, codes, decimal}
+use Rattle.ec_axioms.specs.Changes.{UpdateRefusal, duplicate, unknown, full_events, full_mentions, full_links, Counts}
+
+-- an answer that is one of a few fixed forms
+pub data PlainAnswer : Type 0 where
+  answer_ok : PlainAnswer
+  answer_yes : PlainAnswer
+  answer_no : PlainAnswer
+  answer_bye : PlainAnswer
+  answer_drafted : ℕ → PlainAnswer
+  answer_last : Counts → PlainAnswer
+  refused_long_line : PlainAnswer
+  refused_syntax : PlainAnswer
+  refused_in_draft : PlainAnswer
+  refused_no_draft : PlainAnswer
+  refused_full_draft : PlainAnswer
+  refused_order : PlainAnswer
+  refused_memory : PlainAnswer
+  refused_unbuilt : PlainAnswer
+  refused_update : UpdateRefusal → PlainAnswer
+  refused_commit : ℕ → UpdateRefusal → PlainAnswer
+
+-- what an update is refused for
+unfoldable pub refusal_text : UpdateRefusal → List ℕ
+refusal_text (duplicate id) = codes "duplicate " ++ id
+refusal_text (unknown id) = codes "unknown " ++ id
+refusal_text full_events = codes "full-events 131072"
+refusal_text full_mentions = codes "full-mentions 1048576"
+refusal_text full_links = codes "full-links 16777216"
+
+-- the four counts of a change
+unfoldable pub counts_text : Counts → List ℕ
+counts_text counts =
+    codes "seen " ++ decimal counts.seen ++ codes " on " ++ decimal counts.on ++ codes " off " ++ decimal counts.off ++ codes " props "
+    ++ decimal counts.props
+
+-- the text of an answer, without prefix and line end
+unfoldable pub answer_text : PlainAnswer → List ℕ
+answer_text answer_ok = codes "ok"
+answer_text answer_yes = codes "yes"
+answer_text answer_no = codes "no"
+answer_text answer_bye = codes "bye"
+answer_text (answer_drafted k) = codes "drafted " ++ decimal k
+answer_text (answer_last counts) = codes "last " ++ counts_text counts
+answer_text refused_long_line = codes "refused long-line"
+answer_text refused_syntax = codes "refused syntax"
+answer_text refused_in_draft = codes "refused in-draft"
+answer_text refused_no_draft = codes "refused no-draft"
+answer_text refused_full_draft = codes "refused full-draft 1024"
+answer_text refused_order = codes "refused order"
+answer_text refused_memory = codes "refused memory"
+answer_text refused_unbuilt = codes "refused unbuilt"
+answer_text (refused_update refusal) = codes "refused " ++ refusal_text refusal
+answer_text (refused_commit k refusal) = codes "refused commit " ++ decimal k ++ codes " " ++ refusal_text refusal
+
+-- the prefix of a reply: `@`, the session's number and a space, where the line had a prefix
+unfoldable pub front_text : Option ℕ → List ℕ
+front_text None = []
+front_text (Some session) = codes "@" ++ decimal session ++ codes " "
+
+-- the whole reply line: prefix, answer and line end
+unfoldable pub reply_text : Option ℕ → PlainAnswer → List ℕ
+reply_text session answer = front_text session ++ answer_text answer ++ 10 ∷ []

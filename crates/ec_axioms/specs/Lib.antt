@@ -1,0 +1,13 @@
+pub mod Timeline
+pub mod Calculus
+pub mod Marks
+pub mod Links
+pub mod Changes
+pub mod Examples
+pub mod Laws
+pub mod Lines
+pub mod Commands
+pub mod Answers
+pub mod Replies
+pub mod Events
+pub mod Plain

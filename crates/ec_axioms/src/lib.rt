@@ -1,0 +1,30 @@
+//! The event calculus: its definitions and their laws, and the types of events, updates and steps.
+#![tactic(auto)]
+
+mod currency;
+mod current;
+mod domain;
+mod event;
+mod history;
+mod laws_currency;
+mod laws_intervals;
+mod plain;
+#[cfg(test)]
+mod plain_tests;
+mod steps;
+#[cfg(test)]
+mod tests;
+pub mod worked_rows;
+
+pub use current::Current;
+pub use event::{Event, EventList, Seen, Update};
+pub use laws_currency::{
+    currency_is_the_solution_law, holds_where_current_law, past_is_closed_law,
+};
+pub use laws_intervals::{
+    currency_is_of_the_last_mark_law, exclusives_share_only_a_beginning_law,
+    holding_is_the_reason_yes_law, intervals_are_disjoint_law, spans_are_the_intervals_law,
+    through_is_each_instant_law,
+};
+pub use plain::holds_plain;
+pub use steps::Steps;
