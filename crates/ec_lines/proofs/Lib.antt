@@ -1,0 +1,4 @@
+pub mod Cutting
+pub mod FeedLemmas
+pub mod Texts
+pub mod WordLemmas

@@ -1,0 +1,20 @@
+-- How the texts of replies are put together.
+use Rattle.std.proofs.Common.{◌≡◌, ℕ, List, ◌++◌, append_assoc, append-nil, ap, ◌∙◌, refl}
+use Rattle.std.specs.Prelude.{codes, decimal}
+use Rattle.ec_axioms.specs.Changes.{UpdateRefusal}
+use Rattle.ec_axioms.specs.Answers.{refused_commit, answer_text, refusal_text}
+
+-- parts that are added one after another are added joined
+pub ruleset texts = (append_assoc, append-nil)
+
+-- four parts that are added one after another
+pub four_parts : (start a b c d : List ℕ) {first second third all : List ℕ}
+    → first ≡ start ++ a → second ≡ first ++ b → third ≡ second ++ c → all ≡ third ++ d → all ≡ start ++ (((a ++ b) ++ c) ++ d)
+four_parts start a b c d one two three four =
+    four ∙ ap (λ all. all ++ d) (three ∙ ap (λ all. all ++ c) (two ∙ ap (λ all. all ++ b) one)) ∙ simp append_assoc
+
+-- the text of a refused draft
+pub answer_text-commit : (place : ℕ) (refusal : UpdateRefusal)
+    → answer_text (refused_commit place refusal) ≡ ((codes "refused commit " ++ decimal place) ++ codes " ") ++ refusal_text refusal
+unfolding answer_text
+answer_text-commit place refusal = refl

@@ -1,0 +1,10 @@
+-- Which lines a `Line` shows.
+use Rattle.std.specs.Prelude.{◌≡◌, ℕ, List, true, false}
+use Rattle.ec_axioms.specs.Lines.{is_long}
+use Rattle.ec_lines.specs.declared.line.Line.{Line}
+use Rattle.ec_lines.specs.declared.line.Line.TheVariants.{Text, Long}
+
+-- bytes show the line that they are, which is not long; `Long` shows every line that is long
+abbrev pub ShowsLine : Line → List ℕ → Type 0
+ShowsLine (Text bytes) line = (bytes.now ≡ line) × (is_long line ≡ false)
+ShowsLine Long line = is_long line ≡ true

@@ -1,0 +1,83 @@
+ghost use Rattle.std.specs.Prelude.{◌≤◌, OnOk, OnErr};
+ghost use Rattle.ec_axioms.specs.Answers.{reply_text, front_text};
+ghost use Rattle.ec_outside.specs.Counts.{Rose};
+ghost use Rattle.ec_outside.specs.Streams.{Appended, AppendedPart};
+ghost use Rattle.ec_lines.specs.ShownAnswer.{plain_answer};
+
+use crate::reply_text::ReplyText;
+use ec_axioms::Seen;
+use ec_outside::{Failed, Sink, write_all};
+use ec_terms::Name;
+
+/// Why an update was refused.
+#[derive(Drop)]
+pub enum Cut {
+    /// An event of this identity is present already.
+    Duplicate(Name),
+    /// No event of this identity is present.
+    Unknown(Name),
+    /// There are as many events as there may be.
+    FullEvents,
+    /// There would be more mentions of properties than there may be.
+    FullMentions,
+    /// There would be more links between exclusive properties than there may be.
+    FullLinks,
+}
+
+/// An answer to a line that is one of a few fixed forms.
+#[derive(Drop)]
+pub enum Answer {
+    Ok,
+    Yes,
+    No,
+    Bye,
+    /// The line was added to an open draft, which has this many lines now.
+    Drafted(u32),
+    /// What the last accepted update changed.
+    Last(Seen),
+    LongLine,
+    Syntax,
+    InDraft,
+    NoDraft,
+    FullDraft,
+    Order,
+    Memory,
+    /// The command is well formed, and is not served yet.
+    Unbuilt,
+    /// An update was refused.
+    Update(Cut),
+    /// The update at this place of a draft, from 1, was refused.
+    Commit(u32, Cut),
+}
+
+/// Writes a whole reply line: the prefix if the line had one, the answer's text and the line end.
+/// `Failed` comes only where a call of the sink failed, and then some first part of the line was
+/// written.
+#[tactic(auto, unfolding(ec_axioms::specs::Answers::reply_text), using(crate::proofs::Texts::texts))]
+pub fn write_answer<K: Sink>(
+    session: Option<u8>,
+    answer: &Answer,
+    out: &mut K,
+) -> Result<(), Failed>
+    ensures written { OnOk result (Appended K.stands out.old out.new (reply_text session (plain_answer answer.now))) }
+    ensures part { OnErr result (AppendedPart K.stands out.old out.new (reply_text session (plain_answer answer.now))) }
+    ensures failed { OnErr result (Rose (K.faults out.old) (K.faults out.new)) }
+    ensures counted { K.faults out.old ≤ K.faults out.new }
+{
+    let mut text = ReplyText::front(session);
+    text.push_answer(answer);
+    text.push(b"\n");
+    write_all(out, text.as_bytes())
+}
+
+/// Writes the prefix of a reply: `@`, the session's number without leading zeros and a space, and
+/// nothing where the line had no prefix. `Failed` is as for `write_answer`.
+#[tactic(auto, unfolding(ec_axioms::specs::Answers::reply_text), using(crate::proofs::Texts::texts))]
+pub fn write_front<K: Sink>(session: Option<u8>, out: &mut K) -> Result<(), Failed>
+    ensures written { OnOk result (Appended K.stands out.old out.new (front_text session)) }
+    ensures part { OnErr result (AppendedPart K.stands out.old out.new (front_text session)) }
+    ensures failed { OnErr result (Rose (K.faults out.old) (K.faults out.new)) }
+    ensures counted { K.faults out.old ≤ K.faults out.new }
+{
+    write_all(out, ReplyText::front(session).as_bytes())
+}

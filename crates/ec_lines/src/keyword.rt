@@ -1,0 +1,70 @@
+ghost use Rattle.std.specs.Prelude.{◌≡◌, option_map, bytes_eq};
+ghost use Rattle.ec_axioms.specs.Commands.{keyword_of};
+ghost use Rattle.ec_lines.specs.ShownKeyword.{plain_keyword};
+
+/// The first word of a command.
+#[derive(Clone, Copy)]
+pub enum Keyword {
+    Assert,
+    Retract,
+    Begin,
+    Commit,
+    Abort,
+    Holds,
+    Through,
+    Intervals,
+    Broken,
+    At,
+    Clashes,
+    Events,
+    Why,
+    Last,
+    Quit,
+}
+
+/// Whether the word has this spelling.
+fn is(word: &[u8], spelling: &[u8]) -> bool
+    ensures { result ≡ bytes_eq spelling.now word.now }
+{
+    spelling == word
+}
+
+/// The keyword that a word spells. `None` where it spells none.
+#[tactic(auto, unfolding(ec_axioms::specs::Commands::keyword_of, ec_axioms::specs::Commands::keywords))]
+pub fn read_keyword(word: &[u8]) -> Option<Keyword>
+    ensures { option_map plain_keyword result ≡ keyword_of word.now }
+{
+    if is(word, b"assert") {
+        Some(Keyword::Assert)
+    } else if is(word, b"retract") {
+        Some(Keyword::Retract)
+    } else if is(word, b"begin") {
+        Some(Keyword::Begin)
+    } else if is(word, b"commit") {
+        Some(Keyword::Commit)
+    } else if is(word, b"abort") {
+        Some(Keyword::Abort)
+    } else if is(word, b"holds") {
+        Some(Keyword::Holds)
+    } else if is(word, b"through") {
+        Some(Keyword::Through)
+    } else if is(word, b"intervals") {
+        Some(Keyword::Intervals)
+    } else if is(word, b"broken") {
+        Some(Keyword::Broken)
+    } else if is(word, b"at") {
+        Some(Keyword::At)
+    } else if is(word, b"clashes") {
+        Some(Keyword::Clashes)
+    } else if is(word, b"events") {
+        Some(Keyword::Events)
+    } else if is(word, b"why") {
+        Some(Keyword::Why)
+    } else if is(word, b"last") {
+        Some(Keyword::Last)
+    } else if is(word, b"quit") {
+        Some(Keyword::Quit)
+    } else {
+        None
+    }
+}

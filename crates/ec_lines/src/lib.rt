@@ -1,0 +1,20 @@
+//! Lines: how bytes are cut into them, what a line asks, and how an answer is written.
+#![tactic(auto)]
+
+mod answer;
+mod arguments;
+mod command;
+mod feed;
+mod keyword;
+mod line;
+mod reading;
+mod reply_text;
+#[cfg(test)]
+mod tests;
+mod words;
+
+pub use answer::{Answer, Cut, write_answer, write_front};
+pub use command::{Command, Parsed};
+pub use feed::Feed;
+pub use line::{LONGEST_LINE, Line};
+pub use reading::read_command;

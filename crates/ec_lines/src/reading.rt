@@ -1,0 +1,112 @@
+//! Reading a line.
+ghost use Rattle.std.specs.Prelude.{◌≡◌, ◌<◌, ◌∷◌, IfSome};
+ghost use Rattle.ec_axioms.specs.Commands.{parsed_of, prefixed_line, command_of_words, session_of_digits, digit_value_of};
+ghost use Rattle.ec_lines.specs.ShownCommand.{plain_command, plain_parsed, AreNamed};
+
+use crate::arguments::read_arguments;
+use crate::command::{Command, Parsed};
+use crate::keyword::read_keyword;
+use crate::words::Words;
+use ec_moment::Moment;
+
+/// How many sessions there are. They are numbered from 0.
+const SESSIONS: u8 = 64;
+
+/// The value of a digit.
+#[tactic(auto, unfolding(ec_axioms::specs::Commands::digit_value_of))]
+fn read_digit(byte: u8) -> Option<u8>
+    ensures value { result ≡ digit_value_of byte }
+    ensures small { IfSome result (λ digit. digit < 10) }
+{
+    if byte.is_ascii_digit() {
+        Some(byte - b'0')
+    } else {
+        None
+    }
+}
+
+/// The session that the digits behind an `@` name.
+#[tactic(auto, unfolding(ec_axioms::specs::Commands::session_of_digits, ec_axioms::specs::Commands::session_within))]
+fn read_session(digits: &[u8]) -> Option<u8>
+    ensures value { result ≡ session_of_digits digits.now }
+    ensures within { IfSome result (λ session. session < 64) }
+{
+    match digits {
+        [digit] => read_digit(*digit),
+        [tens, ones] => {
+            let session = 10 * read_digit(*tens)? + read_digit(*ones)?;
+            if session < SESSIONS {
+                Some(session)
+            } else {
+                None
+            }
+        }
+        _ => None,
+    }
+}
+
+/// Reads the command that begins with `word`. Its other words are still to come.
+#[tactic(auto, unfolding(ec_axioms::specs::Commands::command_of_words))]
+fn read_from<'a, T: Moment>(word: &[u8], words: &mut Words<'a>) -> Command<'a, T>
+    ensures command { plain_command T.rank result ≡ command_of_words T.spelt (word.now ∷ words.old) }
+    ensures names { AreNamed (plain_command T.rank result) }
+{
+    match read_keyword(word) {
+        Some(keyword) => read_arguments(keyword, words).unwrap_or(Command::Bad),
+        None => Command::Bad,
+    }
+}
+
+/// Reads the command whose words are still to come.
+#[tactic(auto, unfolding(ec_axioms::specs::Commands::command_of_words))]
+fn read_words<'a, T: Moment>(words: &mut Words<'a>) -> Command<'a, T>
+    ensures command { plain_command T.rank result ≡ command_of_words T.spelt words.old }
+    ensures names { AreNamed (plain_command T.rank result) }
+{
+    match words.next() {
+        Some(word) => read_from(word, words),
+        None => Command::Bad,
+    }
+}
+
+/// Reads a line whose first word is `@` and `digits`. Its other words are still to come.
+#[tactic(auto, unfolding(ec_axioms::specs::Commands::prefixed_line))]
+fn read_prefixed<'a, T: Moment>(digits: &[u8], words: &mut Words<'a>) -> Parsed<'a, T>
+    ensures line { plain_parsed T.rank result ≡ prefixed_line T.spelt (session_of_digits digits.now) words.old }
+    ensures names { AreNamed (plain_command T.rank result.command) }
+    ensures session { IfSome result.session (λ session. session < 64) }
+{
+    match read_session(digits) {
+        Some(session) => Parsed {
+            session: Some(session),
+            command: read_words(words),
+        },
+        None => Parsed {
+            session: None,
+            command: Command::Bad,
+        },
+    }
+}
+
+/// Reads what a line says that is not long: its session, if it has a prefix, and its command. A line
+/// of no form is `Bad`; its session is told where its prefix is well formed. Times are read as
+/// moments of `T`. It takes no memory.
+#[tactic(auto, unfolding(ec_axioms::specs::Commands::parsed_of, ec_axioms::specs::Commands::parsed_words))]
+pub fn read_command<'a, T: Moment>(line: &'a [u8]) -> Parsed<'a, T>
+    ensures line { plain_parsed T.rank result ≡ parsed_of T.spelt line.now }
+    ensures names { AreNamed (plain_command T.rank result.command) }
+    ensures session { IfSome result.session (λ session. session < 64) }
+{
+    let mut words = Words::new(line);
+    match words.next() {
+        None | Some([b'%', ..]) => Parsed {
+            session: None,
+            command: Command::Silent,
+        },
+        Some([b'@', digits @ ..]) => read_prefixed(digits, &mut words),
+        Some(word) => Parsed {
+            session: None,
+            command: read_from(word, &mut words),
+        },
+    }
+}
