@@ -1,0 +1,6 @@
+use Rattle.std.proofs.Common.{◌≡◌, drop}
+use Rattle.ec_check.specs.Faults.{each_fault, initial_fault}
+use Rattle.ec_check.proofs.clauses.initials_fault.Given as goal
+
+abbrev pub invariant-loop-place : goal.invariant-loop-place
+invariant-loop-place l = each_fault initial_fault l.place (drop l.place l.declarations) ≡ each_fault initial_fault 0 l.declarations

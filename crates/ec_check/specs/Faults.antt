@@ -1,0 +1,143 @@
+-- What is wrong with a clause of a theory: its first fault in the order of the table.
+use Rattle.std.specs.Prelude.{ℕ, ◌+◌, suc, zero, Bool, true, false, ◌&&◌, ◌==◌, not, nat_lt, nat_le, if◌then◌else◌, List, [], ◌∷◌, ◌++◌, length, count_by, pos, int_le, Option, Some, None, option_map, bytes_eq}
+use Rattle.std.specs.List.{list_all}
+use Rattle.ec_terms.specs.declared.pattern.PatArg.{PatArg}
+use Rattle.ec_terms.specs.declared.pattern.PatArg.TheVariants.{Var, Any, Fixed}
+use Rattle.ec_terms.specs.declared.pattern.Pattern.{Pattern}
+use Rattle.ec_terms.specs.declared.theory.Rule.{Rule}
+use Rattle.ec_terms.specs.declared.theory.Exclusive.{Exclusive}
+use Rattle.ec_terms.specs.declared.theory.Strong.{Strong}
+use Rattle.ec_terms.specs.declared.theory.Initial.{Initial}
+use Rattle.ec_terms.specs.declared.theory.Theory.{Theory}
+use Rattle.ec_terms.specs.Binding.{stands_in, is_small_place}
+use Rattle.ec_check.specs.declared.fault.CheckFault.{CheckFault}
+use Rattle.ec_check.specs.declared.fault.CheckFault.TheVariants.{Arity, TooMany, AnyInHead, Unbound}
+use Rattle.ec_check.specs.declared.fault.Many.TheVariants.{Rules, EventRules, Tests, Literals, Variables, Exclusives, Strongs, Initials}
+
+-- ---- parts of a rule
+
+-- every place of the head, the tests and the literals passes
+unfoldable pub each_open : (PatArg → Bool) → Rule → Bool
+each_open test r =
+    list_all test r.head.args && list_all (λ t. test t.left && test t.right) r.tests && list_all (λ l. list_all test l.prop.args) r.literals
+
+-- at most 8 arguments
+abbrev pub is_narrow : Pattern → Bool
+is_narrow p = nat_le (length p.args) 8
+
+-- every pattern of the rule has at most 8 arguments
+unfoldable pub is_narrow_rule : Rule → Bool
+is_narrow_rule r = is_narrow r.event && is_narrow r.head && list_all (λ l. is_narrow l.prop) r.literals
+
+-- the events have the same name and number of arguments
+unfoldable pub same_event : Rule → Rule → Bool
+same_event r s = bytes_eq r.event.name s.event.name && length r.event.args == length s.event.args
+
+-- the rule has at most 16 different variables: they are numbered from 0 on, so each has a number below 16
+unfoldable pub has_few_variables : Rule → Bool
+has_few_variables r = list_all is_small_place r.event.args && each_open is_small_place r
+
+-- no `_`
+abbrev pub is_no_any : PatArg → Bool
+is_no_any (Var v) = true
+is_no_any Any = false
+is_no_any (Fixed a) = true
+
+-- not the variable v
+abbrev pub is_other : ℕ → PatArg → Bool
+is_other v (Var w) = not (v == w)
+is_other v Any = true
+is_other v (Fixed a) = true
+
+-- the variable stands in the head, a test or a literal, and not in the event
+unfoldable pub is_unbound : Rule → ℕ → Bool
+is_unbound r v = not (each_open (is_other v) r) && not (stands_in v r.event)
+
+-- the first of n numbers from v on that passes
+unfoldable pub first_from : (ℕ → Bool) → ℕ → ℕ → Option ℕ
+first_from test zero v = None
+first_from test (suc n) v = if test v then Some v else first_from test n (v + 1)
+
+-- the least unbound variable, where the variables are below 16
+unfoldable pub least_unbound : Rule → Option ℕ
+least_unbound r = first_from (is_unbound r) 16 0
+
+-- ---- the table
+
+-- the first fault of a rule that stands behind other rules
+unfoldable pub rule_fault : List Rule → Rule → Option CheckFault
+rule_fault earlier r =
+    if nat_le 1024 (length earlier) then Some (TooMany Rules r.clause)
+    else (if not (is_narrow_rule r) then Some (Arity r.clause)
+    else (if nat_le 64 (count_by (same_event r) earlier) then Some (TooMany EventRules r.clause)
+    else (if nat_lt 16 (length r.tests) then Some (TooMany Tests r.clause)
+    else (if nat_lt 16 (length r.literals) then Some (TooMany Literals r.clause)
+    else (if not (has_few_variables r) then Some (TooMany Variables r.clause)
+    else (if not (each_open is_no_any r) then Some (AnyInHead r.clause)
+    else option_map (λ v. Unbound r.clause v) (least_unbound r)))))))
+
+-- the first fault of an exclusive declaration behind so many others
+unfoldable pub exclusive_fault : ℕ → Exclusive → Option CheckFault
+exclusive_fault earlier e =
+    if nat_le 256 earlier then Some (TooMany Exclusives e.clause)
+    else (if not (is_narrow e.left && is_narrow e.right) then Some (Arity e.clause)
+    else (if not (list_all is_small_place e.left.args && list_all is_small_place e.right.args) then Some (TooMany Variables e.clause)
+    else None))
+
+-- the first fault of a strong declaration behind so many others
+unfoldable pub strong_fault : ℕ → Strong → Option CheckFault
+strong_fault earlier s =
+    if nat_le 1024 earlier then Some (TooMany Strongs s.clause)
+    else (if not (int_le (pos 0) s.arity && int_le s.arity (pos 8)) then Some (Arity s.clause)
+    else None)
+
+-- the least variable of a pattern, where its variables are below 16
+unfoldable pub least_variable : Pattern → Option ℕ
+least_variable p = first_from (λ v. stands_in v p) 16 0
+
+-- the first fault of an initial property behind so many others
+unfoldable pub initial_fault : ℕ → Initial → Option CheckFault
+initial_fault earlier i =
+    if nat_le 1024 earlier then Some (TooMany Initials i.clause)
+    else (if not (is_narrow i.prop) then Some (Arity i.clause)
+    else (if not (list_all is_small_place i.prop.args) then Some (TooMany Variables i.clause)
+    else (if not (list_all is_no_any i.prop.args) then Some (AnyInHead i.clause)
+    else option_map (λ v. Unbound i.clause v) (least_variable i.prop))))
+
+-- ---- a theory
+
+-- the first of two, if there is one
+abbrev pub first_of : Option CheckFault → Option CheckFault → Option CheckFault
+first_of (Some fault) later = Some fault
+first_of None later = later
+
+-- the first fault of rules that stand behind other rules
+unfoldable pub rules_fault : List Rule → List Rule → Option CheckFault
+rules_fault earlier [] = None
+rules_fault earlier (r ∷ rules) = first_of (rule_fault earlier r) (rules_fault (earlier ++ r ∷ []) rules)
+
+-- the first fault of declarations that stand behind so many others
+unfoldable pub each_fault : {A : Type 0} → (ℕ → A → Option CheckFault) → ℕ → List A → Option CheckFault
+each_fault fault earlier [] = None
+each_fault fault earlier (a ∷ list) = first_of (fault earlier a) (each_fault fault (earlier + 1) list)
+
+-- the number of the clause that a fault is in
+unfoldable pub clause_of : CheckFault → ℕ
+clause_of (Arity clause) = clause
+clause_of (TooMany many clause) = clause
+clause_of (AnyInHead clause) = clause
+clause_of (Unbound clause v) = clause
+
+-- the one in the earlier clause
+unfoldable pub earlier_fault : Option CheckFault → Option CheckFault → Option CheckFault
+earlier_fault None second = second
+earlier_fault (Some a) None = Some a
+earlier_fault (Some a) (Some b) = if nat_lt (clause_of b) (clause_of a) then Some b else Some a
+
+-- The first clause with a fault, and its first fault. The clauses of each kind stand in the order of the text, so the
+-- first fault of a theory is the earliest of the first faults of its kinds.
+unfoldable pub first_wrong : Theory → Option CheckFault
+first_wrong theory =
+    earlier_fault (rules_fault [] theory.rules)
+    (earlier_fault (each_fault exclusive_fault 0 theory.exclusives)
+    (earlier_fault (each_fault strong_fault 0 theory.strongs) (each_fault initial_fault 0 theory.initials)))

@@ -1,0 +1,85 @@
+//! Theories that are well formed.
+ghost use Rattle.std.specs.Prelude.{◌≡◌, Some, None, IfOk, IfErr};
+ghost use Rattle.ec_check.specs.Faults.{first_wrong, earlier_fault};
+
+use crate::clauses::{exclusives_fault, initials_fault, strongs_fault};
+use crate::fault::CheckFault;
+use crate::rules::rules_fault;
+use ec_terms::Theory;
+use std::marker::Model;
+
+/// A theory that is well formed and within all limits. Only `check` makes one.
+#[derive(Drop)]
+pub struct Checked {
+    theory: Theory,
+}
+
+impl Model for Checked {
+    ghost use Rattle.ec_terms.specs.declared.theory.Theory.{Theory};
+    ghost use Rattle.ec_check.specs.WellFormed.{IsWellFormed};
+
+    ghost Value = { Theory };
+
+    ghost view = { λ c. c.theory };
+
+    ghost invariant = { λ c. IsWellFormed c.theory };
+}
+
+/// The fault in the earlier clause.
+#[tactic(auto, unfolding(crate::specs::Faults::earlier_fault))]
+fn earlier_fault(first: Option<CheckFault>, second: Option<CheckFault>) -> Option<CheckFault>
+    ensures { result ≡ earlier_fault first second }
+{
+    match first {
+        None => second,
+        Some(a) => match second {
+            None => Some(a),
+            Some(b) => {
+                if b.clause() < a.clause() {
+                    Some(b)
+                } else {
+                    Some(a)
+                }
+            }
+        },
+    }
+}
+
+/// The first clause of a theory with a fault, and its first fault.
+#[tactic(auto, unfolding(crate::specs::Faults::first_wrong))]
+fn first_wrong(theory: &Theory) -> Option<CheckFault>
+    ensures { result ≡ first_wrong theory.now }
+{
+    let rules = rules_fault(theory.rules.as_slice());
+    let exclusives = exclusives_fault(theory.exclusives.as_slice());
+    let strongs = strongs_fault(theory.strongs.as_slice());
+    let initials = initials_fault(theory.initials.as_slice());
+    earlier_fault(
+        rules,
+        earlier_fault(exclusives, earlier_fault(strongs, initials)),
+    )
+}
+
+/// Checks that a theory is well formed. A fault comes exactly where the theory has one: the first
+/// clause with a fault is told, with its first fault. It takes no memory.
+pub fn check(theory: Theory) -> Result<Checked, CheckFault>
+    ensures ok { IfOk result (λ checked. (checked ≡ theory) × (first_wrong theory ≡ None)) }
+    ensures err { IfErr result (λ fault. first_wrong theory ≡ Some fault) }
+{
+    match first_wrong(&theory) {
+        Some(fault) => Err(fault),
+        None => Ok(Checked { theory }),
+    }
+}
+
+impl Checked {
+    ghost use Rattle.ec_check.specs.WellFormed.{IsWellFormed};
+
+    /// The theory, well formed.
+    pub fn theory(&self) -> &Theory
+        ensures theory { result.now ≡ self.now }
+        ensures well_formed { IsWellFormed self.now }
+    {
+        &self.theory
+    }
+}

@@ -1,0 +1,13 @@
+pub mod Steps
+pub mod Walking
+pub mod Names
+pub mod Loops
+pub mod Conditions
+pub mod Lengths
+pub mod ConditionLoop
+pub mod Clauses
+pub mod Theories
+pub mod Finishing
+pub mod Unique
+pub mod WayBack
+pub mod Readings

@@ -1,0 +1,10 @@
+use Rattle.std.proofs.Common.{sym, ap, ◌∙◌}
+use Rattle.ec_theory.specs.Sign.{with_sign, with_variable}
+use Rattle.ec_theory.proofs.Names.{texts_of, put_in}
+use Rattle.ec_theory.proofs.variables.Variables.add.Goals as goal
+
+pub returns-clause-added : goal.returns-clause-added
+unfolding with_sign
+returns-clause-added c =
+    ap texts_of c.in_ok-insert.ensures.keys ∙ put_in c.self.inside.names.keys c.in-Some.name
+    ∙ ap (λ names. with_variable names c.in-Some.name.now) c.self.view_is ∙ sym (ap (with_sign c.args.self.now) c.in-Some.ensures.some)

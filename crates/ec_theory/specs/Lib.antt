@@ -1,0 +1,7 @@
+pub mod Sign
+pub mod Grammar
+pub mod Walk
+pub mod Reading
+pub mod Reader
+pub mod Body
+pub mod Accepted

@@ -1,0 +1,139 @@
+//! A place in a list of tokens.
+ghost use Rattle.std.specs.Prelude.{map, ◌≤◌, length, IsTrue};
+ghost use Rattle.std.specs.List.{list_all};
+ghost use Rattle.ec_tokens.specs.Lexeme.{lexeme_of, is_spelt};
+
+use crate::fault::ReadFault;
+use crate::sign::{Keyword, Sign, Symbol, keyword_of, sign_of};
+use ec_terms::TestOp;
+use ec_tokens::{Place, Token, TokenList};
+
+/// The tokens that are left, and the place behind the last.
+#[derive(Clone, Copy, Debug)]
+pub struct Cursor<'t, 'a> {
+    pub rest: &'t [Token<'a>],
+    pub end: Place,
+    ghost spelt: { IsTrue (list_all is_spelt (map lexeme_of rest.now)) },
+    ghost few: { length rest.now ≤ 1048576 },
+}
+
+impl<'t, 'a> Cursor<'t, 'a> {
+    ghost use Rattle.std.specs.Prelude.{◌≡◌, ◌↔◌, Bool, false, [], IfSome, IfNone, IfOk, IfErr, IsTrue};
+    ghost use Rattle.ec_terms.specs.Spelling.{is_name};
+    ghost use Rattle.ec_theory.specs.Sign.{Word, Number, Given, Compare, is_word, is_number, is_compare, is_given, is_keyword};
+    ghost use Rattle.ec_theory.specs.Reader.{shown, left_of, next_place, next_passes, Refuses, Steps, HasKeyword, IsNamed};
+    ghost use Rattle.ec_theory.specs.declared.sign.Keyword.{Keyword};
+    ghost use Rattle.ec_theory.specs.declared.fault.ReadFault.TheVariants.{Syntax};
+
+    /// All tokens of a list.
+    pub fn new(tokens: &'t TokenList<'a>) -> Cursor<'t, 'a>
+        ensures { left_of result ≡ tokens.now }
+    {
+        Cursor {
+            rest: tokens.as_slice(),
+            end: tokens.end(),
+        }
+    }
+
+    /// Whether no token is left.
+    pub fn is_at_end(self) -> bool
+        ensures { IsTrue result ↔ (self.entry.rest.now ≡ []) }
+    {
+        self.rest.is_empty()
+    }
+
+    /// The next token, and what is left behind it.
+    pub fn next(self) -> Option<(Sign<'a>, Cursor<'t, 'a>)>
+        ensures some { IfSome result (λ x. Steps (left_of self.entry) (shown x.0) (left_of x.1)) }
+        ensures named { IfSome result (λ x. IsNamed (shown x.0)) }
+        ensures none { IfNone result (self.entry.rest.now ≡ []) }
+    {
+        let tokens = self.rest;
+        if tokens.is_empty() {
+            return None;
+        }
+        let sign = sign_of(&tokens[0]);
+        let rest = &tokens[1..];
+        let end = self.end;
+        Some((sign, Cursor { rest, end }))
+    }
+
+    /// The fault that the next token, or the end, does not go on with the clause.
+    #[tactic(auto, unfolding(crate::specs::Reader::place_at))]
+    pub fn fault(self) -> ReadFault
+        ensures { result ≡ Syntax (next_place (left_of self.entry)) }
+    {
+        let tokens = self.rest;
+        if tokens.is_empty() {
+            ReadFault::Syntax(self.end)
+        } else {
+            ReadFault::Syntax(tokens[0].place)
+        }
+    }
+
+    /// The next token as a name other than `if` and `not`.
+    #[tactic(auto, using(crate::proofs::Steps::at_end, crate::proofs::Steps::steps_fail))]
+    pub fn word(self) -> Option<(&'a [u8], Cursor<'t, 'a>)>
+        ensures some { IfSome result (λ x. Steps (left_of self.entry) (Word x.0.now) (left_of x.1)) }
+        ensures name { IfSome result (λ x. IsTrue (is_name x.0.now)) }
+        ensures none { IfNone result (next_passes is_word (left_of self.entry) ≡ false) }
+    {
+        let (sign, behind) = self.next()?;
+        Some((sign.word()?, behind))
+    }
+
+    /// The next token as a number.
+    #[tactic(auto, using(crate::proofs::Steps::at_end, crate::proofs::Steps::steps_fail))]
+    pub fn number(self) -> Option<(i64, Cursor<'t, 'a>)>
+        ensures some { IfSome result (λ x. Steps (left_of self.entry) (Number x.0) (left_of x.1)) }
+        ensures none { IfNone result (next_passes is_number (left_of self.entry) ≡ false) }
+    {
+        let (sign, behind) = self.next()?;
+        Some((sign.number()?, behind))
+    }
+
+    /// The next token as a comparison.
+    #[tactic(auto, using(crate::proofs::Steps::at_end, crate::proofs::Steps::steps_fail))]
+    pub fn compare(self) -> Option<(TestOp, Cursor<'t, 'a>)>
+        ensures some { IfSome result (λ x. Steps (left_of self.entry) (Compare x.0) (left_of x.1)) }
+        ensures none { IfNone result (next_passes is_compare (left_of self.entry) ≡ false) }
+    {
+        let (sign, behind) = self.next()?;
+        Some((sign.compare()?, behind))
+    }
+
+    /// What is left behind a symbol, where it comes next.
+    #[tactic(auto, using(crate::proofs::Steps::at_end, crate::proofs::Steps::steps_fail))]
+    pub fn skip(self, symbol: Symbol) -> Option<Cursor<'t, 'a>>
+        ensures some { IfSome result (λ behind. Steps (left_of self.entry) (Given symbol) (left_of behind)) }
+        ensures none { IfNone result (next_passes (is_given symbol) (left_of self.entry) ≡ false) }
+    {
+        let (sign, behind) = self.next()?;
+        if sign.is_given(symbol) {
+            Some(behind)
+        } else {
+            None
+        }
+    }
+
+    /// What is left behind a symbol, which has to come next.
+    pub fn expect(self, symbol: Symbol) -> Result<Cursor<'t, 'a>, ReadFault>
+        ensures ok { IfOk result (λ behind. Steps (left_of self.entry) (Given symbol) (left_of behind)) }
+        ensures err { IfErr result (λ fault. Refuses (is_given symbol) (left_of self.entry) fault) }
+    {
+        match self.skip(symbol) {
+            Some(behind) => Ok(behind),
+            None => Err(self.fault()),
+        }
+    }
+
+    /// The next token as a word that begins a kind of clause.
+    #[tactic(auto, using(crate::proofs::Steps::at_end, crate::proofs::Steps::steps_fail, crate::proofs::Steps::no_keyword))]
+    pub fn keyword(self) -> Option<(Keyword, Cursor<'t, 'a>)>
+        ensures some { IfSome result (λ x. HasKeyword (left_of self.entry) x.0 (left_of x.1)) }
+        ensures none { IfNone result ((test : Keyword → Bool) → next_passes (is_keyword test) (left_of self.entry) ≡ false) }
+    {
+        let (text, behind) = self.word()?;
+        Some((keyword_of(text)?, behind))
+    }
+}

@@ -1,0 +1,20 @@
+//! The reader of theories: a list of tokens as the clauses of a theory.
+#![tactic(auto)]
+
+mod clause;
+mod condition;
+mod cursor;
+mod fault;
+mod laws;
+mod pattern;
+mod reader;
+mod sign;
+#[cfg(test)]
+mod tests;
+mod text;
+mod variables;
+
+pub use fault::ReadFault;
+pub use laws::{one_reading_law, reading_law, way_back_law};
+pub use reader::read_theory;
+pub use text::{Refused, accept};

@@ -1,0 +1,50 @@
+//! The reader of theories.
+ghost use Rattle.std.specs.Prelude.{IfOk, IfErr};
+ghost use Rattle.ec_theory.specs.Walk.{Beginning, stop_of};
+ghost use Rattle.ec_theory.specs.Reading.{Reads, IsStop, HasNoReading};
+
+use crate::clause::{push_clause, read_clause};
+use crate::cursor::Cursor;
+use crate::fault::ReadFault;
+use ec_terms::{Sequence, Theory};
+use ec_tokens::TokenList;
+use std::alloc::Global;
+
+/// Reads a list of tokens as a theory by the grammar of clauses. Clauses are numbered from 1, and the
+/// variables of a clause from 0 by their first appearance.
+///
+/// `Syntax` comes exactly where the tokens are no theory, at the first token with which they begin
+/// none, or at their end where all of them begin one.
+#[tactic(auto, using(crate::proofs::Readings::no_reading))]
+pub fn read_theory(alloc: Global, tokens: &TokenList<'_>) -> Result<Theory, ReadFault>
+    ensures ok { IfOk result (λ theory. Reads tokens.now theory) }
+    ensures syntax { IfErr result (λ fault. IsStop fault (stop_of Beginning tokens.now)) }
+    ensures none { IfErr result (λ fault. HasNoReading fault tokens.now) }
+{
+    match read_clauses(alloc, tokens) {
+        Ok(theory) => Ok(theory),
+        Err(fault) => Err(fault),
+    }
+}
+
+/// Reads the clauses one by one.
+fn read_clauses(alloc: Global, tokens: &TokenList<'_>) -> Result<Theory, ReadFault>
+    ensures ok { IfOk result (λ theory. Reads tokens.now theory) }
+    ensures syntax { IfErr result (λ fault. IsStop fault (stop_of Beginning tokens.now)) }
+{
+    let mut theory = Theory {
+        rules: Sequence::new(alloc),
+        exclusives: Sequence::new(alloc),
+        strongs: Sequence::new(alloc),
+        initials: Sequence::new(alloc),
+    };
+    let mut number = 1;
+    let mut next = Cursor::new(tokens);
+    while !next.is_at_end() {
+        let (clause, behind) = read_clause(alloc, number, next)?;
+        push_clause(&mut theory, clause)?;
+        number += 1;
+        next = behind;
+    }
+    Ok(theory)
+}

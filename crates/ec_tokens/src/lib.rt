@@ -1,0 +1,17 @@
+//! The tokens of a theory's text.
+#![tactic(auto)]
+
+mod fault;
+mod lexer;
+mod piece;
+mod place;
+#[cfg(test)]
+mod tests;
+mod token;
+mod token_list;
+
+pub use fault::TokenFault;
+pub use lexer::tokens;
+pub use place::Place;
+pub use token::{Token, TokenKind};
+pub use token_list::{MOST_BYTES, TokenList};
