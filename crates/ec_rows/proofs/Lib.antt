@@ -1,0 +1,5 @@
+pub mod MarkLemmas
+pub mod OrderedLemmas
+pub mod SpanLemmas
+pub mod TimedLemmas
+pub mod TimeLemmas

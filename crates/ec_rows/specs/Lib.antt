@@ -1,0 +1,4 @@
+pub mod Marks
+pub mod Ordered
+pub mod Spans
+pub mod Times

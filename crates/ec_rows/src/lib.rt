@@ -1,0 +1,27 @@
+//! Ordered rows: the marks of a property, the intervals that it held over, and the times of events.
+//!
+//! Each kind of row is a trait, seen by contracts as an ordered list with `spare`, the number of further
+//! members that it takes without memory. A row over `Vec` implements each.
+#![tactic(auto)]
+
+mod edits;
+mod mark;
+mod mark_row;
+mod search;
+mod span;
+mod span_row;
+#[cfg(test)]
+mod tests;
+mod time_row;
+mod vec_marks;
+mod vec_spans;
+mod vec_times;
+
+pub use mark::Mark;
+pub use mark_row::MarkRow;
+pub use span::{End, Span};
+pub use span_row::SpanRow;
+pub use time_row::TimeRow;
+pub use vec_marks::VecMarks;
+pub use vec_spans::VecSpans;
+pub use vec_times::VecTimes;

@@ -1,0 +1,102 @@
+ghost use Rattle.std.specs.Prelude.{◌≡◌, ◌+◌, ◌-◌, ◌<◌, ◌≤◌, IsTrue, false, IfSome, IfNone, length};
+ghost use Rattle.std.specs.List.{splice, HoldsAt, list_any};
+ghost use Rattle.ec_rows.specs.Spans.{IsSpanRow, is_covering, reaches};
+
+use crate::edits::splice_within;
+use crate::search::count_before;
+use crate::span::{End, Span};
+use crate::span_row::SpanRow;
+use ec_moment::Moment;
+use ec_terms::NoMemory;
+use std::alloc::Global;
+use std::marker::Model;
+
+/// A row of spans in one `Vec`.
+#[derive(Drop)]
+pub struct VecSpans<T: Moment> {
+    spans: Vec<Span<T>>,
+}
+
+impl<T: Moment> Model for VecSpans<T> {
+    ghost use Rattle.std.specs.Prelude.{◌-◌, vec_len};
+    ghost use Rattle.std.specs.Vec.{vec_capacity};
+    ghost use Rattle.ec_rows.specs.declared.span.Span.{Span};
+    ghost use Rattle.ec_rows.specs.Ordered.{Reserved};
+    ghost use Rattle.ec_rows.specs.Spans.{IsSpanRow};
+
+    ghost Value = { Reserved (Span T) };
+
+    ghost view = { λ row. record { items = row.spans.items; spare = vec_capacity row.spans - vec_len row.spans } };
+
+    ghost invariant = { λ row. IsSpanRow T.rank row.spans.items };
+}
+
+impl<T: Moment> SpanRow<T> for VecSpans<T> {
+    ghost spans = { λ row. row.items };
+
+    ghost spare = { λ row. row.spare };
+
+    fn new(alloc: Global) -> Result<Self, NoMemory> {
+        Ok(VecSpans {
+            spans: Vec::new(alloc),
+        })
+    }
+
+    fn len(&self) -> usize {
+        self.spans.len()
+    }
+
+    fn reserve(&mut self, n: usize) -> Result<(), NoMemory> {
+        self.spans.reserve(n)?;
+        Ok(())
+    }
+
+    fn get(&self, i: usize) -> Span<T> {
+        self.spans[i]
+    }
+
+    fn covering(&self, at: T) -> Option<usize> {
+        place_covering(&self.spans, at)
+    }
+
+    fn splice(&mut self, from: usize, to: usize, with: &[Span<T>])
+        requires ordered { from ≤ to }
+        requires within { to ≤ length self.old.items }
+        requires spans { IsSpanRow T.rank (splice self.old.items from to with.now) }
+        requires room { length with.now - (to - from) ≤ self.old.spare }
+        ensures spans { self.new.items ≡ splice self.old.items from to with.now }
+        ensures spare { self.old.spare ≤ self.new.spare + (length with.now - (to - from)) }
+    {
+        splice_within(&mut self.spans, from, to, with);
+    }
+}
+
+/// Whether a time lies up to the end of a span.
+fn reaches<T: Moment>(span: &Span<T>, at: T) -> bool
+    ensures { result ≡ reaches T.rank (T.rank at) span.now.end }
+{
+    match span.end {
+        End::At(end) => at.order(&end).is_le(),
+        End::Unended => true,
+    }
+}
+
+/// The place of the span that covers a time: the last that starts before the time, if it does not end
+/// before it.
+fn place_covering<T: Moment>(spans: &[Span<T>], at: T) -> Option<usize>
+    requires { IsSpanRow T.rank spans.now }
+    ensures within { IfSome result (λ i. i < length spans.now) }
+    ensures covering { IfSome result (λ i. HoldsAt (λ span. IsTrue (is_covering T.rank (T.rank at) span)) spans.now i) }
+    ensures none { IfNone result (list_any (is_covering T.rank (T.rank at)) spans.now ≡ false) }
+{
+    let count = count_before(spans, at);
+    if count == 0 {
+        return None;
+    }
+    let last = count - 1;
+    if reaches(&spans[last], at) {
+        Some(last)
+    } else {
+        None
+    }
+}
