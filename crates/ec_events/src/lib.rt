@@ -1,0 +1,10 @@
+//! The store of events: every present event in the order of time, each under a slot of its own.
+#![tactic(auto)]
+
+mod cursor;
+mod store;
+#[cfg(test)]
+mod tests;
+
+pub use cursor::Cursor;
+pub use store::EventStore;
