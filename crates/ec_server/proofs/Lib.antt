@@ -1,0 +1,4 @@
+pub mod LineSteps
+pub mod Places
+pub mod Serving
+pub mod Pieces

@@ -1,0 +1,14 @@
+-- The bytes before the rest are served, and the rest grows shorter.
+use Rattle.std.proofs.Common.{◌≡◌, length}
+use Rattle.ec_server.proofs.Pieces.{IsUnderWay}
+use Rattle.ec_server.proofs.serve.answer_piece.Given as goal
+
+abbrev pub invariant-loop-rest : goal.invariant-loop-rest
+invariant-loop-rest g l = record {
+  theory : l.desk.theory ≡ l.initial.desk.theory;
+  under_way : IsUnderWay g.K.Sink.stands g.K.Sink.faults (record { theory = l.initial.desk.theory; spelt = g.T.Moment.spelt }) l.piece l.rest
+      l.initial.desk.state l.desk.state l.initial.feed l.feed l.initial.out l.out;
+}
+
+abbrev pub decreases-loop-rest : goal.decreases-loop-rest
+decreases-loop-rest g l = length l.rest

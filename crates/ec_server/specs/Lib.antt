@@ -1,0 +1,4 @@
+pub mod CommandSteps
+pub mod DeskState
+pub mod Handling
+pub mod Serving

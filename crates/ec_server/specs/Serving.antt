@@ -1,0 +1,20 @@
+-- How far a piece of the input has been served.
+use Rattle.std.specs.Prelude.{ℕ, List}
+use Rattle.ec_axioms.specs.Lines.{cut_of}
+use Rattle.ec_axioms.specs.Replies.{State}
+use Rattle.ec_lines.specs.FeedState.{FeedState, IsPart}
+use Rattle.ec_server.specs.declared.handled.Handled.{Handled}
+use Rattle.ec_server.specs.declared.handled.Handled.TheVariants.{Go, Bye, WriteFault}
+use Rattle.ec_server.specs.Handling.{Language, IsServing, HasQuit}
+
+module _ {K : Type 0} (stands : K → List ℕ → Type 0) (language : Language) where
+  -- the feed is at the rest of the bytes taken, and their whole lines are answered
+  pub record IsAt (taken : List ℕ) (state : State) (feed : FeedState) (old new : K) : Type 0 where
+    pub part : IsPart feed (cut_of taken).rest
+    pub serving : IsServing stands language taken state old new
+
+  -- what a piece of the input leaves: it was served, or `quit` was in it, or the sink failed
+  abbrev pub IsServed : Handled → List ℕ → State → FeedState → K → K → Type 0
+  IsServed Go taken state feed old new = IsAt taken state feed old new
+  IsServed Bye taken state feed old new = HasQuit stands language taken old new
+  IsServed WriteFault taken state feed old new = Unit {0}
