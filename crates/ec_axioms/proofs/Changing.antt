@@ -27,7 +27,8 @@ use Rattle.ec_axioms.specs.declared.currency.Change.{Change}
 use Rattle.ec_axioms.specs.declared.currency.Change.TheVariants.{Initiation, Termination, Break}
 use Rattle.ec_axioms.specs.Calculus.{PlainEvent, Currency, effects_of, effects_at, agrees, is_active, is_current, has_effect, has_break, is_initiating, is_terminating, is_clashing}
 use Rattle.ec_axioms.specs.Plain.{events_at, would_change, does_change, does_change_by, changes_at}
-use Rattle.ec_axioms.proofs.Effects.{list_any-filter, int_eq-true}
+use Rattle.ec_axioms.proofs.Members.{list_any-filter}
+use Rattle.ec_axioms.proofs.Ranks.{int_eq-is}
 
 -- ---- lists
 
@@ -65,7 +66,7 @@ list_any-at : (f g : PlainEvent → Bool) (t : ℤ) (events : List PlainEvent) �
 list_any-at f g t [] same = refl
 list_any-at f g t (e ∷ events) same =
     let ih = list_any-at f g t events same in
-    let here : int_eq e.rank t ≡ true → f e ≡ g e = λ there. same e (int_eq-true e.rank t there) in grind arith
+    let here : int_eq e.rank t ≡ true → f e ≡ g e = λ there. same e (int_eq-is e.rank t there) in grind arith
 
 -- ---- the entries of the events at t
 

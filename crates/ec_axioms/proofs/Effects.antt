@@ -12,27 +12,20 @@ use Rattle.ec_terms.specs.Domain.{GroundLiteral, GroundEntry, entries_of, is_ini
 use Rattle.ec_axioms.specs.Laws.{events_before}
 use Rattle.ec_axioms.specs.Timeline.{Timeline, is_current_on, instants_before, instants_between, carries, carries_initially}
 use Rattle.ec_axioms.specs.Calculus.{PlainEvent, Currency, with_instant, instants_of, effects_of, agrees, is_active, effects_at, is_initiating, is_terminating, is_clashing, has_effect, is_initiated, has_break, timeline_by}
+use Rattle.ec_axioms.proofs.Members.{list_any-filter}
+use Rattle.ec_axioms.proofs.Ranks.{int_eq-is}
 
 -- ---- lists
-
--- a test of a filtered list
-pub list_any-filter : {A : Type 0} (f p : A → Bool) (xs : List A) → list_any f (filter p xs) ≡ list_any (λ x. p x && f x) xs
-list_any-filter f p [] = refl
-list_any-filter f p (x ∷ xs) = let ih = list_any-filter f p xs in grind arith
 
 -- two filters, the first of which keeps all that the second keeps
 pub filter-filter_wider : {A : Type 0} (q p : A → Bool) (xs : List A) → ((x : A) → q x ≡ true → p x ≡ true) → filter q (filter p xs) ≡ filter q xs
 filter-filter_wider q p [] wider = refl
 filter-filter_wider q p (x ∷ xs) wider = let ih = filter-filter_wider q p xs wider in let here = wider x in grind arith
 
--- equal integers by the test are the same
-pub int_eq-true : (x y : ℤ) → int_eq x y ≡ true → x ≡ y
-int_eq-true x y e = grind (arith, ints)
-
 -- a test among the instants with one more
 list_any-with_instant : (f : ℤ → Bool) (t : ℤ) (us : List ℤ) → list_any f (with_instant t us) ≡ (f t || list_any f us)
 list_any-with_instant f t [] = refl
-list_any-with_instant f t (u ∷ us) = let same = int_eq-true t u in let here : t ≡ u → f t ≡ f u = ap f in grind arith
+list_any-with_instant f t (u ∷ us) = let same = int_eq-is t u in let here : t ≡ u → f t ≡ f u = ap f in grind arith
 
 -- a test of the instants is that test of the events' ranks
 pub list_any-instants : (f : ℤ → Bool) (events : List PlainEvent) → list_any f (instants_of events) ≡ list_any (λ e. f e.rank) events
@@ -162,7 +155,7 @@ effects-same_of_all : (theory : Theory) (events : List PlainEvent) (c d : Curren
 effects-same_of_all theory [] c d wanted t same = refl
 effects-same_of_all theory (e ∷ events) c d wanted t same =
     effects-same_of_more theory c d e (events_at t events) wanted (int_eq e.rank t)
-    (λ there. subst (λ s. (p : Ground) → c p s ≡ d p s) (sym (int_eq-true e.rank t there)) same)
+    (λ there. subst (λ s. (p : Ground) → c p s ≡ d p s) (sym (int_eq-is e.rank t there)) same)
     (effects-same_of_all theory events c d wanted t same)
 
 -- What takes effect at an instant depends on the currency there alone.

@@ -15,7 +15,8 @@ use Rattle.ec_axioms.specs.Calculus.{PlainEvent, Currency, is_initiated, has_bre
 use Rattle.ec_axioms.specs.Changes.{is_history, comes_before}
 use Rattle.ec_axioms.specs.Laws.{events_before}
 use Rattle.ec_axioms.specs.Plain.{IsLastBefore}
-use Rattle.ec_axioms.proofs.Effects.{any_before, any_before-same, breaks_between, current_by, current_by-past, int_eq-true, is_current_on-by}
+use Rattle.ec_axioms.proofs.Effects.{any_before, any_before-same, breaks_between, current_by, current_by-past, is_current_on-by}
+use Rattle.ec_axioms.proofs.Ranks.{int_eq-is}
 use Rattle.ec_axioms.proofs.Rounds.{is_current-equation}
 use Rattle.ec_axioms.proofs.OrderedEvents.{comes_before-rank}
 
@@ -116,7 +117,7 @@ any_before-split test [] t s before all = refl
 any_before-split test (e ∷ events) t s before all =
     let parts = and_parts _ _ all in
     let ih = any_before-split test events t s before parts.1 in
-    let here : int_eq e.rank s ≡ true → test e.rank ≡ test s = λ is. ap test (int_eq-true e.rank s is) in
+    let here : int_eq e.rank s ≡ true → test e.rank ≡ test s = λ is. ap test (int_eq-is e.rank s is) in
     let order : int_lt e.rank t ≡ (int_lt e.rank s || int_eq e.rank s) = let one = parts.0 in grind (arith, ints) in grind arith
 
 any_before-last : (test : ℤ → Bool) (events : List PlainEvent) (t s : ℤ) → IsLastBefore events t s →

@@ -8,7 +8,6 @@ pub mod TimelineLaws
 pub mod MarkLaws
 pub mod ExclusiveLaws
 pub mod OrderedEvents
-pub mod Exclusion
 pub mod HistoryMarks
 pub mod HistoryLaws
 pub mod Changing

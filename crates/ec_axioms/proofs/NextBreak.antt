@@ -11,14 +11,14 @@ use Rattle.ec_terms.specs.declared.ground.Ground.{Ground}
 use Rattle.ec_terms.specs.declared.theory.Theory.{Theory}
 use Rattle.ec_axioms.specs.Calculus.{PlainEvent, Currency, with_instant, instants_of, is_current, is_terminated, has_break, timeline_by, timeline_of}
 use Rattle.ec_axioms.specs.Plain.{ends_well, events_from}
-use Rattle.ec_axioms.proofs.Effects.{int_eq-true}
+use Rattle.ec_axioms.proofs.Ranks.{int_eq-is}
 use Rattle.ec_axioms.proofs.Members.{find-filter}
 
 -- the first of the instants with one more
 find-with_instant : (test : ℤ → Bool) (t : ℤ) (us : List ℤ) → find test (with_instant t us) ≡ cond (test t) (Some t) (find test us)
 find-with_instant test t [] = refl
 find-with_instant test t (u ∷ us) =
-    let same = int_eq-true t u in let here : t ≡ u → test t ≡ test u = ap test in grind arith
+    let same = int_eq-is t u in let here : t ≡ u → test t ≡ test u = ap test in grind arith
 
 -- the first instant that passes is the rank of the first event whose rank does
 find-instants : (test : ℤ → Bool) (events : List PlainEvent) → find test (instants_of events) ≡ option_map (λ (e : PlainEvent). e.rank) (find (λ e. test e.rank) events)

@@ -13,11 +13,13 @@ ghost use Rattle.ec_axioms.specs.Events.{event_of};
 ghost use Rattle.ec_axioms.specs.Laws.{events_before};
 ghost use Rattle.ec_axioms.specs.Plain.{IsLastBefore, changes_at, does_change_by, would_change};
 
-use crate::domain::{are_exclusive, is_initial, is_same, is_strong};
 use crate::event::Event;
 use crate::history;
 use ec_moment::Moment;
-use ec_terms::{Binding, GroundRef, Kind, Rule, Theory, fill_ref, matches, tests_hold};
+use ec_terms::{
+    Binding, GroundRef, Kind, Rule, Theory, are_exclusive, fill_ref, is_initial, is_same,
+    is_strong, matches, tests_hold,
+};
 
 /// What an entry may do to a property.
 #[derive(Clone, Copy)]
@@ -29,7 +31,7 @@ pub(crate) enum Change {
 }
 
 /// Whether an entry of this kind and head would make the change, if it were active.
-fn would(
+fn makes_change(
     theory: &Theory,
     p: &GroundRef<'_>,
     change: Change,
@@ -115,7 +117,8 @@ fn rule_changes<'a, T: Moment>(
         return false;
     }
     let head = fill_ref(&rule.head, &binding);
-    would(theory, p, change, rule.kind, &head) && literals_agree(events, theory, rule, &binding, at)
+    makes_change(theory, p, change, rule.kind, &head)
+        && literals_agree(events, theory, rule, &binding, at)
 }
 
 /// Whether an event at a time makes the change to a property.

@@ -3,7 +3,6 @@
 
 mod currency;
 mod current;
-mod domain;
 mod event;
 mod history;
 mod laws_currency;

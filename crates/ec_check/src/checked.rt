@@ -73,12 +73,14 @@ pub fn check(theory: Theory) -> Result<Checked, CheckFault>
 }
 
 impl Checked {
+    ghost use Rattle.ec_terms.specs.Matchable.{IsMatchable};
     ghost use Rattle.ec_check.specs.WellFormed.{IsWellFormed};
 
     /// The theory, well formed.
     pub fn theory(&self) -> &Theory
         ensures theory { result.now ≡ self.now }
         ensures well_formed { IsWellFormed self.now }
+        ensures matchable { IsMatchable self.now }
     {
         &self.theory
     }

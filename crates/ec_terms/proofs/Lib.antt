@@ -3,6 +3,7 @@ pub mod OrderLemmas
 pub mod BindingLemmas
 pub mod MatchingLemmas
 pub mod FillingLemmas
+pub mod Exclusion
 pub mod DomainLemmas
 pub mod Runs
 pub mod Arguments

@@ -1,10 +1,10 @@
 -- The canonical text of a term, read from the front.
-use Rattle.std.proofs.Common.{◌≡◌, ℕ, ◌<◌, ◌≤◌, ◌+◌, ◌⊎◌, Bool, true, false, ◌&&◌, ◌||◌, ◌==◌, List, [], ◌∷◌, ◌++◌, length, drop, map, cond, arith, refl, ap, sym, subst, ◌∙◌, inl, inr, append_assoc, append-nil, length-append, eq-eqb, Option, Some, None, option_map, option_and_then, IsTrue, ℤ}
+use Rattle.std.proofs.Common.{◌≡◌, ℕ, ◌<◌, ◌≤◌, ◌+◌, ◌⊎◌, true, false, ◌==◌, List, [], ◌∷◌, ◌++◌, length, drop, map, cond, arith, refl, ap, sym, ◌∙◌, inl, inr, append_assoc, append-nil, length-append, eq-eqb, Option, Some, None, option_map, option_and_then}
 use Rattle.std.specs.List.{list_all, join_with_byte}
 use Rattle.std.specs.Option.{unwrap_or}
 use Rattle.std.proofs.Math.Seq.{drop-append_seam}
-use Rattle.std.proofs.lemmas.Bool.{cases_Bool, cond-true, or_parts}
-use Rattle.ec_moment.specs.Number.{number_text, number_value, IsNumber}
+use Rattle.std.proofs.lemmas.Bool.{cond-true, or_parts}
+use Rattle.ec_moment.specs.Number.{number_text}
 use Rattle.ec_moment.proofs.NumberLemmas.{number_value-number_text, IsNumber-from_true}
 use Rattle.ec_terms.specs.declared.ground.Arg.{Arg}
 use Rattle.ec_terms.specs.declared.ground.Arg.TheVariants.{Int, Word}
@@ -12,13 +12,13 @@ use Rattle.ec_terms.specs.declared.ground.Ground.{Ground}
 use Rattle.ec_terms.specs.Spelling.{is_name_byte, is_lower, is_upper, begins_with, is_name, name_run}
 use Rattle.ec_terms.specs.Term.{arg_text, args_text, term_text, arg_value, is_argument, term_front, term_value}
 use Rattle.ec_terms.specs.Front.{name_front, args_front}
-use Rattle.ec_terms.specs.TextLaws.{has_size, IsTerm, goes_on, IsReadInFront, IsReadBack, IsTextFaithful}
+use Rattle.ec_terms.specs.TextLaws.{has_size, goes_on, IsReadInFront, IsReadBack, IsTextFaithful}
 use Rattle.ec_terms.proofs.Names.{and-first, and-second, is_name-bytes}
 use Rattle.ec_terms.proofs.Runs.{take_while-append}
 use Rattle.ec_terms.proofs.Arguments.{is_plain, plain_arg_run, arg_run-all, arg_value-no_letter, begins_lower-number, is_digit_run-from_value}
 use Rattle.ec_terms.proofs.Pieces.{args_from, args_from-front, args_from-comma, args_from-close}
 use Rattle.ec_terms.proofs.Terms.{with_args, term_front-plain, term_front-args}
-use Rattle.ec_terms.proofs.Texts.{names-name, names-args, term_text-is}
+use Rattle.ec_terms.proofs.Texts.{names-name, names-args}
 
 arg_value-word : (w : List ℕ) → is_name w ≡ true → arg_value w ≡ Some (Word w)
 unfolding arg_value

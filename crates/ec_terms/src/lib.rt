@@ -2,6 +2,7 @@
 #![tactic(auto)]
 
 mod binding;
+mod domain;
 mod domain_laws;
 mod filling;
 mod ground;
@@ -25,6 +26,7 @@ mod tests;
 mod theory;
 
 pub use binding::{Binding, MOST_VARIABLES};
+pub use domain::{are_exclusive, is_initial, is_same, is_strong};
 pub use domain_laws::{entries_ascend, exclusive_is_symmetric};
 pub use filling::{fill, fill_ref, tests_hold};
 pub use ground::{Arg, ArgRef, ArgRefs, Args, Ground, GroundRef, MOST_ARGS};

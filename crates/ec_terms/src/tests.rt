@@ -1,11 +1,12 @@
-//! Tables for the order, for matching and for filling; the values are those of the calculus.
+//! Tables for the order, for matching, for filling and for tests; the values are those of the calculus.
 
 ghost use Rattle.std.specs.Prelude.{◌≡◌};
 ghost use Rattle.std.specs.List.{list_all};
-ghost use Rattle.ec_terms.specs.Binding.{is_small_place};
+ghost use Rattle.ec_terms.specs.Binding.{is_ready_place, is_ready_test, is_small_place, values_of};
 ghost use Rattle.ec_terms.specs.Term.{arg_of, is_argument};
 
 use crate::*;
+use std::alloc::Global;
 use std::cmp::Ordering;
 use std::process::Abort;
 use std::test::Fail;
@@ -155,5 +156,147 @@ fn a_filled_pattern_has_each_value_at_its_place(rt: HostRuntime) -> Result<(), F
     assert!(rt; matches!(filled.args.get(0), Arg::Int(-6)));
     assert!(rt; matches!(filled.args.get(1), Arg::Word(_)));
     assert!(rt; matches!(filled.args.get(2), Arg::Int(4)));
+    Ok(())
+}
+
+/// A left and a right argument, and what is said of them by `Same`, `Differ`, `Less` and `AtMost`.
+const COMPARISONS: [(ArgRef<'static>, ArgRef<'static>, [bool; 4]); 10] = [
+    (ArgRef::Int(4), ArgRef::Int(4), [true, false, false, true]),
+    (ArgRef::Int(4), ArgRef::Int(12), [false, true, true, true]),
+    (ArgRef::Int(12), ArgRef::Int(4), [false, true, false, false]),
+    (ArgRef::Int(-5), ArgRef::Int(4), [false, true, true, true]),
+    (ArgRef::Int(4), ArgRef::Int(-5), [false, true, false, false]),
+    (
+        ArgRef::Word(b"a1"),
+        ArgRef::Word(b"a1"),
+        [true, false, false, true],
+    ),
+    (
+        ArgRef::Word(b"a1"),
+        ArgRef::Word(b"aB"),
+        [false, true, true, true],
+    ),
+    (
+        ArgRef::Word(b"aB"),
+        ArgRef::Word(b"a1"),
+        [false, true, false, false],
+    ),
+    (
+        ArgRef::Int(12),
+        ArgRef::Word(b"a1"),
+        [false, true, true, true],
+    ),
+    (
+        ArgRef::Word(b"a1"),
+        ArgRef::Int(12),
+        [false, true, false, false],
+    ),
+];
+
+/// Whether a side of a test has a value, to be asserted.
+fn is_ready_side(side: &PatArg, binding: &Binding<'_>) -> bool
+    ensures { result ≡ is_ready_place (values_of binding.now) side.now }
+{
+    match side {
+        PatArg::Var(variable) => *variable < 16 && binding.get(*variable).is_some(),
+        PatArg::Any => false,
+        PatArg::Fixed(_) => true,
+    }
+}
+
+fn is_ready(test: &Test, binding: &Binding<'_>) -> bool
+    ensures { result ≡ is_ready_test (values_of binding.now) test.now }
+{
+    is_ready_side(&test.left, binding) && is_ready_side(&test.right, binding)
+}
+
+/// Whether each side of the tests has a value, to be asserted.
+fn are_ready(tests: &[Test], binding: &Binding<'_>) -> bool
+    ensures { result ≡ list_all (is_ready_test (values_of binding.now)) tests.now }
+{
+    tests.iter().all(|test| is_ready(test, binding))
+}
+
+/// A rule that has these tests and nothing else to match.
+fn rule_with(rt: &impl Abort, alloc: Global, tests: Tests) -> Rule {
+    Rule {
+        clause: 1,
+        kind: Kind::Initiates,
+        event: Pattern {
+            name: name(rt, b"push"),
+            args: PatArgs::new(alloc),
+        },
+        head: Pattern {
+            name: name(rt, b"lit"),
+            args: PatArgs::new(alloc),
+        },
+        tests,
+        literals: Literals::new(alloc),
+    }
+}
+
+/// What `tests_hold` answers, with its condition asserted.
+fn held(rt: &impl Abort, rule: &Rule, binding: &Binding<'_>) -> bool {
+    assert!(rt; are_ready(rule.tests.as_slice(), binding));
+    tests_hold(rule, binding)
+}
+
+/// A side of a test: the variable, or where there is none the argument itself.
+fn side(rt: &impl Abort, arg: ArgRef<'_>, variable: Option<u32>) -> PatArg {
+    match variable {
+        Some(variable) => PatArg::Var(variable),
+        None => PatArg::Fixed(match arg {
+            ArgRef::Int(number) => Arg::Int(number),
+            ArgRef::Word(bytes) => Arg::Word(name(rt, bytes)),
+        }),
+    }
+}
+
+#[test]
+fn a_test_compares_what_its_sides_stand_for(rt: HostRuntime) -> Result<(), Fail> {
+    let operators = [TestOp::Same, TestOp::Differ, TestOp::Less, TestOp::AtMost];
+    let variables = [
+        (None, None),
+        (Some(0), None),
+        (None, Some(1)),
+        (Some(0), Some(1)),
+    ];
+    for (i, (left, right, want)) in COMPARISONS.into_iter().enumerate() {
+        assert!(rt; is_named_arg(&left) && is_named_arg(&right));
+        let mut binding = Binding::new();
+        binding.set(0, left);
+        binding.set(1, right);
+        for (op, want) in operators.into_iter().zip(want) {
+            for (left_variable, right_variable) in variables {
+                let mut tests = Tests::new(rt.alloc());
+                tests.push(Test {
+                    op,
+                    left: side(&rt, left, left_variable),
+                    right: side(&rt, right, right_variable),
+                })?;
+                let rule = rule_with(&rt, rt.alloc(), tests);
+                assert!(rt; held(&rt, &rule, &binding) == want, "{op:?} at {i}");
+            }
+        }
+    }
+    Ok(())
+}
+
+#[test]
+fn all_tests_of_a_rule_have_to_hold(rt: HostRuntime) -> Result<(), Fail> {
+    for first in [false, true] {
+        for second in [false, true] {
+            let mut tests = Tests::new(rt.alloc());
+            for holds in [first, second] {
+                tests.push(Test {
+                    op: if holds { TestOp::Same } else { TestOp::Differ },
+                    left: PatArg::Fixed(Arg::Int(4)),
+                    right: PatArg::Fixed(Arg::Int(4)),
+                })?;
+            }
+            let rule = rule_with(&rt, rt.alloc(), tests);
+            assert!(rt; held(&rt, &rule, &Binding::new()) == (first && second));
+        }
+    }
     Ok(())
 }

@@ -9,7 +9,7 @@ use Rattle.ec_axioms.specs.Calculus.{agrees, is_current}
 use Rattle.ec_axioms.specs.Events.{event_of}
 use Rattle.ec_axioms.specs.Plain.{would_change}
 use Rattle.ec_axioms.proofs.Changing.{does_change_by-fit, does_change_by-no_fit, change_found, change_not_yet, change_absent, is_argument-from_names, does_change_by-no_tests, would_not, would_do, agrees-asked, literal_fails, literal_passes, literals_pass}
-use Rattle.ec_axioms.proofs.Exclusion.{false-from_none}
+use Rattle.ec_terms.proofs.Exclusion.{false-from_none}
 use Rattle.ec_axioms.proofs.Givens.{GivesAll, are_ready-given, fills-given, is_some-fits}
 use Rattle.ec_axioms.proofs.LastInstant.{length-before_last, is_current-last, is_current-first, if_initiated, if_current, if_neither}
 use Rattle.ec_axioms.proofs.currency.+currency.Goals as goal
@@ -99,21 +99,21 @@ rule_changes-returns-then-not-tests_hold g t c =
     does_change_by-no_tests c.args.theory.now _ (ground_of c.args.p.now) c.args.change (g.T.Moment.rank c.args.at) (ground_of c.args.event.now) c.args.rule.now
     (values_of c.in-Some.binding) c.in-Some.ensures.binding (c.in-Some.ensures.fits.0 refl) (sym c.tests_hold.ensures ∙ c.if-not-tests_hold.true)
 
-pub rule_changes-returns-else-would : goal.rule_changes-returns-else-would
-rule_changes-returns-else-would g t c =
+pub rule_changes-returns-else-makes_change : goal.rule_changes-returns-else-makes_change
+rule_changes-returns-else-makes_change g t c =
     would_not _ _ _ _ _ _
     (does_change_by-fit c.args.theory.now _ (ground_of c.args.p.now) c.args.change (g.T.Moment.rank c.args.at) (ground_of c.args.event.now) c.args.rule.now
     (values_of c.in-Some.binding) c.in-Some.ensures.binding (c.in-Some.ensures.fits.0 refl))
     c.tests_hold.ensures c.if-not-tests_hold.false
-    (c.would.ensures ∙ ap (would_change c.args.theory.now (ground_of c.args.p.now) c.args.change c.args.rule.now.kind) c.fill_ref-head.ensures.filled) c.if-would.false
+    (c.makes_change.ensures ∙ ap (would_change c.args.theory.now (ground_of c.args.p.now) c.args.change c.args.rule.now.kind) c.fill_ref-head.ensures.filled) c.if-makes_change.false
 
-pub rule_changes-returns-then-would : goal.rule_changes-returns-then-would
-rule_changes-returns-then-would g t c =
+pub rule_changes-returns-then-makes_change : goal.rule_changes-returns-then-makes_change
+rule_changes-returns-then-makes_change g t c =
     would_do _ _ _ _ _ _ _
     (does_change_by-fit c.args.theory.now _ (ground_of c.args.p.now) c.args.change (g.T.Moment.rank c.args.at) (ground_of c.args.event.now) c.args.rule.now
     (values_of c.in-Some.binding) c.in-Some.ensures.binding (c.in-Some.ensures.fits.0 refl))
     c.tests_hold.ensures c.if-not-tests_hold.false
-    (c.would.ensures ∙ ap (would_change c.args.theory.now (ground_of c.args.p.now) c.args.change c.args.rule.now.kind) c.fill_ref-head.ensures.filled) c.if-would.true c.literals_agree.ensures
+    (c.makes_change.ensures ∙ ap (would_change c.args.theory.now (ground_of c.args.p.now) c.args.change c.args.rule.now.kind) c.fill_ref-head.ensures.filled) c.if-makes_change.true c.literals_agree.ensures
 
 -- ---- literals_agree
 

@@ -1,7 +1,7 @@
-use Rattle.std.proofs.Common.{◌≡◌, ◌∙◌, ap, ℕ}
+use Rattle.std.proofs.Common.{◌∙◌, ap}
 use Rattle.std.specs.Prelude.{pos, negsuc, refl}
 use Rattle.ec_terms.specs.declared.ground.Arg.TheVariants.{Int}
-use Rattle.ec_terms.specs.Binding.{values_of, no_values, with_value}
+use Rattle.ec_terms.specs.Binding.{with_value}
 use Rattle.ec_terms.specs.Matching.{Values}
 use Rattle.ec_terms.proofs.tests.a_filled_pattern_has_each_value_at_its_place.Goals as goal
 

@@ -1,4 +1,4 @@
-use Rattle.std.proofs.Common.{◌≡◌, ◌∙◌, Bool, true, List}
+use Rattle.std.proofs.Common.{◌≡◌, ◌∙◌, true}
 use Rattle.std.specs.List.{list_all}
 use Rattle.std.proofs.lemmas.List.Folds.{list_all-map}
 use Rattle.ec_terms.specs.declared.ground.ArgRef.{ArgRef}

@@ -3,7 +3,7 @@ use Rattle.std.proofs.Common.{◌≡◌, ◌&&◌, false, take, length}
 use Rattle.std.specs.Prelude.{pos, bytes_eq}
 use Rattle.std.specs.List.{list_any}
 use Rattle.std.specs.Ordering.{int_eq}
-use Rattle.ec_axioms.proofs.domain.is_strong.Given as goal
+use Rattle.ec_terms.proofs.domain.is_strong.Given as goal
 
 abbrev pub invariant-loop-declaration : goal.invariant-loop-declaration
 invariant-loop-declaration l =

@@ -3,7 +3,7 @@ use Rattle.std.proofs.Common.{◌≡◌, false, take}
 use Rattle.std.specs.List.{list_any}
 use Rattle.ec_terms.specs.Domain.{excludes}
 use Rattle.ec_terms.specs.Term.{ground_of}
-use Rattle.ec_axioms.proofs.domain.are_exclusive.Given as goal
+use Rattle.ec_terms.proofs.domain.are_exclusive.Given as goal
 
 abbrev pub invariant-loop-declaration : goal.invariant-loop-declaration
 invariant-loop-declaration l =

@@ -4,8 +4,8 @@ use Rattle.std.specs.Str.{bytes_eq}
 use Rattle.std.specs.Cmp.Lexicographic.{pointwise}
 use Rattle.ec_terms.specs.Term.{term_eq, arg_eq, arg_of}
 use Rattle.ec_terms.specs.contracts.ground.ArgRefPartialEq.TheImpl.{eq-value}
-use Rattle.ec_axioms.proofs.Exclusion.{arg_refs_eq}
-use Rattle.ec_axioms.proofs.domain.is_same.Goals as goal
+use Rattle.ec_terms.proofs.Exclusion.{arg_refs_eq}
+use Rattle.ec_terms.proofs.domain.is_same.Goals as goal
 
 pub returns-then-eq : goal.returns-then-eq
 unfolding term_eq

@@ -2,8 +2,8 @@
 use Rattle.std.proofs.Common.{◌∙◌, sym, refl}
 use Rattle.ec_terms.specs.Binding.{values_of}
 use Rattle.ec_terms.specs.Term.{ground_of}
-use Rattle.ec_axioms.proofs.Exclusion.{both_fit-no_first, both_fit-given, false-from_none}
-use Rattle.ec_axioms.proofs.domain.fit_together.Goals as goal
+use Rattle.ec_terms.proofs.Exclusion.{both_fit-no_first, both_fit-given, false-from_none}
+use Rattle.ec_terms.proofs.domain.fit_together.Goals as goal
 
 pub returns-in-Some : goal.returns-in-Some
 returns-in-Some c =

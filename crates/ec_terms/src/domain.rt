@@ -7,11 +7,14 @@ ghost use Rattle.ec_terms.specs.Matchable.{IsMatchable, IsMatchableExclusive};
 ghost use Rattle.ec_terms.specs.Term.{names_are_names};
 ghost use Rattle.ec_terms.specs.Term.{ground_of, term_eq};
 
-use ec_terms::{Exclusive, GroundRef, Pattern, Theory, extend_match, matches};
+use crate::ground::GroundRef;
+use crate::matching::{extend_match, matches};
+use crate::pattern::Pattern;
+use crate::theory::{Exclusive, Theory};
 
 /// Whether two terms are the same.
-#[tactic(auto, unfolding(ec_terms::specs::Term::term_eq))]
-pub(crate) fn is_same(left: &GroundRef<'_>, right: &GroundRef<'_>) -> bool
+#[tactic(auto, unfolding(crate::specs::Term::term_eq))]
+pub fn is_same(left: &GroundRef<'_>, right: &GroundRef<'_>) -> bool
     ensures { result ≡ term_eq (ground_of left.now) (ground_of right.now) }
 {
     left.name == right.name && left.args.as_slice() == right.args.as_slice()
@@ -27,8 +30,8 @@ fn fits(pattern: &Pattern, term: &GroundRef<'_>) -> bool
 }
 
 /// Whether a property is declared initial.
-#[tactic(auto, unfolding(ec_terms::specs::Domain::is_initial))]
-pub(crate) fn is_initial(theory: &Theory, p: &GroundRef<'_>) -> bool
+#[tactic(auto, unfolding(crate::specs::Domain::is_initial))]
+pub fn is_initial(theory: &Theory, p: &GroundRef<'_>) -> bool
     requires matchable { IsMatchable theory.now }
     requires named { IsTrue (names_are_names (ground_of p.now)) }
     ensures { result ≡ initial theory.now (ground_of p.now) }
@@ -42,8 +45,8 @@ pub(crate) fn is_initial(theory: &Theory, p: &GroundRef<'_>) -> bool
 }
 
 /// Whether a property's name and number of arguments are declared strong.
-#[tactic(auto, unfolding(ec_terms::specs::Domain::is_strong))]
-pub(crate) fn is_strong(theory: &Theory, p: &GroundRef<'_>) -> bool
+#[tactic(auto, unfolding(crate::specs::Domain::is_strong))]
+pub fn is_strong(theory: &Theory, p: &GroundRef<'_>) -> bool
     ensures { result ≡ strong theory.now (ground_of p.now) }
 {
     let arity = p.args.len() as i64;
@@ -70,7 +73,7 @@ fn fit_together(left: &Pattern, right: &Pattern, p: &GroundRef<'_>, q: &GroundRe
 }
 
 /// Whether a declaration speaks of two properties, in this order or the other.
-#[tactic(auto, unfolding(ec_terms::specs::Domain::excludes))]
+#[tactic(auto, unfolding(crate::specs::Domain::excludes))]
 fn excludes(declaration: &Exclusive, p: &GroundRef<'_>, q: &GroundRef<'_>) -> bool
     requires matchable { IsMatchableExclusive declaration.now }
     requires p_named { IsTrue (names_are_names (ground_of p.now)) }
@@ -82,8 +85,8 @@ fn excludes(declaration: &Exclusive, p: &GroundRef<'_>, q: &GroundRef<'_>) -> bo
 }
 
 /// Whether two properties are exclusive: they differ, and some declaration speaks of them.
-#[tactic(auto, unfolding(ec_terms::specs::Domain::are_exclusive))]
-pub(crate) fn are_exclusive(theory: &Theory, p: &GroundRef<'_>, q: &GroundRef<'_>) -> bool
+#[tactic(auto, unfolding(crate::specs::Domain::are_exclusive))]
+pub fn are_exclusive(theory: &Theory, p: &GroundRef<'_>, q: &GroundRef<'_>) -> bool
     requires matchable { IsMatchable theory.now }
     requires p_named { IsTrue (names_are_names (ground_of p.now)) }
     requires q_named { IsTrue (names_are_names (ground_of q.now)) }
