@@ -18,3 +18,4 @@ pub use command::{Command, Parsed};
 pub use feed::Feed;
 pub use line::{LONGEST_LINE, Line};
 pub use reading::read_command;
+pub use reply_text::ReplyText;
