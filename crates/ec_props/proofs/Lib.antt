@@ -1,0 +1,5 @@
+pub mod KeptLemmas
+pub mod ArityLemmas
+pub mod TableLemmas
+pub mod ChangeLemmas
+pub mod CompareLemmas

@@ -1,0 +1,12 @@
+//! The table of properties: distinct terms in term order, each under a number that it keeps, with a count of
+//! its mentions.
+#![tactic(auto)]
+
+mod edits;
+mod property;
+mod search;
+mod table;
+#[cfg(test)]
+mod tests;
+
+pub use table::PropTable;

@@ -1,0 +1,159 @@
+ghost use Rattle.std.specs.Prelude.{◌≡◌, ◌≢◌, ◌+◌, ◌-◌, ◌^◌, ◌<◌, ◌≤◌, ◌++◌, ℕ, [], None, Some, IsTrue, IsSome, IsOk, IfOk, OnErr, IfSome, All, length, slice_get, option_map};
+ghost use Rattle.ec_terms.specs.Term.{ground_of, names_are_names};
+ghost use Rattle.ec_props.specs.Table.{prop_at, term_at, mentions_at, prop_of, is_in_order, props_below, props_with, props_above, with_prop, without_prop, with_mentions};
+
+use crate::edits::{put, take_out};
+use crate::property::Property;
+use crate::search::{count_below, place_of};
+use ec_terms::{GroundRef, NoMemory, PropId};
+use slab::Slab;
+use std::alloc::Global;
+use std::marker::Model;
+
+/// The properties that are kept, in term order, each under a number and with a count of its mentions. A number
+/// stays as long as its property does.
+#[derive(Drop)]
+pub struct PropTable {
+    properties: Slab<Property>,
+    order: Vec<PropId>,
+    alloc: Global,
+}
+
+impl Model for PropTable {
+    ghost use Rattle.std.specs.Prelude.{List};
+    ghost use Rattle.slab.specs.Slab.{get as property_at};
+    ghost use Rattle.ec_props.specs.Table.{KeptProp, kept_of, IsTable};
+
+    ghost Value = { List KeptProp };
+
+    ghost view = { λ table. kept_of (property_at table.properties) table.order.items };
+
+    ghost invariant = { λ table. IsTable (property_at table.properties) table.order.items };
+}
+
+impl PropTable {
+    /// The table of no properties.
+    pub fn new(alloc: Global) -> Result<PropTable, NoMemory>
+        ensures { IfOk result (λ table. table ≡ []) }
+    {
+        Ok(PropTable {
+            properties: Slab::new(alloc),
+            order: Vec::new(alloc),
+            alloc,
+        })
+    }
+
+    /// How many properties are kept. They are in term order, no term is kept twice, and each is the one under
+    /// its number.
+    pub fn len(&self) -> usize
+        ensures len { result ≡ length self.now }
+        ensures order { IsTrue (is_in_order self.now) }
+        ensures numbers { All (λ kept. prop_at kept.id self.now ≡ Some kept) self.now }
+    {
+        self.order.len()
+    }
+
+    /// The number of the property at a place of the order, from 0.
+    pub fn nth_in_order(&self, i: usize) -> PropId
+        requires { i < length self.now }
+        ensures number { option_map (λ kept. kept.id) (slice_get self.now i) ≡ Some result.0 }
+        ensures prop { prop_at result.0 self.now ≡ slice_get self.now i }
+        ensures kept { IsSome (prop_at result.0 self.now) }
+    {
+        self.order[i]
+    }
+
+    /// The term of a property.
+    pub fn ground(&self, p: PropId) -> GroundRef<'_>
+        requires { IsSome (prop_at p.0 self.now) }
+        ensures term { term_at p.0 self.now ≡ Some (ground_of result) }
+        ensures names { IsTrue (names_are_names (ground_of result)) }
+    {
+        self.properties[p.0].term.borrow()
+    }
+
+    /// How often a property is mentioned.
+    pub fn mentions(&self, p: PropId) -> u32
+        requires { IsSome (prop_at p.0 self.now) }
+        ensures { mentions_at p.0 self.now ≡ Some result }
+    {
+        self.properties[p.0].mentions
+    }
+
+    /// The number under which a term is kept. `None` exactly where it is not. It takes no memory.
+    pub fn lookup(&self, term: &GroundRef<'_>) -> Option<PropId>
+        ensures number { option_map (λ p. p.0) result ≡ prop_of (ground_of term.now) self.now }
+        ensures kept { IfSome result (λ p. IsSome (prop_at p.0 self.now)) }
+        ensures term { IfSome result (λ p. term_at p.0 self.now ≡ Some (ground_of term.now)) }
+    {
+        match place_of(&self.properties, &self.order, term) {
+            Ok(place) => Some(self.order[place]),
+            Err(_) => None,
+        }
+    }
+
+    /// The place in the order of the first property that does not stand before those with a name and a number
+    /// of arguments. All that have them stand one after another from there on.
+    pub fn first_of(&self, name: &[u8], arity: usize) -> usize
+        ensures count { result ≡ length (props_below name.now arity self.now) }
+        ensures run { self.now ≡ props_below name.now arity self.now ++ props_with name.now arity self.now ++ props_above name.now arity self.now }
+    {
+        count_below(&self.properties, &self.order, name, arity)
+    }
+
+    /// The number of a term, which is kept from then on. A term that is kept stays as it is, and takes no memory.
+    /// `Err` is for want of memory, and then all is as it was.
+    pub fn intern(&mut self, term: &GroundRef<'_>) -> Result<PropId, NoMemory>
+        requires { IsTrue (names_are_names (ground_of term.now)) }
+        ensures number { IfOk result (λ p. prop_of (ground_of term.now) self.new ≡ Some p.0) }
+        ensures kept { IfOk result (λ p. IsSome (prop_at p.0 self.new)) }
+        ensures term { IfOk result (λ p. term_at p.0 self.new ≡ Some (ground_of term.now)) }
+        ensures known { IsSome (prop_of (ground_of term.now) self.old) → IsOk result }
+        ensures same { IsSome (prop_of (ground_of term.now) self.old) → self.new ≡ self.old }
+        ensures free { prop_of (ground_of term.now) self.old ≡ None → IfOk result (λ p. prop_at p.0 self.old ≡ None) }
+        ensures props { prop_of (ground_of term.now) self.old ≡ None → IfOk result (λ p. self.new ≡ with_prop p.0 (ground_of term.now) self.old) }
+        ensures others { (q : ℕ) → IsSome (prop_at q self.old) → prop_at q self.new ≡ prop_at q self.old }
+        ensures err { OnErr result (self.new ≡ self.old) }
+    {
+        match place_of(&self.properties, &self.order, term) {
+            Ok(place) => Ok(self.order[place]),
+            Err(place) => {
+                let term = term.to_ground(self.alloc)?;
+                self.properties.reserve(1)?;
+                self.order.reserve(1)?;
+                Ok(put(&mut self.properties, &mut self.order, place, term))
+            }
+        }
+    }
+
+    /// Counts `n` further mentions of a property. It takes no memory.
+    pub fn mention(&mut self, p: PropId, n: u32)
+        requires kept { IsSome (prop_at p.0 self.old) }
+        requires room { IfSome (mentions_at p.0 self.old) (λ count. count + n ≤ 2 ^ 31) }
+        ensures props { IfSome (mentions_at p.0 self.old) (λ count. self.new ≡ with_mentions p.0 (count + n) self.old) }
+        ensures terms { (q : ℕ) → term_at q self.new ≡ term_at q self.old }
+    {
+        self.properties[p.0].mentions += n;
+    }
+
+    /// Counts `n` mentions of a property less. It takes no memory.
+    pub fn release(&mut self, p: PropId, n: u32)
+        requires kept { IsSome (prop_at p.0 self.old) }
+        requires enough { IfSome (mentions_at p.0 self.old) (λ count. n ≤ count) }
+        ensures props { IfSome (mentions_at p.0 self.old) (λ count. self.new ≡ with_mentions p.0 (count - n) self.old) }
+        ensures terms { (q : ℕ) → term_at q self.new ≡ term_at q self.old }
+    {
+        self.properties[p.0].mentions -= n;
+    }
+
+    /// Keeps a property no longer, which nothing mentions. All others stay under their numbers. It takes no
+    /// memory.
+    pub fn forget(&mut self, p: PropId)
+        requires { mentions_at p.0 self.old ≡ Some 0 }
+        ensures props { self.new ≡ without_prop p.0 self.old }
+        ensures gone { prop_at p.0 self.new ≡ None }
+        ensures others { (q : ℕ) → q ≢ p.0 → prop_at q self.new ≡ prop_at q self.old }
+    {
+        take_out(&mut self.properties, &mut self.order, p);
+    }
+}

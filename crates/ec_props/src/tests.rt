@@ -1,0 +1,171 @@
+//! What no clause shows: that memory is given, the order of worked terms, and that many changes in mixed order leave
+//! the right table.
+ghost use Rattle.std.specs.Prelude.{IsSome, IsTrue};
+ghost use Rattle.ec_terms.specs.Term.{ground_of, names_are_names};
+ghost use Rattle.ec_props.specs.Table.{prop_at};
+
+use crate::PropTable;
+use ec_terms::{GroundRef, NoMemory, PropId, order, read_ground};
+use std::process::Abort;
+
+/// Terms in their order.
+const TERMS: [&[u8]; 14] = [
+    b"lamp",
+    b"lamp(-5)",
+    b"lamp(4)",
+    b"lamp(12)",
+    b"lamp(a)",
+    b"lamp(a1)",
+    b"lamp(aB)",
+    b"lamp(aa)",
+    b"lamp(b)",
+    b"lamp(4,4)",
+    b"lamp(4,a)",
+    b"lamp2",
+    b"lamps",
+    b"plug(a,b,c)",
+];
+
+/// Other terms: before all of these, between two of them, and behind all.
+const ABSENT: [&[u8]; 5] = [b"kamp", b"lamp(5)", b"lamp(4,3)", b"plug(a,b)", b"plugs"];
+
+/// A name and a number of arguments, the place of the first of the terms with them, and how many there are.
+const RUNS: [(&[u8], usize, usize, usize); 8] = [
+    (b"kamp", 0, 0, 0),
+    (b"lamp", 0, 0, 1),
+    (b"lamp", 1, 1, 8),
+    (b"lamp", 2, 9, 2),
+    (b"lamp", 3, 11, 0),
+    (b"lamp2", 0, 11, 1),
+    (b"plug", 3, 13, 1),
+    (b"plugs", 0, 14, 0),
+];
+
+/// The term that a text spells.
+fn term<'a>(rt: &impl Abort, spelt: &'a [u8]) -> GroundRef<'a>
+    ensures { IsTrue (names_are_names (ground_of result)) }
+{
+    let (term, _) = read_ground(spelt).expect(rt, "a term");
+    term
+}
+
+/// Keeps a term. Where memory is wanting, it sees that the table is as it was, and tries again.
+fn keep(rt: &impl Abort, table: &mut PropTable, term: &GroundRef<'_>) -> PropId
+    requires { IsTrue (names_are_names (ground_of term.now)) }
+{
+    let count = table.len();
+    match table.intern(term) {
+        Ok(p) => p,
+        Err(NoMemory) => {
+            assert!(rt; table.len() == count && table.lookup(term).is_none());
+            table.intern(term).expect(rt, "memory")
+        }
+    }
+}
+
+/// Whether a term has a name and a number of arguments.
+fn has_arity(term: &GroundRef<'_>, name: &[u8], arity: usize) -> bool {
+    term.name == name && term.args.len() == arity
+}
+
+/// How many properties from a place on have a name and a number of arguments.
+fn count_from(table: &PropTable, first: usize, name: &[u8], arity: usize) -> usize {
+    let mut count = 0;
+    for place in first..table.len() {
+        if has_arity(&table.ground(table.nth_in_order(place)), name, arity) {
+            count += 1;
+        }
+    }
+    count
+}
+
+#[test]
+fn terms_stand_in_order(rt: HostRuntime) {
+    let mut table = PropTable::new(rt.alloc()).expect(&rt, "memory");
+    assert_eq!(rt; table.first_of(b"lamp", 0), 0);
+    for step in 0..TERMS.len() {
+        let _ = keep(&rt, &mut table, &term(&rt, TERMS[step * 5 % TERMS.len()]));
+    }
+    assert_eq!(rt; table.len(), TERMS.len());
+    for (place, spelt) in TERMS.iter().enumerate() {
+        let wanted = term(&rt, spelt);
+        assert!(rt; place < table.len());
+        let p = table.nth_in_order(place);
+        assert!(rt; order(&table.ground(p), &wanted).is_eq(), "at {place}");
+        assert_eq!(rt; table.lookup(&wanted), Some(p), "at {place}");
+        assert_eq!(rt; keep(&rt, &mut table, &wanted), p, "at {place}");
+    }
+    for spelt in ABSENT {
+        assert_eq!(rt; table.lookup(&term(&rt, spelt)), None);
+    }
+    for (name, arity, first, count) in RUNS {
+        assert_eq!(rt; table.first_of(name, arity), first, "at {first}");
+        assert_eq!(rt; count_from(&table, 0, name, arity), count, "at {first}");
+        assert_eq!(rt; count_from(&table, first, name, arity), count, "at {first}");
+    }
+}
+
+/// The text of a term by its number, such that terms go as the numbers do.
+fn numbered(number: usize) -> [u8; 3] {
+    let digit = |place: usize| b'0' + (number / place % 10) as u8;
+    [b'p', digit(10), digit(1)]
+}
+
+/// Forgets a property, or counts a mention less or two more, as `pick` says where it can be done. It answers how
+/// often the property is mentioned then, and `None` where it went.
+fn change(table: &mut PropTable, p: PropId, pick: u32) -> Option<u32>
+    requires { IsSome (prop_at p.0 table.old) }
+{
+    let count = table.mentions(p);
+    if count == 0 && pick == 0 {
+        table.forget(p);
+        return None;
+    }
+    if count > 0 && pick <= 1 {
+        table.release(p, 1);
+        return Some(count - 1);
+    }
+    if count < 1000 {
+        table.mention(p, 2);
+        return Some(count + 2);
+    }
+    Some(count)
+}
+
+#[test]
+fn mixed_changes_leave_the_right_table(rt: HostRuntime) {
+    let mut table = PropTable::new(rt.alloc()).expect(&rt, "memory");
+    let mut counts: [Option<u32>; 100] = [None; 100];
+    let mut state: u32 = 1;
+    for _ in 0..2000 {
+        state = state.wrapping_mul(1664525).wrapping_add(1013904223);
+        let number = (state >> 16) as usize % 100;
+        let spelt = numbered(number);
+        let wanted = term(&rt, &spelt);
+        counts[number] = match table.lookup(&wanted) {
+            Some(p) => {
+                assert_eq!(rt; counts[number], Some(table.mentions(p)), "of {number}");
+                change(&mut table, p, (state >> 8) % 4)
+            }
+            None => {
+                assert_eq!(rt; counts[number], None, "of {number}");
+                let _ = keep(&rt, &mut table, &wanted);
+                Some(0)
+            }
+        };
+    }
+    let mut place = 0;
+    for (number, count) in counts.iter().enumerate() {
+        if let Some(count) = count {
+            assert!(rt; place < table.len());
+            let p = table.nth_in_order(place);
+            assert!(rt;
+                order(&table.ground(p), &term(&rt, &numbered(number))).is_eq(),
+                "of {number}"
+            );
+            assert_eq!(rt; table.mentions(p), *count, "of {number}");
+            place += 1;
+        }
+    }
+    assert_eq!(rt; place, table.len());
+}
