@@ -1,0 +1,12 @@
+pub mod Numbers
+pub mod KeptLists
+pub mod Excluding
+pub mod Leaving
+pub mod FieldLists
+pub mod InTurn
+pub mod RowLemmas
+pub mod RunLemmas
+pub mod FoundLemmas
+pub mod NewRow
+pub mod SameTerms
+pub mod NamedTerms

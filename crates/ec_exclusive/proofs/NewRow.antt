@@ -1,0 +1,109 @@
+-- A new row: its list is that of its neighbours, and they take it into theirs.
+use Rattle.std.proofs.Common.{◌≡◌, Bool, true, false, cond, ◌&&◌, All, IsTrue, IsSome, List, get_or, filter, Option, Some, None, is_some, refl, sym, ap, subst, ◌∙◌, ⊎_elim, arith}
+use Rattle.std.specs.Prelude.{◌==◌, option_map, Vec}
+use Rattle.std.proofs.lemmas.Bool.{cases_Bool, false≢true}
+use Rattle.ec_terms.specs.declared.ids.PropId.{PropId}
+use Rattle.ec_terms.specs.declared.ground.Ground.{Ground}
+use Rattle.ec_terms.specs.declared.theory.Theory.{Theory}
+use Rattle.ec_terms.proofs.DomainLemmas.{are_exclusive-comm, are_exclusive-itself}
+use Rattle.ec_rows.proofs.OrderedLemmas.{and-right}
+use Rattle.ec_props.specs.Table.{KeptProp, prop_at, term_at}
+use Rattle.ec_exclusive.specs.Added.{Added, has_prop, is_by_number, with_number, is_added, added_props, AreMutual, added_of}
+use Rattle.ec_exclusive.specs.Kept.{list_at, lists_of, Lacks, list_with}
+use Rattle.ec_exclusive.specs.Neighbours.{AreNeighbours, both_exclusive, exclusive_at}
+use Rattle.ec_exclusive.proofs.Numbers.{same_prop, has_prop-filter}
+use Rattle.ec_exclusive.proofs.KeptLists.{All-added_of, All-at}
+use Rattle.ec_exclusive.proofs.FieldLists.{get_or-list_at}
+use Rattle.ec_exclusive.proofs.Excluding.{AreListed, AreListed-more, AreMutual-more, added_props-more, is_by_number-filter}
+use Rattle.ec_exclusive.proofs.RowLemmas.{is_some-rows, is_by_number-rows, is_by_number-at}
+
+-- to be exclusive goes both ways
+both_exclusive-comm : (theory : Theory) (p q : Option Ground) → both_exclusive theory p q ≡ both_exclusive theory q p
+both_exclusive-comm theory None None = refl
+both_exclusive-comm theory None (Some q) = refl
+both_exclusive-comm theory (Some p) None = refl
+both_exclusive-comm theory (Some p) (Some q) = are_exclusive-comm theory p q
+
+exclusive_at-comm : (theory : Theory) (table : List KeptProp) (p q : PropId) → exclusive_at theory table p q ≡ exclusive_at theory table q p
+exclusive_at-comm theory table p q = both_exclusive-comm theory (term_at p.0 table) (term_at q.0 table)
+
+-- and nothing is exclusive to itself
+both_exclusive-itself : (theory : Theory) (p : Option Ground) → both_exclusive theory p p ≡ false
+both_exclusive-itself theory None = refl
+both_exclusive-itself theory (Some p) = are_exclusive-itself theory p
+
+exclusive_at-itself : (theory : Theory) (table : List KeptProp) (p : PropId) → exclusive_at theory table p p ≡ false
+exclusive_at-itself theory table p = both_exclusive-itself theory (term_at p.0 table)
+
+none-from : (o : Option (List PropId)) → is_some o ≡ false → o ≡ None
+none-from None none = refl
+none-from (Some ps) none = absurd (false≢true (sym none))
+
+module _ {Z : Type 0} (theory : Theory) (table : List KeptProp) (lists : List (Option (Vec PropId Z))) (rows : List Added) (p : PropId) (own : List PropId)
+    (is : added_of (lists_of lists) ≡ rows) (are : AreNeighbours theory table rows) (absent : is_added p rows ≡ false)
+    (own_is : own ≡ filter (exclusive_at theory table p) (added_props rows)) where
+  abbrev test : PropId → PropId → Bool
+  test = exclusive_at theory table
+
+  pub ascends-own : is_by_number own ≡ true
+  ascends-own = ap is_by_number own_is ∙ is_by_number-filter (test p) (added_props rows) (is_by_number-rows lists rows is)
+
+  listed : AreListed test (added_of (lists_of lists)) (added_props (added_of (lists_of lists)))
+  listed = subst (λ rs. AreListed test rs (added_props rs)) (sym is) are.lists
+
+  -- the lists of the neighbours lack the new property
+  Lacks-from : AreMutual (added_of (lists_of lists)) → (q : PropId) (o : Option (List PropId)) → list_at q lists ≡ o → is_some o ≡ true → Lacks p o
+  Lacks-from mutual_rows q None there some = absurd (false≢true some)
+  Lacks-from mutual_rows q (Some ps) there some =
+      let list : ps ≡ filter (test q) (added_props (added_of (lists_of lists))) =
+      All-at (λ (row : Added). row.neighbours ≡ filter (test row.prop) (added_props (added_of (lists_of lists)))) (lists_of lists) q ps listed (get_or-list_at lists q ∙ there) in
+      let not_added : has_prop p (added_props (added_of (lists_of lists))) ≡ false = ap (is_added p) is ∙ absent in
+      let stands : has_prop p ps ≡ (test q p && has_prop p (added_props (added_of (lists_of lists)))) = ap (has_prop p) list ∙ has_prop-filter p (test q) (added_props (added_of (lists_of lists))) in
+      (is_by_number-at lists q ps mutual_rows there, grind arith)
+
+  pub lacks : AreMutual (added_of (lists_of lists)) → (q : PropId) → IsTrue (has_prop q own) → Lacks p (list_at q lists)
+  lacks mutual_rows q there =
+      let both : (test p q && has_prop q (added_props rows)) ≡ true = sym (ap (has_prop q) own_is ∙ has_prop-filter q (test p) (added_props rows)) ∙ there in
+      Lacks-from mutual_rows q (list_at q lists) refl (is_some-rows lists rows q is ∙ and-right (test p q) (has_prop q (added_props rows)) both)
+
+  module _ (new : List (Option (Vec PropId Z))) (with_own : (q : PropId) → list_at q new ≡ list_with p own q (list_at q lists)) where
+    no_list : get_or (lists_of lists) p.0 None ≡ None
+    no_list = get_or-list_at lists p ∙ none-from (list_at p lists) (is_some-rows lists rows p is ∙ absent)
+
+    own_before : own ≡ filter (test p) (added_props (added_of (lists_of lists)))
+    own_before = own_is ∙ ap (λ rs. filter (test p) (added_props rs)) (sym is)
+
+    after : (q : PropId) → get_or (lists_of new) q.0 None ≡ list_with p own q (get_or (lists_of lists) q.0 None)
+    after q = get_or-list_at new q ∙ with_own q ∙ ap (list_with p own q) (sym (get_or-list_at lists q))
+
+    pub added_props-with : added_props (added_of (lists_of new)) ≡ with_number p (added_props rows)
+    added_props-with =
+        added_props-more test (exclusive_at-comm theory table) (exclusive_at-itself theory table) p (lists_of lists) (lists_of new) own no_list listed own_before after
+        ∙ ap (λ rs. with_number p (added_props rs)) is
+
+    pub AreMutual-with : AreMutual (added_of (lists_of new))
+    AreMutual-with =
+        AreMutual-more test (exclusive_at-comm theory table) (exclusive_at-itself theory table) p (lists_of lists) (lists_of new) own no_list listed own_before after
+
+    -- each is kept
+    module _ (kept : IsSome (prop_at p.0 table)) where
+      abbrev IsKept : Added → Type 0
+      IsKept row = IsSome (prop_at row.prop.0 table)
+
+      kept_before : (q : PropId) (ps : List PropId) (o : Option (List PropId)) (b : Bool) → get_or (lists_of lists) q.0 None ≡ o →
+          cond b (option_map (with_number p) o) o ≡ Some ps → IsSome (prop_at q.0 table)
+      kept_before q ps None true was there = cc
+      kept_before q ps None false was there = cc
+      kept_before q ps (Some old) b was there = All-at IsKept (lists_of lists) q old (subst (All IsKept) (sym is) are.kept) was
+
+      kept_after : (q : PropId) (ps : List PropId) → get_or (lists_of new) q.0 None ≡ Some ps → IsSome (prop_at q.0 table)
+      kept_after q ps there =
+          ⊎_elim (λ e. subst (λ r. IsSome (prop_at r.0 table)) (same_prop p q e) kept)
+          (λ e. let rest : cond (has_prop q own) (option_map (with_number p) (get_or (lists_of lists) q.0 None)) (get_or (lists_of lists) q.0 None) ≡ Some ps = rw e at (sym (after q) ∙ there) in
+          kept_before q ps (get_or (lists_of lists) q.0 None) (has_prop q own) refl rest) (cases_Bool (p.0 == q.0))
+
+      pub AreNeighbours-with : AreNeighbours theory table (added_of (lists_of new))
+      AreNeighbours-with = record {
+        kept = All-added_of IsKept (lists_of new) kept_after;
+        lists = AreListed-more test (exclusive_at-comm theory table) (exclusive_at-itself theory table) p (lists_of lists) (lists_of new) own no_list listed own_before after;
+      }

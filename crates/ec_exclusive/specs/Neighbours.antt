@@ -1,0 +1,63 @@
+-- The neighbours of a theory and a table: which of the added properties are exclusive to which.
+use Rattle.std.specs.Prelude.{◌≡◌, Bool, false, ◌&&◌, ◌==◌, if◌then◌else◌, List, [], length, map, filter, Option, Some, None, IsSome, bytes_eq}
+use Rattle.std.specs.List.{All}
+use Rattle.ec_terms.specs.declared.ids.PropId.{PropId}
+use Rattle.ec_terms.specs.declared.ground.Ground.{Ground}
+use Rattle.ec_terms.specs.declared.pattern.Pattern.{Pattern}
+use Rattle.ec_terms.specs.declared.theory.Exclusive.{Exclusive}
+use Rattle.ec_terms.specs.declared.theory.Theory.{Theory}
+use Rattle.ec_terms.specs.Domain.{are_exclusive}
+use Rattle.ec_props.specs.Table.{KeptProp, prop_at, term_at, props_with, number_of}
+use Rattle.ec_exclusive.specs.Added.{Added, added_props, is_added}
+
+-- two terms are there, and they are exclusive
+abbrev pub both_exclusive : Theory → Option Ground → Option Ground → Bool
+both_exclusive theory None q = false
+both_exclusive theory (Some p) None = false
+both_exclusive theory (Some p) (Some q) = are_exclusive theory p q
+
+-- the terms that a table keeps under two numbers are exclusive
+abbrev pub exclusive_at : Theory → List KeptProp → PropId → PropId → Bool
+exclusive_at theory table p q = both_exclusive theory (term_at p.0 table) (term_at q.0 table)
+
+-- The neighbours of a theory and a table: each added property is kept in the table, and its list is of those added
+-- properties, in the order of their numbers, that are exclusive to it.
+pub record AreNeighbours (theory : Theory) (table : List KeptProp) (rows : List Added) : Type 0 where
+  pub kept : All (λ (row : Added). IsSome (prop_at row.prop.0 table)) rows
+  pub lists : All (λ (row : Added). row.neighbours ≡ filter (exclusive_at theory table row.prop) (added_props rows)) rows
+
+-- a second table keeps each added property under the same number and with the same term
+abbrev pub KeepsTerms : List Added → List KeptProp → List KeptProp → Type 0
+KeepsTerms rows table other = All (λ (row : Added). term_at row.prop.0 other ≡ term_at row.prop.0 table) rows
+
+-- what the neighbours of one table are, they are of every table that keeps the added properties with the same terms
+abbrev pub ReadTermsAlone : Theory → Type 0
+ReadTermsAlone theory = (table other : List KeptProp) (rows : List Added) → KeepsTerms rows table other → AreNeighbours theory table rows → AreNeighbours theory other rows
+
+-- ---- where the neighbours of a new property are looked for
+
+-- a term has the name and the number of arguments of a pattern
+abbrev pub has_form : Ground → Pattern → Bool
+has_form term pattern = bytes_eq term.name pattern.name && (length term.args == length pattern.args)
+
+-- the kept properties with the name and the number of arguments of a pattern
+abbrev pub of_form : List KeptProp → Pattern → List PropId
+of_form table pattern = map number_of (props_with pattern.name (length pattern.args) table)
+
+-- the kept properties that a declaration can join with a term, by names and numbers of arguments alone
+abbrev pub joined : Ground → List KeptProp → Exclusive → List PropId
+joined term table declaration =
+    if has_form term declaration.left then of_form table declaration.right
+    else if has_form term declaration.right then of_form table declaration.left else []
+
+-- two patterns have the same name and number of arguments
+abbrev pub same_form : Pattern → Pattern → Bool
+same_form p q = bytes_eq p.name q.name && (length p.args == length q.args)
+
+-- two declarations have patterns of the same names and numbers of arguments, so that they can join the same properties
+abbrev pub same_forms : Exclusive → Exclusive → Bool
+same_forms d e = same_form d.left e.left && same_form d.right e.right
+
+-- a property is added, and exclusive to a term
+abbrev pub is_neighbour : Theory → List KeptProp → List Added → Ground → PropId → Bool
+is_neighbour theory table rows term q = is_added q rows && both_exclusive theory (Some term) (term_at q.0 table)

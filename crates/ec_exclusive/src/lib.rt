@@ -1,0 +1,13 @@
+//! Which properties of a table are exclusive to which.
+#![tactic(auto)]
+
+mod laws;
+mod lists;
+mod neighbours;
+mod search;
+#[cfg(test)]
+mod tests;
+
+pub use ec_terms::are_exclusive as exclusive;
+pub use laws::neighbours_read_terms_alone;
+pub use neighbours::Neighbours;
