@@ -1,0 +1,5 @@
+pub mod Lists
+pub mod Numbers
+pub mod LastMarks
+pub mod KeptRows
+pub mod MadeChanges

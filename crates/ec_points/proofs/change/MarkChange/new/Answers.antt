@@ -1,0 +1,7 @@
+-- No two of no changes are of one property and time.
+use Rattle.ec_points.specs.Changes.{are_apart}
+use Rattle.ec_points.proofs.Lists.{is_ascending-nil}
+use Rattle.ec_points.proofs.change.MarkChange.new.Goals as goal
+
+pub invariant_of-result : goal.invariant_of-result
+invariant_of-result g c = is_ascending-nil (are_apart g.T.Moment.rank) c.new.result.items c.new.ensures.items

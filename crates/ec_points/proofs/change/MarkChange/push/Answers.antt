@@ -1,0 +1,14 @@
+-- The new change is of another property or time than each before.
+use Rattle.std.proofs.Common.{◌&&◌, IsTrue, subst, sym, ap, ◌∙◌}
+use Rattle.std.specs.Prelude.{◌==◌}
+use Rattle.std.specs.Ordering.{int_eq}
+use Rattle.ec_points.specs.Changes.{are_apart, are_all_apart, has_change}
+use Rattle.ec_points.proofs.Lists.{is_ascending-append_one, list_all-none}
+use Rattle.ec_points.proofs.change.MarkChange.push.Goals as goal
+
+pub invariant_of-self-2 : goal.invariant_of-self-2
+invariant_of-self-2 g c =
+    subst (λ changes. IsTrue (are_all_apart g.T.Moment.rank changes)) (sym c.in_ok-push.ensures.items)
+    (is_ascending-append_one (are_apart g.T.Moment.rank) c.self.inside.changes.items (c.args.p, c.args.mark) c.self.invariant
+    (list_all-none (λ change. change.0.0 == c.args.p.0 && int_eq (g.T.Moment.rank change.1.at) (g.T.Moment.rank c.args.mark.at)) c.self.inside.changes.items
+    (ap (has_change g.T.Moment.rank c.args.p.0 (g.T.Moment.rank c.args.mark.at)) c.self.view_is ∙ c.requires)))

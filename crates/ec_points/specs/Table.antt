@@ -1,0 +1,94 @@
+-- The marks of all properties, and the currency that they tell.
+use Rattle.std.specs.Prelude.{◌≡◌, ◌==◌, ℕ, ℤ, Bool, nat_lt, List, [], map, Option, Some, None, is_some, IsTrue}
+use Rattle.std.specs.List.{list_any, slice_index_or}
+use Rattle.ec_terms.specs.declared.ids.PropId.{PropId}
+use Rattle.ec_terms.specs.declared.ground.Ground.{Ground}
+use Rattle.ec_terms.specs.declared.theory.Theory.{Theory}
+use Rattle.ec_terms.specs.Domain.{is_initial}
+use Rattle.ec_axioms.specs.Calculus.{PlainEvent, is_current}
+use Rattle.ec_axioms.specs.Changes.{is_history}
+use Rattle.ec_axioms.specs.Marks.{PlainMark, marks_of, last_mark_before, current_after}
+use Rattle.ec_rows.specs.Ordered.{is_ascending}
+use Rattle.ec_rows.specs.declared.mark.Mark.{Mark}
+
+-- the row of a property: its marks in order, and how many further marks it takes without memory
+pub record PointRow (T : Type 0) : Type 0 where
+  pub marks : List (Mark T)
+  pub room : ℕ
+
+-- the rows by number, where there are some, and the numbers of the properties that hold from before all events
+pub record PointTable (T : Type 0) : Type 0 where
+  pub rows : List (Option (PointRow T))
+  pub initials : List PropId
+
+-- ---- rows
+
+-- the marks of a row and its room, as a kind of rows tells them
+abbrev pub row_of : {T M : Type 0} → (M → List (Mark T)) → (M → ℕ) → M → PointRow T
+row_of marks spare row = record { marks = marks row; room = spare row }
+
+-- the marks of a row; where there is none, no marks
+abbrev pub marks_in : {T : Type 0} → Option (PointRow T) → List (Mark T)
+marks_in None = []
+marks_in (Some row) = row.marks
+
+-- the room of a row; where there is none, no room
+abbrev pub room_in : {T : Type 0} → Option (PointRow T) → ℕ
+room_in None = 0
+room_in (Some row) = row.room
+
+-- the row of the property of a number, if there is one
+abbrev pub row_at : {T : Type 0} → ℕ → PointTable T → Option (PointRow T)
+row_at n points = slice_index_or points.rows n None
+
+-- the property of a number has a row
+abbrev pub has_row : {T : Type 0} → ℕ → PointTable T → Bool
+has_row n points = is_some (row_at n points)
+
+-- the marks of the property of a number
+abbrev pub marks_at : {T : Type 0} → ℕ → PointTable T → List (Mark T)
+marks_at n points = marks_in (row_at n points)
+
+-- the room of the property of a number
+abbrev pub room_at : {T : Type 0} → ℕ → PointTable T → ℕ
+room_at n points = room_in (row_at n points)
+
+-- ---- initial properties
+
+-- a number stands in a list
+abbrev pub has_number : ℕ → List PropId → Bool
+has_number n props = list_any (λ p. p.0 == n) props
+
+-- a property comes before another where its number is less
+abbrev pub comes_before : PropId → PropId → Bool
+comes_before p q = nat_lt p.0 q.0
+
+-- the numbers ascend, and none stands there twice
+abbrev pub are_ascending : List PropId → Bool
+are_ascending props = is_ascending comes_before props
+
+-- the property of a number is initial
+abbrev pub is_initial_at : {T : Type 0} → ℕ → PointTable T → Bool
+is_initial_at n points = has_number n points.initials
+
+-- ---- currency
+
+-- a mark, with its time as a whole number
+abbrev pub plain_mark : {T : Type 0} → (T → ℤ) → Mark T → PlainMark
+plain_mark rank mark = record { instant = rank mark.at; inits = mark.inits; terms = mark.terms; clashes = mark.clashes }
+
+-- marks, with their times as whole numbers
+abbrev pub plain_marks : {T : Type 0} → (T → ℤ) → List (Mark T) → List PlainMark
+plain_marks rank marks = map (plain_mark rank) marks
+
+-- the property of a number is current at t: the last mark before t initiates it, or there is none and it is initial
+abbrev pub is_current_at : {T : Type 0} → (T → ℤ) → PointTable T → ℕ → ℤ → Bool
+is_current_at rank points n t = current_after (is_initial_at n points) (last_mark_before (plain_marks rank (marks_at n points)) t)
+
+-- Where the marks of a number are those of a term in a history, and it is initial as the term is, its currency is
+-- that of the term.
+abbrev pub TellsCurrency : {T : Type 0} → (T → ℤ) → PointTable T → Type 0
+TellsCurrency rank points =
+    (theory : Theory) (events : List PlainEvent) (term : Ground) (n : ℕ) → IsTrue (is_history events)
+    → plain_marks rank (marks_at n points) ≡ marks_of theory events term → is_initial_at n points ≡ is_initial theory term
+    → (t : ℤ) → is_current_at rank points n t ≡ is_current theory events term t

@@ -1,0 +1,15 @@
+//! The marks of each property, by its number, and the currency that is read off them.
+#![tactic(auto)]
+
+mod change;
+mod initials;
+mod laws;
+mod points;
+mod row;
+mod rows;
+#[cfg(test)]
+mod tests;
+
+pub use change::MarkChange;
+pub use laws::{changes_are_made, points_tell_currency};
+pub use points::Points;

@@ -1,0 +1,140 @@
+ghost use Rattle.std.specs.Prelude.{◌≡◌, ◌≢◌, ℕ, ◌+◌, ◌≤◌, [], IsTrue, IfOk, IfSome, IfNone, OnOk, Some, None, option_map};
+ghost use Rattle.ec_axioms.specs.Marks.{last_mark_before};
+ghost use Rattle.ec_points.specs.Changes.{changed, count_of as changes_of};
+ghost use Rattle.ec_points.specs.Kept.{IsGrown};
+ghost use Rattle.ec_points.specs.Table.{are_ascending, has_number, has_row, is_current_at, is_initial_at, marks_at, plain_mark, plain_marks, room_at, row_at, row_of};
+
+use crate::change::MarkChange;
+use crate::initials::stands_in;
+use crate::row::last_mark;
+use crate::rows::{KeptRow, change_rows, clear_in, empty_rows, find_row, prepare_rows};
+use ec_axioms::Current;
+use ec_moment::Moment;
+use ec_rows::{Mark, MarkRow};
+use ec_terms::{NoMemory, PropId};
+use std::alloc::Global;
+use std::marker::{Model, PhantomData};
+
+/// The marks of each property, a row of them under the number of the property, and the numbers of the
+/// properties that hold from before all events.
+///
+/// After `prepare` has made room for a change, `apply` takes no memory.
+#[derive(Drop)]
+pub struct Points<T: Moment, M: MarkRow<T>> {
+    rows: Vec<Option<KeptRow<M>>>,
+    initials: Vec<PropId>,
+    alloc: Global,
+    moment: PhantomData<T>,
+}
+
+impl<T: Moment, M: MarkRow<T>> Model for Points<T, M> {
+    ghost use Rattle.std.specs.Prelude.{IsTrue};
+    ghost use Rattle.ec_points.specs.Kept.{rows_seen};
+    ghost use Rattle.ec_points.specs.Table.{PointTable, are_ascending};
+
+    ghost Value = { PointTable T };
+
+    ghost view = { λ points. record { rows = rows_seen M.marks M.spare points.rows.items; initials = points.initials.items } };
+
+    ghost invariant = { λ points. IsTrue (are_ascending points.initials.items) };
+}
+
+impl<T: Moment, M: MarkRow<T>> Points<T, M> {
+    /// No rows, and no initial properties.
+    pub fn new(alloc: Global) -> Result<Points<T, M>, NoMemory>
+        ensures rows { IfOk result (λ points. (n : ℕ) → row_at n points ≡ None) }
+        ensures initials { IfOk result (λ points. points.initials ≡ []) }
+    {
+        Ok(Points {
+            rows: Vec::new(alloc),
+            initials: Vec::new(alloc),
+            alloc,
+            moment: PhantomData,
+        })
+    }
+
+    /// The initial properties of these numbers, which ascend; each has a row of no marks from the start.
+    pub fn with_initials(alloc: Global, initials: &[PropId]) -> Result<Points<T, M>, NoMemory>
+        requires { IsTrue (are_ascending initials.now) }
+        ensures initials { IfOk result (λ points. points.initials ≡ initials.now) }
+        ensures rows { IfOk result (λ points. (n : ℕ) → has_row n points ≡ has_number n initials.now) }
+        ensures marks { IfOk result (λ points. (n : ℕ) → marks_at n points ≡ []) }
+    {
+        Ok(Points {
+            rows: empty_rows(alloc, initials)?,
+            initials: initials.to_vec(alloc)?,
+            alloc,
+            moment: PhantomData,
+        })
+    }
+
+    /// Whether a property holds from before all events.
+    pub fn initial(&self, p: PropId) -> bool
+        ensures { result ≡ is_initial_at p.0 self.now }
+    {
+        stands_in(&self.initials, p)
+    }
+
+    /// The row of a property. `None` exactly where it has none.
+    pub fn row(&self, p: PropId) -> Option<&M>
+        ensures some { IfSome result (λ row. row_at p.0 self.now ≡ Some (row_of M.marks M.spare row.now)) }
+        ensures none { IfNone result (row_at p.0 self.now ≡ None) }
+    {
+        find_row(&self.rows, p)
+    }
+
+    /// The last mark of a property strictly before a time.
+    fn last_mark(&self, p: PropId, at: T) -> Option<Mark<T>>
+        ensures { option_map (plain_mark T.rank) result ≡ last_mark_before (plain_marks T.rank (marks_at p.0 self.now)) (T.rank at) }
+    {
+        let row = self.row(p)?;
+        last_mark(row, at)
+    }
+
+    /// Makes room for a change: each property of it gets a row, if it has none, and room in its row for all its
+    /// new marks. `Err` is for want of memory; then some rows may be new, and some have more room.
+    pub fn prepare(&mut self, change: &MarkChange<T>) -> Result<(), NoMemory>
+        ensures room { OnOk result ((n : ℕ) → changes_of n change.now ≤ room_at n self.new) }
+        ensures rows { OnOk result ((n : ℕ) → 1 ≤ changes_of n change.now → IsTrue (has_row n self.new)) }
+        ensures grown { (n : ℕ) → IsGrown (row_at n self.old) (row_at n self.new) }
+        ensures others { (n : ℕ) → changes_of n change.now ≡ 0 → row_at n self.new ≡ row_at n self.old }
+        ensures initials { self.new.initials ≡ self.old.initials }
+    {
+        prepare_rows(&mut self.rows, change, self.alloc)
+    }
+
+    /// Puts each new mark of a change in place of the mark of its property at its time. Three zeros take that mark
+    /// out, if it is there; a row that loses its last mark stays, empty. It takes no memory.
+    pub fn apply(&mut self, change: &MarkChange<T>)
+        requires room { (n : ℕ) → changes_of n change.now ≤ room_at n self.old }
+        ensures marks { (n : ℕ) → marks_at n self.new ≡ changed T.rank n change.now (marks_at n self.old) }
+        ensures room { (n : ℕ) → room_at n self.old ≤ room_at n self.new + changes_of n change.now }
+        ensures rows { (n : ℕ) → has_row n self.new ≡ has_row n self.old }
+        ensures others { (n : ℕ) → changes_of n change.now ≡ 0 → row_at n self.new ≡ row_at n self.old }
+        ensures initials { self.new.initials ≡ self.old.initials }
+    {
+        change_rows(&mut self.rows, change);
+    }
+
+    /// Takes all marks of a property out. Its row stays, empty, if it has one. It takes no memory.
+    pub fn clear(&mut self, p: PropId)
+        ensures marks { marks_at p.0 self.new ≡ [] }
+        ensures room { room_at p.0 self.old ≤ room_at p.0 self.new }
+        ensures row { has_row p.0 self.new ≡ has_row p.0 self.old }
+        ensures others { (n : ℕ) → n ≢ p.0 → row_at n self.new ≡ row_at n self.old }
+        ensures initials { self.new.initials ≡ self.old.initials }
+    {
+        clear_in(&mut self.rows, p);
+    }
+}
+
+impl<T: Moment, M: MarkRow<T>> Current<T> for Points<T, M> {
+    ghost is_current = { is_current_at T.rank };
+
+    fn current(&self, p: PropId, at: T) -> bool {
+        match self.last_mark(p, at) {
+            Some(mark) => mark.inits > 0,
+            None => self.initial(p),
+        }
+    }
+}
