@@ -1,0 +1,6 @@
+pub mod Tables
+pub mod Keepings
+pub mod Shown
+pub mod Rules
+pub mod Limits
+pub mod NewNumbers

@@ -1,0 +1,44 @@
+-- From no new numbers on: what is new is unmentioned, and without it the table is as it was.
+use Rattle.std.proofs.Common.{sym, subst, ◌∙◌, arith}
+use Rattle.ec_context.proofs.Keepings.{AreUnmentioned-none, HasKept-first, IsWidened-kept, IsWidened-same, forgotten}
+use Rattle.std.specs.List.Sorted.{IsStrictlyIncreasing}
+use Rattle.ec_terms.specs.Term.{ground_of}
+use Rattle.ec_terms.proofs.DomainLemmas.{entries_of-ascend}
+use Rattle.ec_check.specs.WellFormed.{IsWellFormed}
+use Rattle.ec_context.proofs.Limits.{few_entries}
+use Rattle.ec_context.proofs.Shown.{IsKeptEntry-shown, length-shown, rules-shown}
+use Rattle.ec_context.proofs.NewNumbers.{names_all_new}
+use Rattle.ec_context.proofs.entries.entries_of.Goals as goal
+
+pub gather-requires-clause-unmentioned : goal.gather-requires-clause-unmentioned
+gather-requires-clause-unmentioned g c = AreUnmentioned-none c.new-added.result.items c.args.props.now c.new-added.ensures.items
+
+pub returns-in-Ok-clause-widened : goal.returns-in-Ok-clause-widened
+returns-in-Ok-clause-widened g c =
+    IsWidened-kept c.args.props.now c.gather.new.props c.gather.new.added.items
+    (HasKept-first c.args.props.now c.gather.new.props c.new-added.result.items c.gather.new.added.items c.new-added.ensures.items c.gather.ensures.kept)
+
+pub returns-clause-err : goal.returns-clause-err
+returns-clause-err g c =
+    c.forget_each.ensures
+    ∙ forgotten c.args.props.now c.gather.new.props c.gather.new.added.items
+    (HasKept-first c.args.props.now c.gather.new.props c.new-added.result.items c.gather.new.added.items c.new-added.ensures.items c.gather.ensures.kept)
+
+pub returns-clause-widened : goal.returns-clause-widened
+returns-clause-widened g c = IsWidened-same c.args.props.now c.forget_each.new.props (returns-clause-err g c)
+
+pub returns-in-Ok-clause-kept : goal.returns-in-Ok-clause-kept
+returns-in-Ok-clause-kept g c = IsKeptEntry-shown c.gather.new.props c.in-Ok.entries _ c.in-Ok.ensures.shown
+
+pub returns-in-Ok-clause-order : goal.returns-in-Ok-clause-order
+returns-in-Ok-clause-order g c =
+    subst IsStrictlyIncreasing (sym (rules-shown c.gather.new.props c.in-Ok.entries _ c.in-Ok.ensures.shown)) (entries_of-ascend c.theory.result.now (ground_of c.borrow.result))
+
+pub returns-in-Ok-clause-few : goal.returns-in-Ok-clause-few
+returns-in-Ok-clause-few g c =
+    let same = length-shown c.gather.new.props c.in-Ok.entries _ c.in-Ok.ensures.shown in
+    let few = few_entries c.theory.result.now (ground_of c.borrow.result) (subst IsWellFormed (sym c.theory.ensures.theory) c.theory.ensures.well_formed) in omega (arith, same, few)
+
+pub returns-in-Ok-clause-named : goal.returns-in-Ok-clause-named
+returns-in-Ok-clause-named g c =
+    names_all_new c.args.props.now c.gather.new.props c.new-added.result.items c.gather.new.added.items c.in-Ok.entries c.new-added.ensures.items c.gather.ensures.kept c.in-Ok.ensures.added

@@ -1,0 +1,3 @@
+pub mod Entries
+pub mod Activity
+pub mod Widened

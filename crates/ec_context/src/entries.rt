@@ -1,0 +1,178 @@
+//! The entries of an event.
+ghost use Rattle.std.specs.Prelude.{◌≡◌, ◌≤◌, ℕ, Some, IsTrue, IsSome, IfOk, OnErr, All, length, map, option_map};
+ghost use Rattle.std.specs.List.{list_any};
+ghost use Rattle.std.specs.Option.{option_to_list};
+ghost use Rattle.std.specs.List.Sorted.{IsStrictlyIncreasing};
+ghost use Rattle.ec_terms.specs.Binding.{fills, stands_in, values_of, IsSmall};
+ghost use Rattle.ec_terms.specs.Domain.{ground_literal_of, entry_of as entry_met, entries_of as all_entries};
+ghost use Rattle.ec_terms.specs.Matchable.{IsMatchable, IsMatchableRule};
+ghost use Rattle.ec_terms.specs.Term.{ground_of, names_are_names};
+ghost use Rattle.ec_check.specs.WellFormed.{IsWellFormed};
+ghost use Rattle.ec_context.specs.Entries.{entry_filled, shown_literal, shown_literals, shown_entry, shown_entries, IsKeptEntry, NamesAllNew, is_named, is_of};
+ghost use Rattle.ec_context.specs.Widened.{AddsOnly, AreUnmentioned, HasKept, IsWidened};
+
+use crate::entry::{Entry, EntryList, EntryLiteral, EntryLiterals};
+use crate::keeping::{forget_each, keep};
+use ec_axioms::Event;
+use ec_check::Checked;
+use ec_moment::Moment;
+use ec_props::PropTable;
+use ec_terms::{
+    Binding, GroundRef, Literal, NoMemory, PropId, Rule, Sequence, Theory, fill_ref, matches,
+    tests_hold,
+};
+use std::alloc::Global;
+
+/// A literal filled in, with the number under which its property is kept from then on.
+fn literal_of<'a>(
+    literal: &'a Literal,
+    binding: &Binding<'a>,
+    props: &mut PropTable,
+    added: &mut Vec<PropId>,
+) -> Result<EntryLiteral, NoMemory>
+    requires small { IsSmall literal.now.prop }
+    requires bound { IsTrue (fills (values_of binding.now) literal.now.prop) }
+    requires unmentioned { AreUnmentioned added.old.items props.old }
+    ensures kept { HasKept props.old added.old.items props.new added.new.items }
+    ensures shown { IfOk result (λ filled. shown_literal props.new filled ≡ Some (ground_literal_of (values_of binding.now) literal.now)) }
+    ensures added { IfOk result (λ filled. AddsOnly (λ id. is_of id filled) added.old.items added.new.items) }
+{
+    let prop = keep(props, added, &fill_ref(&literal.prop, binding))?;
+    Ok(EntryLiteral {
+        positive: literal.positive,
+        prop,
+    })
+}
+
+/// The literals of a rule filled in.
+fn literals_of<'a>(
+    rule: &'a Rule,
+    binding: &Binding<'a>,
+    props: &mut PropTable,
+    added: &mut Vec<PropId>,
+) -> Result<EntryLiterals, NoMemory>
+    requires rule { IsMatchableRule rule.now }
+    requires few { length rule.now.literals ≤ 16 }
+    requires bound { (v : ℕ) → IsTrue (stands_in v rule.now.event) → IsSome (values_of binding.now v) }
+    requires unmentioned { AreUnmentioned added.old.items props.old }
+    ensures kept { HasKept props.old added.old.items props.new added.new.items }
+    ensures shown { IfOk result (λ literals. shown_literals props.new literals ≡ Some (map (ground_literal_of (values_of binding.now)) rule.now.literals)) }
+    ensures added { IfOk result (λ literals. AddsOnly (λ id. list_any (is_of id) literals) added.old.items added.new.items) }
+{
+    let mut literals = EntryLiterals::new();
+    for literal in rule.literals.as_slice() {
+        literals.push(literal_of(literal, binding, props, added)?);
+    }
+    Ok(literals)
+}
+
+/// The entry of an event under the rule of a number, with the properties of its head and its literals filled in by
+/// a binding.
+fn entry_with<'a>(
+    number: u16,
+    rule: &'a Rule,
+    binding: &Binding<'a>,
+    props: &mut PropTable,
+    added: &mut Vec<PropId>,
+) -> Result<Entry, NoMemory>
+    requires rule { IsMatchableRule rule.now }
+    requires few { length rule.now.literals ≤ 16 }
+    requires bound { (v : ℕ) → IsTrue (stands_in v rule.now.event) → IsSome (values_of binding.now v) }
+    requires unmentioned { AreUnmentioned added.old.items props.old }
+    ensures kept { HasKept props.old added.old.items props.new added.new.items }
+    ensures shown { IfOk result (λ entry. shown_entry props.new entry ≡ Some (entry_filled number rule.now (values_of binding.now))) }
+    ensures added { IfOk result (λ entry. AddsOnly (λ id. is_named id entry) added.old.items added.new.items) }
+{
+    let head = keep(props, added, &fill_ref(&rule.head, binding))?;
+    let literals = literals_of(rule, binding, props, added)?;
+    Ok(Entry {
+        rule: number,
+        kind: rule.kind,
+        head,
+        literals,
+    })
+}
+
+/// The entry of an event under the rule of a number. `None` exactly where the event does not meet the rule.
+fn entry_of<'a>(
+    number: u16,
+    rule: &'a Rule,
+    event: &GroundRef<'a>,
+    props: &mut PropTable,
+    added: &mut Vec<PropId>,
+) -> Result<Option<Entry>, NoMemory>
+    requires rule { IsMatchableRule rule.now }
+    requires few { length rule.now.literals ≤ 16 }
+    requires named { IsTrue (names_are_names (ground_of event.now)) }
+    requires unmentioned { AreUnmentioned added.old.items props.old }
+    ensures kept { HasKept props.old added.old.items props.new added.new.items }
+    ensures shown { IfOk result (λ met. option_map (shown_entry props.new) met ≡ option_map Some (entry_met number rule.now (ground_of event.now))) }
+    ensures added { IfOk result (λ met. AddsOnly (λ id. list_any (is_named id) (option_to_list met)) added.old.items added.new.items) }
+{
+    let Some(binding) = matches(&rule.event, event) else {
+        return Ok(None);
+    };
+    if !tests_hold(rule, &binding) {
+        return Ok(None);
+    }
+    let entry = entry_with(number, rule, &binding, props, added)?;
+    Ok(Some(entry))
+}
+
+/// The entries of an event under the rules of a theory, numbered from 1.
+fn gather<'a>(
+    alloc: Global,
+    theory: &'a Theory,
+    event: &GroundRef<'a>,
+    props: &mut PropTable,
+    added: &mut Vec<PropId>,
+) -> Result<EntryList, NoMemory>
+    requires matchable { IsMatchable theory.now }
+    requires well_formed { IsWellFormed theory.now }
+    requires named { IsTrue (names_are_names (ground_of event.now)) }
+    requires unmentioned { AreUnmentioned added.old.items props.old }
+    ensures kept { HasKept props.old added.old.items props.new added.new.items }
+    ensures shown { IfOk result (λ entries. shown_entries props.new entries ≡ Some (all_entries theory.now (ground_of event.now))) }
+    ensures added { IfOk result (λ entries. AddsOnly (λ id. list_any (is_named id) entries) added.old.items added.new.items) }
+{
+    let mut entries = Sequence::new(alloc);
+    for (i, rule) in theory.rules.as_slice().iter().enumerate() {
+        if let Some(entry) = entry_of((i + 1) as u16, rule, event, props, added)? {
+            entries.push(entry)?;
+        }
+    }
+    Ok(entries)
+}
+
+/// The entries of an event by a theory, in the order of the rules' numbers. The properties of their heads and their
+/// literals are kept in the table from then on, and those that are new are mentioned 0 times. `Err` is for want of
+/// memory, and then the table is as it was.
+pub fn entries_of<T: Moment>(
+    alloc: Global,
+    checked: &Checked,
+    event: &Event<T>,
+    props: &mut PropTable,
+) -> Result<EntryList, NoMemory>
+    ensures entries { IfOk result (λ entries. shown_entries props.new entries ≡ Some (all_entries checked.now event.now.term)) }
+    ensures kept { IfOk result (λ entries. All (IsKeptEntry props.new) entries) }
+    ensures order { IfOk result (λ entries. IsStrictlyIncreasing (map (λ entry. entry.rule) entries)) }
+    ensures few { IfOk result (λ entries. length entries ≤ 64) }
+    ensures named { IfOk result (λ entries. NamesAllNew props.old props.new entries) }
+    ensures widened { IsWidened props.old props.new }
+    ensures err { OnErr result (props.new ≡ props.old) }
+{
+    let mut added = Vec::new(alloc);
+    match gather(
+        alloc,
+        checked.theory(),
+        &event.term.borrow(),
+        props,
+        &mut added,
+    ) {
+        Ok(entries) => Ok(entries),
+        Err(refused) => {
+            forget_each(props, &mut added);
+            Err(refused)
+        }
+    }
+}

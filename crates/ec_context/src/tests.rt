@@ -1,0 +1,391 @@
+//! What no clause shows: that memory is given, and the entries of worked events and when they are active.
+ghost use Rattle.std.specs.Prelude.{◌≡◌, ◌<◌};
+
+use crate::{Entry, EntryList, EntryLiteral, entries_of, evaluate};
+use ec_axioms::{Current, Event, Steps};
+use ec_check::{Checked, check};
+use ec_moment::Tick;
+use ec_props::PropTable;
+use ec_terms::{
+    Kind, Literal, Literals, Name, NoMemory, PatArg, PatArgs, Pattern, PropId, Rule, Sequence,
+    Test, TestOp, Tests, Theory, read_ground,
+};
+use std::alloc::Global;
+use std::marker::Brand;
+use std::process::Abort;
+use std::sync::ledger::{Blank, Ledger};
+use std::test::Fail;
+
+/// A pattern, by its name and its variables.
+type Shape = (&'static [u8], &'static [u32]);
+
+/// A rule: its kind, its event, its head, its literals, and the variables that are to have the same value.
+type Clause = (
+    Kind,
+    Shape,
+    Shape,
+    &'static [(bool, Shape)],
+    &'static [(u32, u32)],
+);
+
+/// A lamp that is lit or put out by a push where it is powered, persons who move, a push of a thing by itself, and a
+/// move of a place to itself.
+const RULES: [Clause; 6] = [
+    (
+        Kind::Initiates,
+        (b"push", &[0, 1]),
+        (b"lit", &[1]),
+        &[(true, (b"powered", &[1])), (false, (b"lit", &[1]))],
+        &[],
+    ),
+    (
+        Kind::Terminates,
+        (b"push", &[0, 1]),
+        (b"lit", &[1]),
+        &[(true, (b"lit", &[1]))],
+        &[],
+    ),
+    (
+        Kind::Initiates,
+        (b"plug", &[0]),
+        (b"powered", &[0]),
+        &[],
+        &[],
+    ),
+    (
+        Kind::Initiates,
+        (b"move", &[0, 1]),
+        (b"at", &[0, 1]),
+        &[],
+        &[],
+    ),
+    (
+        Kind::Initiates,
+        (b"push", &[0, 1]),
+        (b"moved", &[0]),
+        &[],
+        &[(0, 1)],
+    ),
+    (
+        Kind::Initiates,
+        (b"move", &[0, 0]),
+        (b"still", &[0]),
+        &[],
+        &[],
+    ),
+];
+
+/// An entry that is wanted: the number of its rule, its kind, its head and its literals.
+type Wanted = (u16, Kind, &'static [u8], &'static [(bool, &'static [u8])]);
+
+/// An event and the entries that it has.
+type Row = (&'static [u8], &'static [Wanted]);
+
+const ROWS: [Row; 7] = [
+    (
+        b"push(bob,l1)",
+        &[
+            (
+                1,
+                Kind::Initiates,
+                b"lit(l1)",
+                &[(true, b"powered(l1)"), (false, b"lit(l1)")],
+            ),
+            (2, Kind::Terminates, b"lit(l1)", &[(true, b"lit(l1)")]),
+        ],
+    ),
+    (b"plug(l1)", &[(3, Kind::Initiates, b"powered(l1)", &[])]),
+    (
+        b"move(bob,home)",
+        &[(4, Kind::Initiates, b"at(bob,home)", &[])],
+    ),
+    // a variable that stands twice, with one value
+    (
+        b"move(home,home)",
+        &[
+            (4, Kind::Initiates, b"at(home,home)", &[]),
+            (6, Kind::Initiates, b"still(home)", &[]),
+        ],
+    ),
+    // a test that holds
+    (
+        b"push(l2,l2)",
+        &[
+            (
+                1,
+                Kind::Initiates,
+                b"lit(l2)",
+                &[(true, b"powered(l2)"), (false, b"lit(l2)")],
+            ),
+            (2, Kind::Terminates, b"lit(l2)", &[(true, b"lit(l2)")]),
+            (5, Kind::Initiates, b"moved(l2)", &[]),
+        ],
+    ),
+    (b"push(bob)", &[]),
+    (b"ring", &[]),
+];
+
+fn pattern(rt: &impl Abort, alloc: Global, shape: Shape) -> Result<Pattern, NoMemory> {
+    let (name, variables) = shape;
+    let mut args = PatArgs::new(alloc);
+    for variable in variables {
+        args.push(PatArg::Var(*variable))?;
+    }
+    let name = Name::from_bytes(name).expect(rt, "a name");
+    Ok(Pattern { name, args })
+}
+
+fn literals(
+    rt: &impl Abort,
+    alloc: Global,
+    conditions: &[(bool, Shape)],
+) -> Result<Literals, NoMemory> {
+    let mut literals = Literals::new(alloc);
+    for (positive, prop) in conditions {
+        literals.push(Literal {
+            positive: *positive,
+            prop: pattern(rt, alloc, *prop)?,
+        })?;
+    }
+    Ok(literals)
+}
+
+/// Tests that variables have the same value.
+fn same_values(alloc: Global, same: &[(u32, u32)]) -> Result<Tests, NoMemory> {
+    let mut tests = Tests::new(alloc);
+    for (left, right) in same {
+        tests.push(Test {
+            op: TestOp::Same,
+            left: PatArg::Var(*left),
+            right: PatArg::Var(*right),
+        })?;
+    }
+    Ok(tests)
+}
+
+fn rule(rt: &impl Abort, alloc: Global, clause: &Clause) -> Result<Rule, NoMemory> {
+    let (kind, event, head, conditions, same) = clause;
+    let event = pattern(rt, alloc, *event)?;
+    let head = pattern(rt, alloc, *head)?;
+    let tests = same_values(alloc, *same)?;
+    let literals = literals(rt, alloc, *conditions)?;
+    Ok(Rule {
+        clause: 1,
+        kind: *kind,
+        event,
+        head,
+        tests,
+        literals,
+    })
+}
+
+fn theory(rt: &impl Abort, alloc: Global, clauses: &[Clause]) -> Result<Checked, NoMemory> {
+    let mut rules = Sequence::new(alloc);
+    for clause in clauses {
+        rules.push(rule(rt, alloc, clause)?)?;
+    }
+    let checked = check(Theory {
+        rules,
+        exclusives: Sequence::new(alloc),
+        strongs: Sequence::new(alloc),
+        initials: Sequence::new(alloc),
+    });
+    Ok(checked.ok().expect(rt, "a theory without a fault"))
+}
+
+fn event(rt: &impl Abort, alloc: Global, spelt: &[u8]) -> Result<Event<Tick>, NoMemory> {
+    let (term, _) = read_ground(spelt).expect(rt, "a term");
+    Ok(Event {
+        id: Name::from_bytes(b"e").expect(rt, "a name"),
+        at: Tick(10),
+        term: term.to_ground(alloc)?,
+    })
+}
+
+/// Whether a table keeps the term of a text under a number.
+fn is_kept_as(rt: &impl Abort, props: &PropTable, p: PropId, spelt: &[u8]) -> bool {
+    let (term, _) = read_ground(spelt).expect(rt, "a term");
+    props.lookup(&term) == Some(p)
+}
+
+/// Whether a literal is the one that is wanted.
+fn is_literal(
+    rt: &impl Abort,
+    props: &PropTable,
+    literal: EntryLiteral,
+    wanted: &(bool, &'static [u8]),
+) -> bool {
+    literal.positive == wanted.0 && is_kept_as(rt, props, literal.prop, wanted.1)
+}
+
+/// Whether an entry is the one that is wanted.
+fn is_entry(rt: &impl Abort, props: &PropTable, entry: &Entry, wanted: &Wanted) -> bool {
+    let (number, kind, head, literals) = wanted;
+    if entry.rule != *number || entry.kind != *kind || entry.literals.len() != literals.len() {
+        return false;
+    }
+    for (literal, wanted) in entry.literals.as_slice().iter().zip(*literals) {
+        if !is_literal(rt, props, *literal, wanted) {
+            return false;
+        }
+    }
+    is_kept_as(rt, props, entry.head, head)
+}
+
+/// The entries of an event. Where memory is wanting, it sees that no property is kept, and tries again.
+fn entries(
+    rt: &impl Abort,
+    alloc: Global,
+    checked: &Checked,
+    event: &Event<Tick>,
+    props: &mut PropTable,
+) -> Result<EntryList, NoMemory> {
+    let count = props.len();
+    match entries_of(alloc, checked, event, props) {
+        Ok(entries) => Ok(entries),
+        Err(NoMemory) => {
+            assert!(rt; props.len() == count);
+            entries_of(alloc, checked, event, props)
+        }
+    }
+}
+
+/// Whether entries are those that are wanted.
+fn are_entries(rt: &impl Abort, props: &PropTable, found: &[Entry], wanted: &[Wanted]) -> bool {
+    if found.len() != wanted.len() {
+        return false;
+    }
+    for (entry, wanted) in found.iter().zip(wanted) {
+        if !is_entry(rt, props, entry, wanted) {
+            return false;
+        }
+    }
+    true
+}
+
+/// Whether an event has the entries that are wanted.
+fn row_stands(
+    rt: &impl Abort,
+    alloc: Global,
+    checked: &Checked,
+    props: &mut PropTable,
+    row: &Row,
+) -> Result<bool, NoMemory> {
+    let event = event(rt, alloc, row.0)?;
+    let found = entries(rt, alloc, checked, &event, props)?;
+    Ok(are_entries(rt, props, found.as_slice(), row.1))
+}
+
+/// Whether each event has the entries that are wanted, all kept in one table of so many properties.
+fn rows_stand(
+    rt: &impl Abort,
+    alloc: Global,
+    checked: &Checked,
+    rows: &[Row],
+    count: usize,
+) -> Result<bool, NoMemory> {
+    let mut props = PropTable::new(alloc)?;
+    for row in rows {
+        if !row_stands(rt, alloc, checked, &mut props, row)? {
+            return Ok(false);
+        }
+    }
+    Ok(props.len() == count)
+}
+
+#[test]
+fn events_have_their_entries(rt: HostRuntime) -> Result<(), Fail> {
+    let checked = theory(&rt, rt.alloc(), &RULES)?;
+    // lit(l1), powered(l1), at(bob,home), at(home,home), still(home), lit(l2), powered(l2), moved(l2)
+    assert!(rt; rows_stand(&rt, rt.alloc(), &checked, &ROWS, 8)?);
+    Ok(())
+}
+
+/// What is current, at each time.
+#[derive(Drop)]
+struct Listed<'p> {
+    props: &'p [PropId],
+}
+
+impl<'p> Current<Tick> for Listed<'p> {
+    ghost use Rattle.ec_context.specs.Widened.{is_among};
+
+    ghost is_current = { λ listed id t. is_among id listed.props.now };
+
+    fn current(&self, p: PropId, _at: Tick) -> bool {
+        self.props.iter().any(|q| q.0 == p.0)
+    }
+}
+
+/// What is current at a push, and whether its two entries are active then.
+type Case = (&'static [&'static [u8]], [bool; 2]);
+
+const CASES: [Case; 4] = [
+    (&[], [false, false]),
+    (&[b"powered(l1)"], [true, false]),
+    (&[b"lit(l1)"], [false, true]),
+    (&[b"powered(l1)", b"lit(l1)"], [false, true]),
+];
+
+/// The numbers of some kept properties.
+fn numbers(
+    rt: &impl Abort,
+    alloc: Global,
+    props: &PropTable,
+    spelt: &[&'static [u8]],
+) -> Result<Vec<PropId>, NoMemory> {
+    let mut listed = Vec::new(alloc);
+    for term in spelt {
+        let (term, _) = read_ground(*term).expect(rt, "a term");
+        listed.push(props.lookup(&term).expect(rt, "a kept property"))?;
+    }
+    Ok(listed)
+}
+
+/// Whether entries are active where it is wanted.
+fn are_active<L: Ledger>(
+    found: &[Entry],
+    current: &Listed<'_>,
+    wanted: &[bool],
+    steps: &mut Steps<L>,
+) -> bool {
+    for (entry, is_active) in found.iter().zip(wanted) {
+        if evaluate(entry, Tick(10), &*current, &mut *steps) != *is_active {
+            return false;
+        }
+    }
+    found.len() == wanted.len()
+}
+
+/// Whether the entries of a push are active where it is wanted.
+fn cases_stand<L: Ledger>(
+    rt: &impl Abort,
+    alloc: Global,
+    checked: &Checked,
+    cases: &[Case],
+    blank: Blank,
+) -> Result<bool, NoMemory>
+    requires name { blank.name ≡ L.name }
+    requires parts { blank.parts ≡ L.parts }
+    requires some { 0 < L.parts }
+{
+    let mut steps = Steps::<L>::new(blank);
+    let mut props = PropTable::new(alloc)?;
+    let push = event(rt, alloc, b"push(bob,l1)")?;
+    let found = entries(rt, alloc, checked, &push, &mut props)?;
+    for (spelt, wanted) in cases {
+        let listed = numbers(rt, alloc, &props, *spelt)?;
+        let current = Listed { props: &listed };
+        if !are_active(found.as_slice(), &current, wanted, &mut steps) {
+            return Ok(false);
+        }
+    }
+    Ok(true)
+}
+
+#[test]
+fn entries_are_active_where_their_literals_agree(rt: HostRuntime) -> Result<(), Fail> {
+    let checked = theory(&rt, rt.alloc(), &RULES)?;
+    assert!(rt; cases_stand::<Brand>(&rt, rt.alloc(), &checked, &CASES, Blank::new(1))?);
+    Ok(())
+}
