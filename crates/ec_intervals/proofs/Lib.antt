@@ -1,0 +1,5 @@
+mod KeptRows
+mod Pass
+mod PassOrder
+mod Written
+mod FirstBroken

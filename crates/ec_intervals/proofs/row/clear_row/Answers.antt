@@ -1,0 +1,9 @@
+-- No spans are left behind the last.
+use Rattle.std.proofs.Common.{arith}
+use Rattle.std.proofs.Math.ListN.{drop_of_length-le}
+use Rattle.ec_rows.proofs.SpanLemmas.{IsSpanRow-nil}
+use Rattle.ec_intervals.proofs.row.clear_row.Goals as goal
+
+pub splice-requires-clause-spans : goal.splice-requires-clause-spans
+splice-requires-clause-spans g c =
+    IsSpanRow-nil g.T.Moment.rank _ (drop_of_length-le (g.I.SpanRow.spans c.args.kept.now.spans) (omega (arith, c.len-len.ensures.len)))

@@ -1,0 +1,59 @@
+-- A row of marks read from left to right: which begin is open in front of a mark, and what a mark ends, breaks and opens.
+use Rattle.std.specs.Prelude.{Bool, true, false, not, ◌&&◌, ◌||◌, if◌then◌else◌, List, ℤ, int_le, Option, Some, None, option_map, is_some, IsTrue}
+use Rattle.std.specs.List.{list_all}
+use Rattle.std.specs.Option.{option_map_or}
+use Rattle.ec_axioms.specs.Timeline.{Begin, before_all, begin_at, Interval, is_after}
+use Rattle.ec_axioms.specs.Marks.{PlainMark, mark_initiates, mark_terminates, mark_breaks}
+use Rattle.ec_rows.specs.Ordered.{is_ascending}
+
+-- ---- the open begin
+
+-- in front of all marks that before all events is open, where the property is initial
+abbrev pub first_open : Bool → Option Begin
+first_open initial = if initial then Some before_all else None
+
+-- a mark opens: it initiates, and it breaks or no begin is open
+abbrev pub mark_opens : Bool → Option Begin → PlainMark → Bool
+mark_opens strong begun mark = mark_initiates mark && (mark_breaks strong mark || not (is_some begun))
+
+-- the begin that is open behind a mark: that of the mark where it opens, none where it only breaks, else the one before it
+abbrev pub open_behind : Bool → Option Begin → PlainMark → Option Begin
+open_behind strong begun mark = if mark_opens strong begun mark then Some (begin_at mark.instant) else (if mark_breaks strong mark then None else begun)
+
+-- ---- what becomes of it
+
+-- the interval from a begin up to an instant
+abbrev pub interval_up_to : ℤ → Begin → Interval
+interval_up_to t begin = record { from = begin; until = Some t }
+
+-- the interval from a begin that has no end
+abbrev pub unended_interval : Begin → Interval
+unended_interval begin = record { from = begin; until = None }
+
+-- the interval that a mark ends: from the open begin up to the mark, where the mark terminates
+abbrev pub ended_by : Option Begin → PlainMark → Option Interval
+ended_by begun mark = if mark_terminates mark then option_map (interval_up_to mark.instant) begun else None
+
+-- the begin that a mark breaks: the open one, where the mark breaks and does not terminate
+abbrev pub broken_by : Bool → Option Begin → PlainMark → Option (Begin × ℤ)
+broken_by strong begun mark = if mark_breaks strong mark && not (mark_terminates mark) then option_map (λ begin. (begin, mark.instant)) begun else None
+
+-- ---- intervals in order
+
+-- an end lies after its begin
+abbrev pub is_proper : Interval → Bool
+is_proper interval = option_map_or (is_after interval.from) interval.until true
+
+-- a begin is an instant from x on
+abbrev pub begins_from : ℤ → Begin → Bool
+begins_from x before_all = false
+begins_from x (begin_at s) = int_le x s
+
+-- an interval comes before another where it ends by the begin of the other
+abbrev pub comes_before : Interval → Interval → Bool
+comes_before interval other = option_map_or (λ x. begins_from x other.from) interval.until false
+
+-- a row of intervals: each is proper and ends by the begin of those behind it
+pub record IsIntervalRow (intervals : List Interval) : Type 0 where
+  pub proper : IsTrue (list_all is_proper intervals)
+  pub ascending : IsTrue (is_ascending comes_before intervals)

@@ -1,0 +1,109 @@
+-- The intervals of all properties, by number, and how times in them are read as whole numbers.
+use Rattle.std.specs.Prelude.{◌≡◌, ◌++◌, ◌<◌, ◌≤◌, ◌^◌, ℕ, ℤ, Bool, List, [], ◌∷◌, map, length, Option, Some, None, is_some, IsTrue}
+use Rattle.std.specs.List.{slice_index_or}
+use Rattle.ec_axioms.specs.Timeline.{Begin as PlainBegin, before_all, begin_at, Interval as PlainInterval}
+use Rattle.ec_rows.specs.declared.span.End.{End}
+use Rattle.ec_rows.specs.declared.span.End.TheVariants.{At as Ended, Unended}
+use Rattle.ec_rows.specs.declared.span.Span.{Span}
+use Rattle.ec_intervals.specs.declared.interval.Begin.{Begin}
+use Rattle.ec_intervals.specs.declared.interval.Begin.TheVariants.{Initial, At}
+use Rattle.ec_intervals.specs.declared.interval.Interval.{Interval}
+
+-- the row of a property: the end of its front, which is the interval from before all events, if it has that one;
+-- its spans, which are its intervals from a time; and how many further spans it takes without memory
+pub record IntervalRow (T : Type 0) : Type 0 where
+  pub front : Option (End T)
+  pub spans : List (Span T)
+  pub room : ℕ
+
+-- the rows by number, where there are some
+abbrev pub IntervalTable : Type 0 → Type 0
+IntervalTable T = List (Option (IntervalRow T))
+
+-- ---- rows
+
+-- the end of the front of a row, if it has one
+abbrev pub front_in : {T : Type 0} → Option (IntervalRow T) → Option (End T)
+front_in None = None
+front_in (Some row) = row.front
+
+-- the spans of a row; where there is none, no spans
+abbrev pub spans_in : {T : Type 0} → Option (IntervalRow T) → List (Span T)
+spans_in None = []
+spans_in (Some row) = row.spans
+
+-- the room of a row; where there is none, no room
+abbrev pub room_in : {T : Type 0} → Option (IntervalRow T) → ℕ
+room_in None = 0
+room_in (Some row) = row.room
+
+-- a span as an interval
+abbrev pub span_interval : {T : Type 0} → Span T → Interval T
+span_interval span = record { from = At span.from; end = span.end }
+
+-- the interval from before all events, if there is one
+abbrev pub front_members : {T : Type 0} → Option (End T) → List (Interval T)
+front_members None = []
+front_members (Some end) = record { from = Initial; end = end } ∷ []
+
+-- the intervals of a row: the front first, then the spans
+abbrev pub members_in : {T : Type 0} → Option (IntervalRow T) → List (Interval T)
+members_in row = front_members (front_in row) ++ map span_interval (spans_in row)
+
+-- ---- by number
+
+-- the row of the property of a number, if there is one
+abbrev pub row_at : {T : Type 0} → ℕ → IntervalTable T → Option (IntervalRow T)
+row_at n table = slice_index_or table n None
+
+-- the property of a number has a row
+abbrev pub has_row : {T : Type 0} → ℕ → IntervalTable T → Bool
+has_row n table = is_some (row_at n table)
+
+-- the end of the front, the spans, the room and the intervals of the property of a number
+abbrev pub front_at : {T : Type 0} → ℕ → IntervalTable T → Option (End T)
+front_at n table = front_in (row_at n table)
+
+abbrev pub spans_at : {T : Type 0} → ℕ → IntervalTable T → List (Span T)
+spans_at n table = spans_in (row_at n table)
+
+abbrev pub room_at : {T : Type 0} → ℕ → IntervalTable T → ℕ
+room_at n table = room_in (row_at n table)
+
+abbrev pub members_at : {T : Type 0} → ℕ → IntervalTable T → List (Interval T)
+members_at n table = members_in (row_at n table)
+
+-- each property has so few intervals that a word counts them
+abbrev pub AreFew : {T : Type 0} → IntervalTable T → Type 0
+AreFew table = (n : ℕ) → length (members_at n table) < 2 ^ 64
+
+-- the front and the spans stay, no room falls, and a row stays there
+pub record IsGrown {T : Type 0} (old new : Option (IntervalRow T)) : Type 0 where
+  pub front : front_in new ≡ front_in old
+  pub spans : spans_in new ≡ spans_in old
+  pub room : room_in old ≤ room_in new
+  pub kept : IsTrue (is_some old) → IsTrue (is_some new)
+
+-- ---- times as whole numbers
+
+-- a begin, with its time as a whole number
+abbrev pub plain_begin : {T : Type 0} → (T → ℤ) → Begin T → PlainBegin
+plain_begin rank Initial = before_all
+plain_begin rank (At t) = begin_at (rank t)
+
+-- an end, with its time as a whole number
+abbrev pub plain_end : {T : Type 0} → (T → ℤ) → End T → Option ℤ
+plain_end rank (Ended t) = Some (rank t)
+plain_end rank Unended = None
+
+-- an interval, with its times as whole numbers
+abbrev pub plain_interval : {T : Type 0} → (T → ℤ) → Interval T → PlainInterval
+plain_interval rank interval = record { from = plain_begin rank interval.from; until = plain_end rank interval.end }
+
+-- intervals, with their times as whole numbers
+abbrev pub plain_intervals : {T : Type 0} → (T → ℤ) → List (Interval T) → List PlainInterval
+plain_intervals rank intervals = map (plain_interval rank) intervals
+
+-- a broken begin with its break, with their times as whole numbers
+abbrev pub plain_broken : {T : Type 0} → (T → ℤ) → Begin T × T → PlainBegin × ℤ
+plain_broken rank broken = (plain_begin rank broken.0, rank broken.1)

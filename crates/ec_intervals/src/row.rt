@@ -1,0 +1,55 @@
+//! The row of one property: its intervals, read and written.
+ghost use Rattle.std.specs.Prelude.{◌≡◌, ◌<◌, ◌≤◌, ◌^◌, [], None, Some, length, slice_get};
+ghost use Rattle.ec_intervals.specs.Kept.{seen};
+ghost use Rattle.ec_intervals.specs.Table.{members_in};
+
+use crate::interval::{Begin, Interval, span_interval};
+use ec_moment::Moment;
+use ec_rows::{End, Span, SpanRow};
+
+/// The row of a property: the end of its front, if it has one, and its spans.
+#[derive(Drop)]
+pub(crate) struct KeptRow<T: Moment, I: Drop> {
+    pub(crate) front: Option<End<T>>,
+    pub(crate) spans: I,
+}
+
+/// How many intervals a row has.
+pub(crate) fn count_members<T: Moment, I: SpanRow<T>>(kept: &KeptRow<T, I>) -> usize
+    requires { length (members_in (Some (seen I.spans I.spare kept.now))) < 2 ^ 64 }
+    ensures { result ≡ length (members_in (Some (seen I.spans I.spare kept.now))) }
+{
+    match kept.front {
+        Some(_) => kept.spans.len() + 1,
+        None => kept.spans.len(),
+    }
+}
+
+/// The interval at a place, the front first.
+pub(crate) fn member_of<T: Moment, I: SpanRow<T>>(kept: &KeptRow<T, I>, i: usize) -> Interval<T>
+    requires { i < length (members_in (Some (seen I.spans I.spare kept.now))) }
+    ensures { slice_get (members_in (Some (seen I.spans I.spare kept.now))) i ≡ Some result }
+{
+    let Some(end) = kept.front else {
+        return span_interval(kept.spans.get(i));
+    };
+    if i == 0 {
+        return Interval {
+            from: Begin::Initial,
+            end,
+        };
+    }
+    span_interval(kept.spans.get(i - 1))
+}
+
+/// Takes the front and all spans out.
+pub(crate) fn clear_row<T: Moment, I: SpanRow<T>>(kept: &mut KeptRow<T, I>)
+    ensures front { kept.new.front ≡ None }
+    ensures spans { I.spans kept.new.spans ≡ [] }
+    ensures room { I.spare kept.old.spans ≤ I.spare kept.new.spans }
+{
+    kept.front = None;
+    let len = kept.spans.len();
+    let none: [Span<T>; 0] = [];
+    kept.spans.splice(0, len, &none);
+}
