@@ -1,4 +1,10 @@
 pub mod LineSteps
 pub mod Places
 pub mod Serving
+pub mod Parts
 pub mod Pieces
+pub mod Takings
+pub mod Endings
+pub mod Outcomes
+pub mod TheoryTexts
+pub mod Codes

@@ -8,6 +8,7 @@ use Rattle.ec_server.specs.declared.handled.Handled.{Handled}
 use Rattle.ec_server.specs.declared.handled.Handled.TheVariants.{Go, Bye, WriteFault}
 use Rattle.ec_server.specs.Handling.{Language, IsHandled, IsServing}
 use Rattle.ec_server.specs.Serving.{IsAt, IsServed}
+use Rattle.ec_server.proofs.Parts.{AnswersPart-line}
 use Rattle.ec_server.proofs.Serving.{IsServing-piece, IsServing-line, HasQuit-line}
 
 module _ {K : Type 0} (stands : K → List ℕ → Type 0) (language : Language) where
@@ -25,7 +26,8 @@ module _ {K : Type 0} (stands : K → List ℕ → Type 0) (language : Language)
     serving = IsServing-line same serving answered;
   }
   IsServed-line Bye taken longer line state after next start now then_ serving same none answered part = HasQuit-line longer [] same (sym (append-nil longer)) serving answered
-  IsServed-line WriteFault taken longer line state after next start now then_ serving same none answered part = tt
+  IsServed-line WriteFault taken longer line state after next start now then_ serving same none answered part =
+      record { done = longer; rest = []; split = sym (append-nil longer); part = AnswersPart-line same serving answered }
 
   -- what the handling of the line that is ready leaves
   pub IsServed-ready : (handled : Handled) (is_ready : Bool) (taken longer : List ℕ) (state after : State) (feed next : FeedState) (start now then_ : K) → is_ready ≡ true
@@ -52,7 +54,12 @@ module _ {K : Type 0} (stands : K → List ℕ → Type 0) (language : Language)
     quit = served.quit;
     answers = served.answers;
   }
-  IsServed-more WriteFault taken more all state feed start now other split served = tt
+  IsServed-more WriteFault taken more all state feed start now other split served = record {
+    done = served.done;
+    rest = served.rest ++ more;
+    split = split ∙ ap (λ (t : List ℕ). t ++ more) served.split ∙ append_assoc served.done served.rest more;
+    part = served.part;
+  }
 
 -- A piece of the input is under way: the bytes before the rest are served.
 pub record IsUnderWay {K : Type 0} (stands : K → List ℕ → Type 0) (faults : K → ℕ) (language : Language) (piece rest : List ℕ)

@@ -1,4 +1,11 @@
 pub mod CommandSteps
 pub mod DeskState
+pub mod Ending
+pub mod ExitStatus
 pub mod Handling
+pub mod Loading
+pub mod Outcomes
 pub mod Serving
+pub mod ShownShape
+pub mod TheoryFiles
+pub mod Words

@@ -5,7 +5,7 @@ use Rattle.ec_axioms.specs.Replies.{State}
 use Rattle.ec_lines.specs.FeedState.{FeedState, IsPart}
 use Rattle.ec_server.specs.declared.handled.Handled.{Handled}
 use Rattle.ec_server.specs.declared.handled.Handled.TheVariants.{Go, Bye, WriteFault}
-use Rattle.ec_server.specs.Handling.{Language, IsServing, HasQuit}
+use Rattle.ec_server.specs.Handling.{Language, AnswersLines, AnswersPart, IsServing, BreaksOff, HasQuit}
 
 module _ {K : Type 0} (stands : K → List ℕ → Type 0) (language : Language) where
   -- the feed is at the rest of the bytes taken, and their whole lines are answered
@@ -17,4 +17,10 @@ module _ {K : Type 0} (stands : K → List ℕ → Type 0) (language : Language)
   abbrev pub IsServed : Handled → List ℕ → State → FeedState → K → K → Type 0
   IsServed Go taken state feed old new = IsAt taken state feed old new
   IsServed Bye taken state feed old new = HasQuit stands language taken old new
-  IsServed WriteFault taken state feed old new = Unit {0}
+  IsServed WriteFault taken state feed old new = BreaksOff stands language taken old new
+
+  -- what the last line leaves: all lines are answered, or the sink failed within their replies
+  abbrev pub IsLast : Handled → List (List ℕ) → K → K → Type 0
+  IsLast Go lines old new = AnswersLines stands language lines old new
+  IsLast Bye lines old new = AnswersLines stands language lines old new
+  IsLast WriteFault lines old new = AnswersPart stands language lines old new

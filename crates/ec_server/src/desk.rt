@@ -1,6 +1,5 @@
 //! The handling of one line.
 ghost use Rattle.std.specs.Prelude.{◌≡◌, ◌≤◌, ℕ, List, IsTrue, None, map, option_map, OnOk, OnErr, false};
-ghost use Rattle.ec_terms.specs.Matchable.{IsMatchable};
 ghost use Rattle.ec_terms.specs.Term.{ground_of, names_are_names};
 ghost use Rattle.ec_axioms.specs.Answers.{reply_text};
 ghost use Rattle.ec_axioms.specs.Calculus.{holds_at};
@@ -19,10 +18,11 @@ ghost use Rattle.ec_server.specs.Handling.{IsHandled};
 use crate::handled::Handled;
 use crate::present::{insert, is_present, remove};
 use ec_axioms::{Event, holds_plain};
+use ec_check::Checked;
 use ec_lines::{Answer, Command, Cut, Line, Parsed, read_command, write_answer};
 use ec_moment::Moment;
 use ec_outside::Sink;
-use ec_terms::{GroundRef, Name, NoMemory, Theory};
+use ec_terms::{GroundRef, Name, NoMemory};
 use std::alloc::Global;
 use std::marker::Model;
 
@@ -30,34 +30,32 @@ use std::marker::Model;
 #[derive(Drop)]
 pub struct Desk<T: Moment> {
     alloc: Global,
-    theory: Theory,
+    checked: Checked,
     events: Vec<Event<T>>,
 }
 
 impl<T: Moment> Model for Desk<T> {
     ghost use Rattle.std.specs.Prelude.{map, IsTrue};
-    ghost use Rattle.ec_terms.specs.Matchable.{IsMatchable};
     ghost use Rattle.ec_axioms.specs.Changes.{is_history};
     ghost use Rattle.ec_axioms.specs.Events.{event_of};
     ghost use Rattle.ec_server.specs.DeskState.{DeskState};
 
     ghost Value = { DeskState };
 
-    ghost view = { λ d. record { theory = d.theory; state = record { events = map (event_of T.rank) d.events.items } } };
+    ghost view = { λ d. record { theory = d.checked; state = record { events = map (event_of T.rank) d.events.items } } };
 
-    ghost invariant = { λ d. IsMatchable d.theory × IsTrue (is_history (map (event_of T.rank) d.events.items)) };
+    ghost invariant = { λ d. IsTrue (is_history (map (event_of T.rank) d.events.items)) };
 }
 
 impl<T: Moment> Desk<T> {
     /// A desk with no event yet. It takes no memory.
-    pub fn new(alloc: Global, theory: Theory) -> Desk<T>
-        requires { IsMatchable theory }
-        ensures theory { result.theory ≡ theory }
+    pub fn new(alloc: Global, checked: Checked) -> Desk<T>
+        ensures theory { result.theory ≡ checked }
         ensures empty { result.state ≡ empty_state }
     {
         Desk {
             alloc,
-            theory,
+            checked,
             events: Vec::new(alloc),
         }
     }
@@ -154,7 +152,7 @@ impl<T: Moment> Desk<T> {
         requires { IsTrue (names_are_names (ground_of prop.now)) }
         ensures { plain_answer result ≡ yes_or_no (holds_at self.now.theory self.now.state.events (ground_of prop.now) (T.rank at)) }
     {
-        if holds_plain(&self.events, &self.theory, prop, at) {
+        if holds_plain(&self.events, self.checked.theory(), prop, at) {
             Answer::Yes
         } else {
             Answer::No

@@ -1,5 +1,6 @@
 //! Lines through a desk, with ample memory.
 use super::*;
+use ec_check::check;
 use ec_lines::Feed;
 use ec_moment::Tick;
 use ec_outside::MemSink;
@@ -14,7 +15,7 @@ fn lines_are_answered_in_order(rt: HostRuntime) -> Result<(), Fail> {
         strongs: Sequence::new(rt.alloc()),
         initials: Sequence::new(rt.alloc()),
     };
-    let mut desk: Desk<Tick> = Desk::new(rt.alloc(), theory);
+    let mut desk: Desk<Tick> = Desk::new(rt.alloc(), check(theory)?);
     let mut feed = Feed::new(rt.alloc())?;
     let mut out = MemSink::new(rt.alloc(), 1000, 1000, &[], &[])?;
     let lines =

@@ -30,10 +30,10 @@ invariant_of-self g c =
     let events = map (event_of rank) c.self.inside.events.items in
     let absent = has_id-found rank c.args.id c.self.inside.events.items c.deref.result.now c.is_present.result false c.deref.ensures.value c.is_present.ensures c.if-is_present.false in
     let history : IsTrue (is_history (map (event_of rank) c.keep.new.events.items)) = elim c.match-keep.branch [
-      | in-Ok w ↦ subst (λ (l : List PlainEvent). IsTrue (is_history l)) (sym w.in-Ok.ensures.ok) (is_history-with_event e events c.self.invariant.1 absent)
-      | in-Err w ↦ subst (λ (l : List PlainEvent). IsTrue (is_history l)) (ap (map (event_of rank)) (sym w.in-Err.ensures.err)) c.self.invariant.1
+      | in-Ok w ↦ subst (λ (l : List PlainEvent). IsTrue (is_history l)) (sym w.in-Ok.ensures.ok) (is_history-with_event e events c.self.invariant absent)
+      | in-Err w ↦ subst (λ (l : List PlainEvent). IsTrue (is_history l)) (ap (map (event_of rank)) (sym w.in-Err.ensures.err)) c.self.invariant
     ] in
-    (c.self.invariant.0, history)
+    history
 
 pub returns-clause-updated : goal.returns-clause-updated
 returns-clause-updated g c =

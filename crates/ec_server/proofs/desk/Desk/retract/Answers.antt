@@ -23,7 +23,7 @@ invariant_of-self g c =
     let rank = g.T.Moment.rank in
     let events = map (event_of rank) c.self.inside.events.items in
     let left : map (event_of rank) c.remove.new.events.items ≡ without_event c.args.id events = ap (map (event_of rank)) c.remove.ensures ∙ sym (without_event-view rank c.args.id c.self.inside.events.items) in
-    (c.self.invariant.0, subst (λ (l : List PlainEvent). IsTrue (is_history l)) (sym left) (is_history-without_event c.args.id events c.self.invariant.1))
+    (subst (λ (l : List PlainEvent). IsTrue (is_history l)) (sym left) (is_history-without_event c.args.id events c.self.invariant))
 
 pub returns-clause-updated : goal.returns-clause-updated
 returns-clause-updated g c =

@@ -1,4 +1,4 @@
-//! The loop that serves an input: pieces of bytes in, the replies to their lines out.
+//! Serving a piece of an input: bytes in, the replies to their lines out.
 ghost use Rattle.std.specs.Prelude.{◌≡◌, ◌≤◌, ℕ, List, ◌++◌, false};
 ghost use Rattle.ec_lines.specs.FeedState.{Advances};
 ghost use Rattle.ec_outside.specs.Counts.{Rose};

@@ -1,7 +1,7 @@
 -- The line that is ready is handled, and the feed begins the next one.
 use Rattle.std.proofs.Common.{◌≡◌, true, arith}
 use Rattle.ec_server.proofs.Pieces.{IsServed-ready}
-use Rattle.ec_server.proofs.serve.answer_ready.Goals as goal
+use Rattle.ec_server.proofs.piece.answer_ready.Goals as goal
 
 pub returns-clause-served : goal.returns-clause-served
 returns-clause-served g c = λ taken longer start serving advances.

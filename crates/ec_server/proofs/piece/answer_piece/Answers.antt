@@ -6,7 +6,7 @@ use Rattle.ec_server.specs.Handling.{IsServing}
 use Rattle.ec_server.specs.Serving.{IsAt, IsServed}
 use Rattle.ec_server.proofs.Pieces.{IsUnderWay-next, IsUnderWay-stop, IsUnderWay-end, empty_list}
 use Rattle.ec_outside.proofs.Counts.{Rose-earlier}
-use Rattle.ec_server.proofs.serve.answer_piece.Goals as goal
+use Rattle.ec_server.proofs.piece.answer_piece.Goals as goal
 
 pub loop-rest-preserved : goal.loop-rest-preserved
 loop-rest-preserved g c = record {

@@ -1,7 +1,7 @@
 -- The bytes before the rest are served, and the rest grows shorter.
 use Rattle.std.proofs.Common.{◌≡◌, length}
 use Rattle.ec_server.proofs.Pieces.{IsUnderWay}
-use Rattle.ec_server.proofs.serve.answer_piece.Given as goal
+use Rattle.ec_server.proofs.piece.answer_piece.Given as goal
 
 abbrev pub invariant-loop-rest : goal.invariant-loop-rest
 invariant-loop-rest g l = record {

@@ -1,0 +1,1 @@
+initiates plug powered. terminates unplug powered.

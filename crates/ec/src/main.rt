@@ -1,0 +1,46 @@
+//! The program `ec`: a history of timed events, and what it says of properties.
+#![tactic(auto)]
+
+use ec_outside::{Buffered, RealFolder, RealSink, RealSource, Sink};
+use ec_server::{Status, run};
+use ec_terms::NoMemory;
+use std::env;
+use std::io::ErrorKind;
+use std::process::ExitCode;
+use std::string::String;
+
+/// How many bytes of output are held back before they are handed on.
+const OUTPUT_ROOM: usize = 65_536;
+
+/// The words behind the program's name; none, which have no shape, where one of them is no text.
+fn words(rt: &HostRuntime) -> Result<Vec<String>, NoMemory> {
+    let mut words = Vec::new(rt.alloc());
+    match env::args(rt) {
+        Ok(all) => {
+            for word in all.skip(1) {
+                words.push(word)?;
+            }
+            Ok(words)
+        }
+        Err(error) if error.kind() == ErrorKind::OutOfMemory => Err(NoMemory),
+        Err(_) => Ok(words),
+    }
+}
+
+/// Does what the words ask for, over standard input, standard output and files.
+fn serve_words(rt: &HostRuntime) -> Result<u8, NoMemory> {
+    let words = words(rt)?;
+    let mut output = Buffered::new(rt.alloc(), RealSink::new(rt.stdout()), OUTPUT_ROOM)?;
+    let mut input = RealSource::new(rt.stdin());
+    let mut files = RealFolder::new(rt);
+    let status = run(rt.alloc(), &words, &mut files, &mut input, &mut output);
+    let _ = output.flush(); // the usage line or the line about a theory may still wait
+    Ok(status)
+}
+
+fn main(rt: HostRuntime) -> ExitCode {
+    match serve_words(&rt) {
+        Ok(status) => ExitCode::from(status),
+        Err(NoMemory) => ExitCode::from(Status::NoMemory.code()),
+    }
+}

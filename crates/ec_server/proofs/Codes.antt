@@ -1,0 +1,98 @@
+-- Exit statuses and their numbers, and shapes and their names.
+use Rattle.std.proofs.Common.{◌≡◌, ◌==◌, ◌⊎◌, ℕ, List, Option, Some, None, refl, sym, ap, ◌∙◌, inl, inr, subst, cond}
+use Rattle.ec_server.specs.declared.status.Status.{Status}
+use Rattle.ec_server.specs.declared.status.Status.TheVariants as status
+use Rattle.ec_server.specs.ExitStatus.{code_of, IsCheckStatus, IsServeStatus}
+use Rattle.ec_server.specs.Words.{Shape, check_theory, serve_theory}
+
+-- ---- statuses
+
+-- the status of a number
+abbrev of_code : ℕ → Status
+of_code code =
+    cond (code == 0) status.Done
+    (cond (code == 2) status.NoShape
+    (cond (code == 3) status.BadTheory
+    (cond (code == 4) status.ReadFault
+    (cond (code == 5) status.WriteFault
+    (cond (code == 6) status.NoMemory
+    (cond (code == 7) status.FolderFault status.LimitReached))))))
+
+of_code-code : (s : Status) → of_code (code_of s) ≡ s
+unfolding code_of
+of_code-code status.Done = refl
+of_code-code status.NoShape = refl
+of_code-code status.BadTheory = refl
+of_code-code status.ReadFault = refl
+of_code-code status.WriteFault = refl
+of_code-code status.NoMemory = refl
+of_code-code status.FolderFault = refl
+of_code-code status.LimitReached = refl
+
+-- statuses with one number are the same
+pub status_same : {code : ℕ} {s : Status} (t : Status) → code ≡ code_of s → code ≡ code_of t → s ≡ t
+status_same {code} {s} t one other = sym (of_code-code s) ∙ ap of_code (sym one ∙ other) ∙ of_code-code t
+
+-- one of two statuses has one of their numbers
+pub either_code : {code : ℕ} {s : Status} (a b : Status) → code ≡ code_of s → (s ≡ a) ⊎ (s ≡ b) → (code ≡ code_of a) ⊎ (code ≡ code_of b)
+either_code a b is (inl one) = inl (is ∙ ap code_of one)
+either_code a b is (inr other) = inr (is ∙ ap code_of other)
+
+pub either_status : {code : ℕ} {s : Status} (a b : Status) → code ≡ code_of s → (code ≡ code_of a) ⊎ (code ≡ code_of b) → (s ≡ a) ⊎ (s ≡ b)
+either_status a b is (inl one) = inl (status_same a is one)
+either_status a b is (inr other) = inr (status_same b is other)
+
+-- ---- statuses that a command does not have
+
+pub check_not : {s : Status} (t : Status) → s ≡ t → IsCheckStatus s → IsCheckStatus t
+check_not t same is = subst IsCheckStatus same is
+
+pub serve_not : {s : Status} (t : Status) → s ≡ t → IsServeStatus s → IsServeStatus t
+serve_not t same is = subst IsServeStatus same is
+
+-- ---- shapes
+
+pub check_name : {a b : List ℕ} {shape : Option Shape} → shape ≡ Some (check_theory a) → shape ≡ Some (check_theory b) → a ≡ b
+check_name one other = let both = sym one ∙ other in cc
+
+pub serve_name : {a b : List ℕ} {shape : Option Shape} → shape ≡ Some (serve_theory a) → shape ≡ Some (serve_theory b) → a ≡ b
+serve_name one other = let both = sym one ∙ other in cc
+
+pub shape_same : {a b : Shape} {shape : Option Shape} → shape ≡ Some a → shape ≡ Some b → a ≡ b
+shape_same one other = let both = sym one ∙ other in cc
+
+pub check_is_not_serve : {a b : List ℕ} {shape : Option Shape} → shape ≡ Some (check_theory a) → shape ≡ Some (serve_theory b) → ⊥
+check_is_not_serve one other = let both = sym one ∙ other in cc
+
+pub shape_is_there : {a : Shape} {shape : Option Shape} → shape ≡ Some a → shape ≡ None → ⊥
+shape_is_there one none = let both = sym one ∙ none in cc
+
+-- ---- either of two
+
+pub swapped : {A B : Type 0} → A ⊎ B → B ⊎ A
+swapped (inl a) = inr a
+swapped (inr b) = inl b
+
+-- one of two is one of three
+pub either_first : {A B C : Type 0} → A ⊎ B → A ⊎ (B ⊎ C)
+either_first (inl a) = inl a
+either_first (inr b) = inr (inl b)
+
+-- a command that serves has a shape, so where a theory is refused it is that
+pub bad_theory : {s : Status} → IsServeStatus s → (s ≡ status.NoShape) ⊎ (s ≡ status.BadTheory) → s ≡ status.BadTheory
+bad_theory is (inl none) = absurd (subst IsServeStatus none is)
+bad_theory is (inr bad) = bad
+
+-- a command that checks reads no input
+pub reads_nothing : {s : Status} → IsCheckStatus s → (s ≡ status.ReadFault) ⊎ (s ≡ status.LimitReached) → ⊥
+reads_nothing is (inl fault) = subst IsCheckStatus fault is
+reads_nothing is (inr limit) = subst IsCheckStatus limit is
+
+-- the code of a run whose words have no shape is that of no other status
+pub no_shape_alone : {code : ℕ} {s : Status} (t : Status) → code ≡ code_of s → s ≡ status.NoShape → code ≡ code_of t → t ≡ status.NoShape
+no_shape_alone t is none other = sym (status_same t is other) ∙ none
+
+pub neither : {code : ℕ} {s : Status} (a b : Status) → code ≡ code_of s → s ≡ status.NoShape → (a ≡ status.NoShape → ⊥) → (b ≡ status.NoShape → ⊥)
+    → (code ≡ code_of a) ⊎ (code ≡ code_of b) → ⊥
+neither a b is none not_a not_b (inl one) = not_a (no_shape_alone a is none one)
+neither a b is none not_a not_b (inr other) = not_b (no_shape_alone b is none other)

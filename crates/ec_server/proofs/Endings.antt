@@ -1,0 +1,79 @@
+-- How the serving of an input ends.
+use Rattle.std.proofs.Common.{◌≡◌, ◌≤◌, ℕ, Bool, true, false, ◌⊎◌, List, [], ◌∷◌, ◌++◌, length, append-nil, refl, sym, subst, inl, inr}
+use Rattle.std.specs.Prelude.{Option}
+use Rattle.ec_axioms.specs.Lines.{lines_of, whole_lines}
+use Rattle.ec_axioms.specs.Replies.{State}
+use Rattle.ec_lines.specs.FeedState.{FeedState, IsReady, Finishes}
+use Rattle.ec_server.specs.declared.handled.Handled.{Handled}
+use Rattle.ec_server.specs.declared.handled.Handled.TheVariants.{Go, Bye, WriteFault}
+use Rattle.ec_outside.specs.Counts.{Rose}
+use Rattle.ec_outside.specs.Streams.{Kept}
+use Rattle.ec_outside.proofs.Counts.{Rose-earlier}
+use Rattle.ec_server.specs.declared.handled.Ending.{Ending}
+use Rattle.ec_server.specs.declared.handled.Ending.TheVariants.{End, Quit, WriteFault as Broken}
+use Rattle.ec_server.specs.Ending.{IsEnding}
+use Rattle.ec_server.specs.Handling.{Language, IsHandled, IsServing, HasQuit, AnswersLines, AnswersPart}
+use Rattle.ec_server.specs.Serving.{IsLast}
+use Rattle.ec_server.proofs.Serving.{AnswersLines-line, AnswersLines-so_far, AnswersLines-kept, AnswersLines-quit, HasQuit-kept}
+use Rattle.ec_server.proofs.Parts.{AnswersPart-all, AnswersPart-kept, AnswersPart-line}
+
+-- where handing on failed or did not, the serving ended so or the sink failed
+pub ending_either : {R : Type 0} (ending : Ending) → (ending ≡ End) ⊎ ((ending ≡ Broken) × R) → (ending ≡ End) ⊎ (ending ≡ Broken)
+ending_either ending (inl ended) = inl ended
+ending_either ending (inr failed) = inr failed.0
+
+-- and a fault of the sink was counted
+pub ending_fault : {before middle after : ℕ} (ending : Ending) → before ≤ middle → (ending ≡ End) ⊎ ((ending ≡ Broken) × Rose middle after) → ending ≡ Broken → Rose before after
+ending_fault ending counted (inl ended) fault = cc
+ending_fault ending counted (inr failed) fault = Rose-earlier counted failed.1
+
+module _ {K : Type 0} (stands : K → List ℕ → Type 0) (language : Language) where
+  -- the line behind the last line end was handled
+  pub IsLast-handled : (handled : Handled) (taken line : List ℕ) (state after : State) (start now then_ : K) → lines_of taken ≡ whole_lines taken ++ line ∷ []
+      → IsHandled stands language handled line state after now then_ → IsServing stands language taken state start now → IsLast stands language handled (lines_of taken) start then_
+  IsLast-handled Go taken line state after start now then_ same answered serving = AnswersLines-line same serving answered
+  IsLast-handled Bye taken line state after start now then_ same answered serving = AnswersLines-line same serving answered
+  IsLast-handled WriteFault taken line state after start now then_ same short serving = AnswersPart-line same serving short
+
+  -- a line stood behind the last line end
+  pub IsLast-line : (handled : Handled) (is_ready : Bool) (taken : List ℕ) (state after : State) (feed : FeedState) (start now then_ : K) → is_ready ≡ true
+      → Finishes is_ready feed taken → ((line : List ℕ) → IsReady feed line → IsHandled stands language handled line state after now then_)
+      → IsServing stands language taken state start now → IsLast stands language handled (lines_of taken) start then_
+  IsLast-line handled true taken state after feed start now then_ ready finishes says serving =
+      IsLast-handled handled taken finishes.0 state after start now then_ finishes.2 (says finishes.0 finishes.1) serving
+  IsLast-line handled false taken state after feed start now then_ ready finishes says serving = cc
+
+  -- none did
+  pub AnswersLines-none : (is_ready : Bool) (taken : List ℕ) (state : State) (feed : FeedState) (start now : K) → is_ready ≡ false
+      → Finishes is_ready feed taken → IsServing stands language taken state start now → AnswersLines stands language (lines_of taken) start now
+  AnswersLines-none false taken state feed start now ready finishes serving = AnswersLines-so_far finishes.1 serving
+  AnswersLines-none true taken state feed start now ready finishes serving = cc
+
+  handed_on : (faults : K → ℕ) (ending : Ending) (lines : List (List ℕ)) (start now next : K) → AnswersLines stands language lines start now → Kept stands now next
+      → (ending ≡ End) ⊎ ((ending ≡ Broken) × Rose (faults now) (faults next))
+      → ((ending ≡ End) × AnswersLines stands language lines start next) ⊎ ((ending ≡ Broken) × AnswersPart stands language lines start next)
+  handed_on faults ending lines start now next answers kept (inl ended) = inl (ended, AnswersLines-kept answers kept)
+  handed_on faults ending lines start now next answers kept (inr failed) = inr (failed.0, AnswersPart-kept (AnswersPart-all answers) kept)
+
+  -- where the sink did not fail, all lines are answered, and that is handed on, unless the sink fails then
+  pub answered_and_handed_on : (faults : K → ℕ) (handled : Handled) (ending : Ending) (lines : List (List ℕ)) (start now next : K)
+      → IsLast stands language handled lines start now → (handled ≡ WriteFault → ⊥) → Kept stands now next
+      → (ending ≡ End) ⊎ ((ending ≡ Broken) × Rose (faults now) (faults next))
+      → ((ending ≡ End) × AnswersLines stands language lines start next) ⊎ ((ending ≡ Broken) × AnswersPart stands language lines start next)
+  answered_and_handed_on faults Go ending lines start now next answers other kept either = handed_on faults ending lines start now next answers kept either
+  answered_and_handed_on faults Bye ending lines start now next answers other kept either = handed_on faults ending lines start now next answers kept either
+  answered_and_handed_on faults WriteFault ending lines start now next answers other kept either = absurd (other refl)
+
+  -- the sink failed
+  pub IsEnding-broken : (limit : ℕ) (left : Option (List ℕ)) (taken : List ℕ) (start now : K) → length taken ≤ limit → AnswersPart stands language (lines_of taken) start now
+      → IsEnding stands language Broken limit left taken start now
+  IsEnding-broken limit left taken start now within part = record { within = within; says = part }
+
+  -- `quit` is among the bytes taken, and the output was handed on or the sink failed
+  pub IsEnding-quit : {R : Type 0} (ending : Ending) (limit : ℕ) (left : Option (List ℕ)) (taken : List ℕ) (start now next : K) → (ending ≡ Quit) ⊎ ((ending ≡ Broken) × R)
+      → length taken ≤ limit → HasQuit stands language taken start now → Kept stands now next → IsEnding stands language ending limit left taken start next
+  IsEnding-quit ending limit left taken start now next (inl quits) within has kept =
+      subst (λ (e : Ending). IsEnding stands language e limit left taken start next) (sym quits) (record { within = within; says = HasQuit-kept has kept })
+  IsEnding-quit ending limit left taken start now next (inr failed) within has kept =
+      subst (λ (e : Ending). IsEnding stands language e limit left taken start next) (sym failed.0)
+      (IsEnding-broken limit left taken start next within (AnswersPart-kept (AnswersPart-all (AnswersLines-quit [] (sym (append-nil taken)) has)) kept))

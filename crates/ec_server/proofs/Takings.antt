@@ -1,0 +1,65 @@
+-- How far an input is served, turn by turn.
+use Rattle.std.proofs.Common.{◌≡◌, ℕ, ◌+◌, ◌≤◌, List, [], ◌++◌, length, sym, refl, subst, arith, length-append}
+use Rattle.std.specs.Prelude.{Option}
+use Rattle.ec_axioms.specs.Lines.{cut_of}
+use Rattle.ec_axioms.specs.Replies.{State, empty_state}
+use Rattle.ec_lines.specs.FeedState.{FeedState, IsPart}
+use Rattle.ec_outside.specs.Streams.{Took, Kept}
+use Rattle.ec_outside.proofs.Streams.{Took-then, Took-nil, Kept-refl}
+use Rattle.ec_server.specs.Handling.{Language, IsServing}
+use Rattle.ec_server.specs.Serving.{IsAt}
+use Rattle.ec_server.proofs.Serving.{IsServing-start, IsServing-kept}
+
+-- So many bytes of the limit are left; the bytes taken so far are served, and no count of faults has fallen.
+pub record IsTaking {S K : Type 0} (left : S → Option (List ℕ)) (read_faults : S → ℕ) (stands : K → List ℕ → Type 0) (write_faults : K → ℕ) (language : Language)
+    (limit remaining : ℕ) (state : State) (feed : FeedState) (input_before input : S) (output_before output : K) : Type 0 where
+  pub taken : List ℕ
+  pub within : length taken + remaining ≡ limit
+  pub took : Took (left input_before) (left input) taken
+  pub at : IsAt stands language taken state feed output_before output
+  pub reads : read_faults input_before ≤ read_faults input
+  pub writes : write_faults output_before ≤ write_faults output
+
+module _ {S K : Type 0} (left : S → Option (List ℕ)) (read_faults : S → ℕ) (stands : K → List ℕ → Type 0) (write_faults : K → ℕ) (language : Language) (limit : ℕ)
+    (input_before : S) (output_before : K) where
+  -- what is taken at a time
+  abbrev Taking : ℕ → State → FeedState → S → K → Type 0
+  Taking remaining state feed input output = IsTaking left read_faults stands write_faults language limit remaining state feed input_before input output_before output
+
+  -- at first nothing is taken
+  pub IsTaking-start : (state : State) (feed : FeedState) → state ≡ empty_state → IsPart feed [] → Taking limit state feed input_before output_before
+  unfolding cut_of
+  IsTaking-start state feed empty part = record {
+    taken = [];
+    within = omega arith;
+    took = Took-nil refl;
+    at = record { part = part; serving = subst (λ (s : State). IsServing stands language [] s output_before output_before) (sym empty) (IsServing-start output_before (Kept-refl output_before)) };
+    reads = omega arith;
+    writes = omega arith;
+  }
+
+  -- a flush
+  pub IsTaking-kept : (remaining : ℕ) (state : State) (feed : FeedState) (input : S) (output next : K) → Taking remaining state feed input output → Kept stands output next
+      → write_faults output ≤ write_faults next → Taking remaining state feed input next
+  IsTaking-kept remaining state feed input output next taking kept up = record {
+    taken = taking.taken;
+    within = taking.within;
+    took = taking.took;
+    at = record { part = taking.at.part; serving = IsServing-kept taking.at.serving kept };
+    reads = taking.reads;
+    writes = omega (arith, taking.writes, up);
+  }
+
+  -- a piece that was read and served
+  pub IsTaking-next : (remaining less : ℕ) (piece : List ℕ) (state after : State) (feed fed : FeedState) (input next : S) (output then_ : K)
+      → (taking : Taking remaining state feed input output) → Took (left input) (left next) piece → length piece + less ≡ remaining
+      → ((taken : List ℕ) (start : K) → IsAt stands language taken state feed start output → IsAt stands language (taken ++ piece) after fed start then_)
+      → read_faults input ≤ read_faults next → write_faults output ≤ write_faults then_ → Taking less after fed next then_
+  IsTaking-next remaining less piece state after feed fed input next output then_ taking took shorter served reads writes = record {
+    taken = taking.taken ++ piece;
+    within = omega (arith, length-append taking.taken piece, taking.within, shorter);
+    took = Took-then taking.took took;
+    at = served taking.taken output_before taking.at;
+    reads = omega (arith, taking.reads, reads);
+    writes = omega (arith, taking.writes, writes);
+  }

@@ -1,0 +1,15 @@
+-- The shape that borrowed words show, and that of the words behind the program's name.
+use Rattle.std.specs.Prelude.{List, Option, String, map, string_bytes}
+use Rattle.std.specs.declared.alloc.Global.{Global}
+use Rattle.ec_server.specs.declared.words.Shape.{Shape}
+use Rattle.ec_server.specs.declared.words.Shape.TheVariants.{Check, Serve}
+use Rattle.ec_server.specs.Words.{Shape as PlainShape, check_theory, serve_theory, shape_of}
+
+-- a shape, with the bytes of the name
+abbrev pub plain_shape : Shape → PlainShape
+plain_shape (Check name) = check_theory name.now
+plain_shape (Serve name) = serve_theory name.now
+
+-- what the words ask for, or none where they have no shape
+abbrev pub asked : List (String Global) → Option PlainShape
+asked words = shape_of (map string_bytes words)

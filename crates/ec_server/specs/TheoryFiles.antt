@@ -1,0 +1,117 @@
+-- The file of a theory: when it is taken, and what is said of it where it is not.
+use Rattle.std.specs.Prelude.{◌≡◌, ◌≤◌, ℕ, Bool, true, false, ◌&&◌, List, [], ◌∷◌, ◌++◌, length, Option, Some, None, codes, decimal}
+use Rattle.std.specs.List.{list_all}
+use Rattle.ec_terms.specs.declared.theory.Theory.{Theory}
+use Rattle.ec_tokens.specs.declared.place.Place.{Place}
+use Rattle.ec_tokens.specs.declared.fault.TokenFault.{TokenFault}
+use Rattle.ec_tokens.specs.declared.fault.TokenFault.TheVariants as token
+use Rattle.ec_check.specs.declared.fault.Many.{Many}
+use Rattle.ec_check.specs.declared.fault.Many.TheVariants as many
+use Rattle.ec_check.specs.declared.fault.CheckFault.{CheckFault}
+use Rattle.ec_check.specs.declared.fault.CheckFault.TheVariants as wrong
+use Rattle.ec_theory.specs.declared.fault.ReadFault.{ReadFault}
+use Rattle.ec_theory.specs.declared.fault.ReadFault.TheVariants as reading
+use Rattle.ec_theory.specs.declared.text.Refused.{Refused}
+use Rattle.ec_theory.specs.declared.text.Refused.TheVariants as refused
+use Rattle.ec_theory.specs.Accepted.{IsAccepted, HasFault}
+use Rattle.ec_outside.specs.Files.{Files, HasFile, IsTooLong}
+use Rattle.ec_server.specs.Words.{Shape, check_theory, serve_theory}
+
+-- the most bytes that the file of a theory has
+abbrev pub most_theory_bytes : ℕ
+most_theory_bytes = 1048576
+
+-- ---- what is said of a text that is no theory
+
+-- a line and a column
+unfoldable pub place_text : Place → List ℕ
+place_text place = decimal place.line ++ codes " " ++ decimal place.col
+
+-- a fault at a place
+unfoldable pub at_place : Place → List ℕ → List ℕ
+at_place place name = place_text place ++ codes " " ++ name
+
+-- a fault in a clause
+unfoldable pub in_clause : ℕ → List ℕ → List ℕ
+in_clause clause name = decimal clause ++ codes " " ++ name
+
+-- a fault of the tokens; none for want of memory
+unfoldable pub token_text : TokenFault → Option (List ℕ)
+token_text (token.BadByte place) = Some (at_place place (codes "byte"))
+token_text (token.LongName place) = Some (at_place place (codes "long-name"))
+token_text (token.BigNumber place) = Some (at_place place (codes "number"))
+token_text token.Memory = None
+
+-- a fault of the syntax; none for want of memory
+unfoldable pub reading_text : ReadFault → Option (List ℕ)
+reading_text (reading.Syntax place) = Some (at_place place (codes "syntax"))
+reading_text reading.Memory = None
+
+-- of what there is too much
+unfoldable pub many_text : Many → List ℕ
+many_text many.Rules = codes "many-rules"
+many_text many.EventRules = codes "many-event-rules"
+many_text many.Tests = codes "many-tests"
+many_text many.Literals = codes "many-literals"
+many_text many.Variables = codes "many-variables"
+many_text many.Exclusives = codes "many-exclusives"
+many_text many.Strongs = codes "many-strongs"
+many_text many.Initials = codes "many-initials"
+
+-- a fault of a clause
+unfoldable pub wrong_text : CheckFault → List ℕ
+wrong_text (wrong.Arity clause) = in_clause clause (codes "arity")
+wrong_text (wrong.TooMany what clause) = in_clause clause (many_text what)
+wrong_text (wrong.AnyInHead clause) = in_clause clause (codes "any")
+wrong_text (wrong.Unbound clause v) = in_clause clause (codes "unbound")
+
+-- what is said of bytes with a fault; none for want of memory
+unfoldable pub fault_text : Refused → Option (List ℕ)
+fault_text (refused.Tokens fault) = token_text fault
+fault_text (refused.Reading fault) = reading_text fault
+fault_text (refused.Wrong fault) = Some (wrong_text fault)
+
+-- the line about a theory
+unfoldable pub theory_line : List ℕ → List ℕ
+theory_line text = codes "theory " ++ text ++ 10 ∷ []
+
+-- the line about a theory that is accepted: how many rules and declarations it has
+unfoldable pub accepted_line : Theory → List ℕ
+accepted_line theory =
+    codes "accepted rules " ++ decimal (length theory.rules) ++ codes " exclusives " ++ decimal (length theory.exclusives) ++ codes " strongs "
+    ++ decimal (length theory.strongs) ++ 10 ∷ []
+
+-- ---- theories that are served
+
+-- no members
+abbrev pub is_none_of : {A : Type 0} → List A → Bool
+is_none_of [] = true
+is_none_of (a ∷ list) = false
+
+-- what is served so far: rules without literals, and no exclusive or strong declarations
+unfoldable pub is_served : Theory → Bool
+is_served theory = list_all (λ r. is_none_of r.literals) theory.rules && (is_none_of theory.exclusives && is_none_of theory.strongs)
+
+-- ---- files
+
+-- the folder tells its files, and the file of that name is the text of the theory
+pub record HasTheory (told : Option Files) (name : List ℕ) (theory : Theory) : Type 0 where
+  pub bytes : List ℕ
+  pub file : HasFile told name bytes
+  pub fits : length bytes ≤ most_theory_bytes
+  pub accepted : IsAccepted bytes theory
+
+-- the folder tells its files, and the file of that name is too long for a theory, or its bytes have a fault; so this is said of it
+pub data IsNoTheory (told : Option Files) (name : List ℕ) : List ℕ → Type 0 where
+  too_long : IsTooLong told name most_theory_bytes → IsNoTheory told name (codes "too-long")
+  faulty : (bytes text : List ℕ) (fault : Refused) → HasFile told name bytes → length bytes ≤ most_theory_bytes → HasFault bytes fault → fault_text fault ≡ Some text → IsNoTheory told name text
+
+-- to serve, the theory must also be one that is served so far
+pub data IsNotServed (told : Option Files) (name : List ℕ) : List ℕ → Type 0 where
+  no_theory : (text : List ℕ) → IsNoTheory told name text → IsNotServed told name text
+  unbuilt : (theory : Theory) → HasTheory told name theory → is_served theory ≡ false → IsNotServed told name (codes "unbuilt")
+
+-- the theory that the words name is refused, and this is said of it
+abbrev pub IsRefused : Shape → Option Files → List ℕ → Type 0
+IsRefused (check_theory name) told text = IsNoTheory told name text
+IsRefused (serve_theory name) told text = IsNotServed told name text

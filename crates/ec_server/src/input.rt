@@ -1,0 +1,123 @@
+//! The loop that serves an input: reads and flushes round its pieces, up to its end, a `quit` or a limit.
+ghost use Rattle.std.specs.Prelude.{◌≡◌, ◌≤◌, ◌<◌, ◌+◌, ◌⊎◌, ℕ, List, [], false, length, take, IfOk, OnErr};
+ghost use Rattle.ec_axioms.specs.Lines.{lines_of};
+ghost use Rattle.ec_axioms.specs.Replies.{empty_state};
+ghost use Rattle.ec_lines.specs.FeedState.{IsPart};
+ghost use Rattle.ec_outside.specs.Counts.{Rose};
+ghost use Rattle.ec_outside.specs.Streams.{Kept, Took, IsAtEnd};
+ghost use Rattle.ec_server.specs.Ending.{IsEnding};
+ghost use Rattle.ec_server.specs.Handling.{AnswersLines, AnswersPart, Language};
+ghost use Rattle.ec_server.specs.Serving.{IsAt, IsLast};
+
+use crate::desk::Desk;
+use crate::handled::{Ending, Handled};
+use crate::piece::answer_piece;
+use ec_lines::Feed;
+use ec_moment::Moment;
+use ec_outside::{Failed, Sink, Source};
+
+/// The most bytes that one read asks for.
+const PIECE: usize = 4_096;
+
+/// Reads the next bytes, at most as many as are left of the limit.
+fn read_piece<S: Source>(
+    input: &mut S,
+    buffer: &mut [u8; PIECE],
+    left: u64,
+) -> Result<usize, Failed>
+    requires { 0 < left }
+    ensures within { IfOk result (λ count. (count ≤ 4096) × (count ≤ left)) }
+    ensures took { IfOk result (λ count. Took (S.left input.old) (S.left input.new) (take count buffer.new)) }
+    ensures end { IfOk result (λ count. count ≡ 0 → IsAtEnd (S.left input.new)) }
+    ensures unchanged { OnErr result (S.left input.new ≡ S.left input.old) }
+    ensures failed { OnErr result (Rose (S.faults input.old) (S.faults input.new)) }
+    ensures counted { S.faults input.old ≤ S.faults input.new }
+{
+    let most = left.min(PIECE as u64) as usize;
+    input.read(&mut buffer[..most])
+}
+
+/// Answers what stands behind the last line end, where the input has ended.
+fn answer_rest<T: Moment, K: Sink>(desk: &mut Desk<T>, feed: &mut Feed, out: &mut K) -> Handled
+    requires { feed.old.is_ready ≡ false }
+    ensures answered { let language : Language = record { theory = desk.old.theory; spelt = T.spelt } in
+        (taken : List ℕ) (start : K) → IsAt K.stands language taken desk.old.state feed.old start out.old →
+        IsLast K.stands language result (lines_of taken) start out.new }
+    ensures failed { result ≡ Handled.WriteFault → Rose (K.faults out.old) (K.faults out.new) }
+    ensures counted { K.faults out.old ≤ K.faults out.new }
+{
+    feed.end();
+    if !feed.ready() {
+        return Handled::Go;
+    }
+    desk.handle(feed.line(), out)
+}
+
+/// Answers what stands behind the last line end, and hands the output on.
+fn finish<T: Moment, K: Sink>(desk: &mut Desk<T>, feed: &mut Feed, out: &mut K) -> Ending
+    requires { feed.old.is_ready ≡ false }
+    ensures answered { let language : Language = record { theory = desk.old.theory; spelt = T.spelt } in
+        (taken : List ℕ) (start : K) → IsAt K.stands language taken desk.old.state feed.old start out.old →
+        ((result ≡ Ending.End) × AnswersLines K.stands language (lines_of taken) start out.new)
+        ⊎ ((result ≡ Ending.WriteFault) × AnswersPart K.stands language (lines_of taken) start out.new) }
+    ensures either { (result ≡ Ending.End) ⊎ (result ≡ Ending.WriteFault) }
+    ensures failed { result ≡ Ending.WriteFault → Rose (K.faults out.old) (K.faults out.new) }
+{
+    match answer_rest(desk, feed, out) {
+        Handled::WriteFault => Ending::WriteFault,
+        _ => hand_on(out, Ending::End),
+    }
+}
+
+/// Hands the output on where the serving ends so.
+fn hand_on<K: Sink>(out: &mut K, ending: Ending) -> Ending
+    ensures kept { Kept K.stands out.old out.new }
+    ensures either { (result ≡ ending) ⊎ ((result ≡ Ending.WriteFault) × Rose (K.faults out.old) (K.faults out.new)) }
+    ensures counted { K.faults out.old ≤ K.faults out.new }
+{
+    match out.flush() {
+        Ok(()) => ending,
+        Err(_) => Ending::WriteFault,
+    }
+}
+
+/// Takes bytes of an input until its end, a `quit`, a fault or `limit` bytes, and answers their lines.
+///
+/// The output is handed on before each read, and before the serving ends.
+pub(crate) fn serve_input<T: Moment, S: Source, K: Sink>(
+    desk: &mut Desk<T>,
+    feed: &mut Feed,
+    input: &mut S,
+    output: &mut K,
+    limit: u64,
+) -> Ending
+    requires start { desk.old.state ≡ empty_state }
+    requires part { IsPart feed.old [] }
+    ensures ending { (taken : List ℕ) × Took (S.left input.old) (S.left input.new) taken
+        × IsEnding K.stands (record { theory = desk.old.theory; spelt = T.spelt }) result limit (S.left input.new) taken output.old output.new }
+    ensures read_fault { result ≡ Ending.ReadFault → Rose (S.faults input.old) (S.faults input.new) }
+    ensures write_fault { result ≡ Ending.WriteFault → Rose (K.faults output.old) (K.faults output.new) }
+{
+    let mut buffer = [0; PIECE];
+    let mut left = limit;
+    loop {
+        if output.flush().is_err() {
+            return Ending::WriteFault;
+        }
+        if left == 0 {
+            return Ending::Limit;
+        }
+        let Ok(count) = read_piece(input, &mut buffer, left) else {
+            return Ending::ReadFault;
+        };
+        if count == 0 {
+            return finish(desk, feed, output);
+        }
+        left -= count as u64;
+        match answer_piece(desk, feed, &buffer[..count], output) {
+            Handled::Go => {}
+            Handled::Bye => return hand_on(output, Ending::Quit),
+            Handled::WriteFault => return Ending::WriteFault,
+        }
+    }
+}

@@ -1,0 +1,60 @@
+//! How a run of the program ends.
+ghost use Rattle.std.specs.Prelude.{◌≡◌};
+ghost use Rattle.ec_server.specs.ExitStatus.{code_of, status_of};
+
+use crate::handled::Ending;
+
+/// How a run of the program ended.
+#[derive(Clone, Copy, Debug, PartialEq, Eq)]
+pub enum Status {
+    /// The input was read to its end or to `quit`, or the theory was accepted.
+    Done,
+    /// The words ask for nothing that there is.
+    NoShape,
+    /// The theory is not accepted.
+    BadTheory,
+    /// The input failed.
+    ReadFault,
+    /// The output failed.
+    WriteFault,
+    /// Memory was wanting before anything was written.
+    NoMemory,
+    /// A file could not be read.
+    FolderFault,
+    /// As many bytes of input were taken as may be, with neither end nor `quit` met.
+    LimitReached,
+}
+
+impl Status {
+    /// The exit status of the program.
+    #[tactic(auto, unfolding(crate::specs::ExitStatus::code_of))]
+    pub fn code(self) -> u8
+        ensures { result ≡ code_of self }
+    {
+        match self {
+            Status::Done => 0,
+            Status::NoShape => 2,
+            Status::BadTheory => 3,
+            Status::ReadFault => 4,
+            Status::WriteFault => 5,
+            Status::NoMemory => 6,
+            Status::FolderFault => 7,
+            Status::LimitReached => 8,
+        }
+    }
+}
+
+impl Ending {
+    /// The status of a run whose serving ended so.
+    #[tactic(auto, unfolding(crate::specs::ExitStatus::status_of))]
+    pub fn status(self) -> Status
+        ensures { result ≡ status_of self }
+    {
+        match self {
+            Ending::End | Ending::Quit => Status::Done,
+            Ending::Limit => Status::LimitReached,
+            Ending::ReadFault => Status::ReadFault,
+            Ending::WriteFault => Status::WriteFault,
+        }
+    }
+}

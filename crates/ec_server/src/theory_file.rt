@@ -1,0 +1,61 @@
+//! The file of a theory.
+ghost use Rattle.std.specs.Prelude.{◌≡◌, ◌≤◌, ◌⊎◌, List, ℕ, length, IfOk, IfErr, IsSome, IsErrOf, IsOk};
+ghost use Rattle.ec_terms.specs.declared.theory.Theory.{Theory};
+ghost use Rattle.ec_theory.specs.Accepted.{IsAccepted};
+ghost use Rattle.ec_outside.specs.Counts.{Rose};
+ghost use Rattle.ec_server.specs.TheoryFiles.{HasTheory, IsNoTheory};
+ghost use Rattle.ec_server.specs.Loading.{IsBytesReason, IsFaulty, IsReason, IsSaid};
+
+use crate::theory_text::{fault_text, said};
+use ec_check::Checked;
+use ec_lines::ReplyText;
+use ec_outside::{Folder, FolderAnswer};
+use ec_theory::accept;
+use ec_tokens::MOST_BYTES;
+use std::alloc::Global;
+
+/// Why there is no theory.
+#[derive(Drop)]
+pub(crate) enum NoTheory {
+    /// The file could not be read.
+    FolderFault,
+    /// Memory was wanting.
+    NoMemory,
+    /// The file is no theory, and this is said of it.
+    Said(ReplyText),
+}
+
+/// Reads the theory that the bytes of a file spell.
+fn read_bytes(alloc: Global, bytes: &[u8]) -> Result<Checked, NoTheory>
+    requires { length bytes.now ≤ 1048576 }
+    ensures theory { IfOk result (λ theory. IsAccepted bytes.now theory) }
+    ensures reason { IfErr result (λ reason. IsBytesReason bytes.now reason) }
+    ensures taken { (theory : Theory) → IsAccepted bytes.now theory → IsOk result ⊎ IsErrOf result NoTheory.NoMemory }
+    ensures said { (text : List ℕ) → IsFaulty bytes.now text → IsSaid result ⊎ IsErrOf result NoTheory.NoMemory }
+{
+    match accept(alloc, bytes) {
+        Ok(checked) => Ok(checked),
+        Err(refused) => match fault_text(refused) {
+            Some(text) => Err(NoTheory::Said(text)),
+            None => Err(NoTheory::NoMemory),
+        },
+    }
+}
+
+/// Reads the file of a theory, and the theory in it.
+pub(crate) fn load<F: Folder>(alloc: Global, name: &str, files: &mut F) -> Result<Checked, NoTheory>
+    ensures theory { IfOk result (λ theory. IsSome (F.files files.old) → HasTheory (F.files files.old) name.now theory) }
+    ensures reason { IfErr result (λ reason. IsReason (F.files files.old) name.now (F.faults files.old) (F.faults files.new) reason) }
+    ensures taken { (theory : Theory) → HasTheory (F.files files.old) name.now theory → ¬ Rose (F.faults files.old) (F.faults files.new) →
+        IsOk result ⊎ IsErrOf result NoTheory.NoMemory }
+    ensures said { (text : List ℕ) → IsNoTheory (F.files files.old) name.now text → ¬ Rose (F.faults files.old) (F.faults files.new) →
+        IsSaid result ⊎ IsErrOf result NoTheory.NoMemory }
+{
+    let mut bytes = Vec::new(alloc);
+    match files.read_whole(name, &mut bytes, MOST_BYTES) {
+        Ok(()) => read_bytes(alloc, &bytes),
+        Err(FolderAnswer::Failed) => Err(NoTheory::FolderFault),
+        Err(FolderAnswer::Memory) => Err(NoTheory::NoMemory),
+        Err(FolderAnswer::Long) => Err(NoTheory::Said(said(b"too-long"))),
+    }
+}

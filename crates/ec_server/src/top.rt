@@ -1,0 +1,92 @@
+//! The top call: what the words ask for, done whole.
+ghost use Rattle.std.specs.Prelude.{◌≡◌, ◌≤◌, ◌⊎◌, ◌↔◌, ℕ, true, List, Some, None, IsSome};
+ghost use Rattle.ec_terms.specs.declared.theory.Theory.{Theory};
+ghost use Rattle.ec_axioms.specs.Lines.{lines_of};
+ghost use Rattle.ec_outside.specs.Counts.{Rose};
+ghost use Rattle.ec_outside.specs.Files.{IsMissing};
+ghost use Rattle.ec_outside.specs.Streams.{Appended, AppendedPart, Took};
+ghost use Rattle.ec_server.specs.Ending.{GoesOn};
+ghost use Rattle.ec_server.specs.ExitStatus.{IsExitCode};
+ghost use Rattle.ec_server.specs.Handling.{AnswersLines, AnswersPart};
+ghost use Rattle.ec_server.specs.Outcomes.{in_ticks, most_input, IsShort, IsLong, StopsAtLimit, Wrote};
+ghost use Rattle.ec_server.specs.ShownShape.{asked};
+ghost use Rattle.ec_server.specs.TheoryFiles.{HasTheory, IsRefused, accepted_line, is_served, theory_line};
+ghost use Rattle.ec_server.specs.Words.{Shape as PlainShape, check_theory, serve_theory, theory_name, usage_line};
+
+use crate::commands::{check_command, refuse_words, serve_command};
+use crate::words::{Shape, shape_of};
+use ec_outside::{Folder, Sink, Source};
+use std::alloc::Global;
+use std::string::String;
+
+/// Does what the words behind the program's name ask for, and answers the exit status.
+///
+/// Theories are read from `files`, lines from `input`; what is to be said is written to `output`. The statuses are: 0 the input
+/// was read to its end or to `quit`, or the theory is accepted; 2 the words have no shape; 3 the theory is not accepted; 4 the input
+/// failed; 5 the output failed; 6 memory was wanting before anything was written; 7 a file could not be read; 8 as many bytes of
+/// input were taken as may be.
+pub fn run<F: Folder, S: Source, K: Sink>(
+    alloc: Global,
+    words: &[String],
+    files: &mut F,
+    input: &mut S,
+    output: &mut K,
+) -> u8
+    // For every accepted theory that is served, and every input, in whatever pieces it comes: what was appended to the output is,
+    // line by line, the replies that the definitions derive from the events asserted and not retracted by the lines answered `ok` so far.
+    ensures replies { result ≡ 0 → (name text : List ℕ) → asked words.now ≡ Some (serve_theory name) → IsSome (F.files files.old) → S.left input.old ≡ Some text →
+        (theory : Theory) × HasTheory (F.files files.old) name theory × AnswersLines K.stands (in_ticks theory) (lines_of text) output.old output.new }
+
+    // It comes to that wherever nothing fails, memory is found and the input is not too long.
+    ensures serves { (name text : List ℕ) (theory : Theory) → asked words.now ≡ Some (serve_theory name) → HasTheory (F.files files.old) name theory → is_served theory ≡ true →
+        S.left input.old ≡ Some text → IsShort (in_ticks theory) most_input text → ¬ Rose (F.faults files.old) (F.faults files.new) →
+        ¬ Rose (S.faults input.old) (S.faults input.new) → ¬ Rose (K.faults output.old) (K.faults output.new) →
+        (result ≡ 0) ⊎ (result ≡ 6) }
+
+    // A theory that is accepted, and one that is not.
+    ensures accepted { result ≡ 0 → (name : List ℕ) → asked words.now ≡ Some (check_theory name) → IsSome (F.files files.old) →
+        (theory : Theory) × HasTheory (F.files files.old) name theory × Appended K.stands output.old output.new (accepted_line theory) }
+    ensures accepts { (name : List ℕ) (theory : Theory) → asked words.now ≡ Some (check_theory name) → HasTheory (F.files files.old) name theory →
+        ¬ Rose (F.faults files.old) (F.faults files.new) → ¬ Rose (K.faults output.old) (K.faults output.new) →
+        (result ≡ 0) ⊎ (result ≡ 6) }
+    ensures refused { result ≡ 3 → (shape : PlainShape) → asked words.now ≡ Some shape → IsSome (F.files files.old) →
+        (text : List ℕ) × IsRefused shape (F.files files.old) text × Wrote K.stands K.faults output.old output.new (theory_line text) }
+    ensures refuses { (shape : PlainShape) (text : List ℕ) → asked words.now ≡ Some shape → IsRefused shape (F.files files.old) text →
+        ¬ Rose (F.faults files.old) (F.faults files.new) → (result ≡ 3) ⊎ (result ≡ 6) }
+
+    // Words without a shape.
+    ensures no_shape { (result ≡ 2) ↔ (asked words.now ≡ None) }
+    ensures usage { result ≡ 2 → Wrote K.stands K.faults output.old output.new usage_line }
+
+    // The limit of the input.
+    ensures limit { result ≡ 8 → (name text : List ℕ) → asked words.now ≡ Some (serve_theory name) → IsSome (F.files files.old) → S.left input.old ≡ Some text →
+        (theory : Theory) × HasTheory (F.files files.old) name theory × StopsAtLimit K.stands (in_ticks theory) most_input text output.old output.new }
+    ensures stops { (name text : List ℕ) (theory : Theory) → asked words.now ≡ Some (serve_theory name) → HasTheory (F.files files.old) name theory → is_served theory ≡ true →
+        S.left input.old ≡ Some text → IsLong (in_ticks theory) most_input text → ¬ Rose (F.faults files.old) (F.faults files.new) →
+        ¬ Rose (S.faults input.old) (S.faults input.new) → ¬ Rose (K.faults output.old) (K.faults output.new) →
+        (result ≡ 8) ⊎ (result ≡ 6) }
+
+    // Faults, and what they leave.
+    ensures serves_alone { (result ≡ 4) ⊎ (result ≡ 8) → (name : List ℕ) × (asked words.now ≡ Some (serve_theory name)) }
+    ensures read_fault { result ≡ 4 → Rose (S.faults input.old) (S.faults input.new) }
+    ensures write_fault { result ≡ 5 → Rose (K.faults output.old) (K.faults output.new) }
+    ensures whole { result ≡ 4 → (name : List ℕ) → asked words.now ≡ Some (serve_theory name) → IsSome (F.files files.old) →
+        (theory : Theory) × HasTheory (F.files files.old) name theory
+        × ((taken : List ℕ) × Took (S.left input.old) (S.left input.new) taken × GoesOn K.stands (in_ticks theory) taken output.old output.new) }
+    ensures part { result ≡ 5 → (name : List ℕ) → asked words.now ≡ Some (serve_theory name) → IsSome (F.files files.old) →
+        (theory : Theory) × HasTheory (F.files files.old) name theory
+        × ((taken : List ℕ) × Took (S.left input.old) (S.left input.new) taken × AnswersPart K.stands (in_ticks theory) (lines_of taken) output.old output.new) }
+    ensures accepted_part { result ≡ 5 → (name : List ℕ) → asked words.now ≡ Some (check_theory name) → IsSome (F.files files.old) →
+        (theory : Theory) × HasTheory (F.files files.old) name theory × AppendedPart K.stands output.old output.new (accepted_line theory) }
+    ensures folder_fault { result ≡ 7 → (shape : PlainShape) × (asked words.now ≡ Some shape)
+        × (Rose (F.faults files.old) (F.faults files.new) ⊎ IsMissing (F.files files.old) (theory_name shape)) }
+    ensures untouched { (result ≡ 6) ⊎ (result ≡ 7) → (output.new ≡ output.old) × (input.new ≡ input.old) }
+    ensures unread { (result ≡ 2) ⊎ (result ≡ 3) → input.new ≡ input.old }
+    ensures status { IsExitCode result }
+{
+    match shape_of(words) {
+        Some(Shape::Check(theory)) => check_command(alloc, theory, files, output).code(),
+        Some(Shape::Serve(theory)) => serve_command(alloc, theory, files, input, output).code(),
+        None => refuse_words(output).code(),
+    }
+}
