@@ -7,7 +7,7 @@ use Rattle.std.proofs.lemmas.Bool.{false≢true}
 use Rattle.std.proofs.Math.ListN.{drop_of_length-le}
 use Rattle.ec_axioms.specs.Timeline.{Begin}
 use Rattle.ec_axioms.specs.Marks.{broken_spans_of}
-use Rattle.ec_points.specs.Table.{plain_mark, plain_marks}
+use Rattle.ec_rows.specs.PlainMarks.{plain_mark, plain_marks}
 use Rattle.ec_rows.specs.Marks.{IsMarkRow}
 use Rattle.ec_rows.specs.declared.mark.Mark.{Mark}
 use Rattle.ec_intervals.specs.Broken.{first_after}

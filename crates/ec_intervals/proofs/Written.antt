@@ -12,7 +12,7 @@ use Rattle.std.proofs.lemmas.List.Folds.{list_all-append}
 use Rattle.std.proofs.Math.ListN.{drop_of_length-le}
 use Rattle.ec_axioms.specs.Timeline.{Begin, before_all, Interval as PlainInterval}
 use Rattle.ec_axioms.specs.Marks.{PlainMark, spans_of}
-use Rattle.ec_points.specs.Table.{plain_mark, plain_marks}
+use Rattle.ec_rows.specs.PlainMarks.{plain_mark, plain_marks}
 use Rattle.ec_rows.specs.Ordered.{is_ascending}
 use Rattle.ec_rows.specs.Marks.{IsMarkRow, mark_before, is_counted}
 use Rattle.ec_rows.specs.Spans.{IsSpanRow, span_before}

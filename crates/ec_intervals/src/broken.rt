@@ -4,7 +4,7 @@ ghost use Rattle.ec_axioms.specs.Marks.{broken_spans_of};
 ghost use Rattle.ec_intervals.specs.Broken.{begins_after, first_after, passes_after};
 ghost use Rattle.ec_intervals.specs.Steps.{broken_by};
 ghost use Rattle.ec_intervals.specs.Table.{plain_begin, plain_broken};
-ghost use Rattle.ec_points.specs.Table.{plain_mark, plain_marks};
+ghost use Rattle.ec_rows.specs.PlainMarks.{plain_mark, plain_marks};
 
 use crate::interval::Begin;
 use crate::steps::{broken_by, first_open, open_behind};

@@ -1,7 +1,7 @@
 ghost use Rattle.std.specs.Prelude.{◌≡◌, ◌≢◌, ℕ, ◌+◌, ◌<◌, ◌≤◌, ◌^◌, [], IsTrue, IfOk, IfSome, IfNone, OnOk, Some, None, length, slice_get};
 ghost use Rattle.ec_axioms.specs.Marks.{spans_of};
 ghost use Rattle.ec_intervals.specs.Table.{IsGrown, front_at, has_row, members_at, plain_intervals, room_at, row_at, spans_at};
-ghost use Rattle.ec_points.specs.Table.{plain_marks};
+ghost use Rattle.ec_rows.specs.PlainMarks.{plain_marks};
 
 use crate::interval::Interval;
 use crate::row::{KeptRow, count_members, member_of};

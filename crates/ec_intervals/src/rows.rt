@@ -4,7 +4,7 @@ ghost use Rattle.std.specs.Vec.{vec_capacity};
 ghost use Rattle.ec_axioms.specs.Marks.{spans_of};
 ghost use Rattle.ec_intervals.specs.Kept.{kept_at, seen_at};
 ghost use Rattle.ec_intervals.specs.Table.{IsGrown, front_in, members_in, plain_intervals, room_in, spans_in};
-ghost use Rattle.ec_points.specs.Table.{plain_marks};
+ghost use Rattle.ec_rows.specs.PlainMarks.{plain_marks};
 
 use crate::row::{KeptRow, clear_row};
 use crate::write::rebuild_row;

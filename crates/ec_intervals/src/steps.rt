@@ -3,7 +3,7 @@ ghost use Rattle.std.specs.Prelude.{◌≡◌, option_map};
 ghost use Rattle.ec_axioms.specs.Marks.{mark_breaks};
 ghost use Rattle.ec_intervals.specs.Steps.{broken_by, ended_by, first_open, open_behind, unended_interval};
 ghost use Rattle.ec_intervals.specs.Table.{plain_begin, plain_broken, plain_interval};
-ghost use Rattle.ec_points.specs.Table.{plain_mark};
+ghost use Rattle.ec_rows.specs.PlainMarks.{plain_mark};
 
 use crate::interval::{Begin, Interval};
 use ec_moment::Moment;

@@ -8,7 +8,7 @@ ghost use Rattle.ec_axioms.specs.Marks.{spans_of};
 ghost use Rattle.ec_intervals.specs.Kept.{seen};
 ghost use Rattle.ec_intervals.specs.Steps.{IsIntervalRow};
 ghost use Rattle.ec_intervals.specs.Table.{members_in, plain_intervals};
-ghost use Rattle.ec_points.specs.Table.{plain_marks};
+ghost use Rattle.ec_rows.specs.PlainMarks.{plain_marks};
 ghost use Rattle.ec_rows.specs.Spans.{IsSpanRow};
 
 use crate::interval::{Begin, Interval};

@@ -14,7 +14,7 @@ use Rattle.ec_rows.specs.Marks.{IsMarkRow, marks_before}
 use Rattle.ec_rows.proofs.OrderedLemmas.{is_at, filter-not_at}
 use Rattle.ec_rows.proofs.TimedLemmas.{IsPlace-by_time, IsFreeAt-end, IsFreeAt-other, has_member-free}
 use Rattle.ec_points.specs.Changes.{without_mark}
-use Rattle.ec_points.specs.Table.{plain_mark, plain_marks}
+use Rattle.ec_rows.specs.PlainMarks.{plain_mark, plain_marks}
 use Rattle.ec_points.proofs.Lists.{filter-not_any, last_or-take, IsPartitionPoint-from_take}
 
 -- ---- facts on whole numbers

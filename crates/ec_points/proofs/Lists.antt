@@ -1,5 +1,5 @@
 -- Facts on lists that rows and changes rest on.
-use Rattle.std.proofs.Common.{◌≡◌, ℕ, ◌≤◌, ◌<◌, zero, suc, Bool, true, false, not, ◌&&◌, List, [], ◌∷◌, ◌++◌, length, map, filter, take, drop, get_or, Option, Some, refl, ap, ◌∙◌, ⊎_elim, arith}
+use Rattle.std.proofs.Common.{◌≡◌, ℕ, ◌≤◌, ◌<◌, zero, suc, Bool, true, false, not, List, [], ◌∷◌, length, map, filter, take, drop, get_or, Option, Some, refl, ap, ◌∙◌, ⊎_elim, arith}
 use Rattle.std.specs.Prelude.{slice_get}
 use Rattle.std.specs.List.{list_all, list_any, last_or}
 use Rattle.std.specs.List.Sorted.{IsPartitionPoint}
@@ -8,29 +8,15 @@ use Rattle.std.proofs.lemmas.Option.{slice_get_within, get_or_from_slice_get}
 use Rattle.std.proofs.lemmas.List.Elements.{filter_passes}
 use Rattle.std.proofs.lemmas.List.Filters.{length-filter_both}
 use Rattle.std.proofs.lemmas.List.Sums.{list_all-from_AllPass}
-use Rattle.std.proofs.lemmas.List.Folds.{list_all-append}
 use Rattle.std.proofs.Math.Seq.{drop-cons}
 use Rattle.ec_rows.specs.Ordered.{is_ascending}
-use Rattle.ec_rows.proofs.OrderedLemmas.{and-left, and-right, ascending-first, ascending-rest}
+use Rattle.ec_rows.proofs.OrderedLemmas.{and-left}
 
 -- ---- lists in order
 
 pub is_ascending-nil : {X : Type 0} (stands_before : X → X → Bool) (xs : List X) → xs ≡ [] → is_ascending stands_before xs ≡ true
 unfolding is_ascending
 is_ascending-nil stands_before xs empty = ap (is_ascending stands_before) empty
-
--- one more at the end, behind all
-pub is_ascending-append_one : {X : Type 0} (stands_before : X → X → Bool) (xs : List X) (x : X) → is_ascending stands_before xs ≡ true →
-    list_all (λ y. stands_before y x) xs ≡ true → is_ascending stands_before (xs ++ x ∷ []) ≡ true
-unfolding is_ascending
-is_ascending-append_one stands_before [] x ascending all = refl
-is_ascending-append_one stands_before (y ∷ xs) x ascending all =
-    let here : stands_before y x ≡ true = and-left _ _ all in
-    let ih : is_ascending stands_before (xs ++ x ∷ []) ≡ true =
-    is_ascending-append_one stands_before xs x (ascending-rest stands_before y xs ascending) (and-right _ _ all) in
-    let first : list_all (stands_before y) xs ≡ true = ascending-first stands_before y xs ascending in
-    let front : list_all (stands_before y) (xs ++ x ∷ []) ≡ true = list_all-append (stands_before y) xs (x ∷ []) ∙ rw (first, here) in
-    ap (λ b. b && is_ascending stands_before (xs ++ x ∷ [])) front ∙ ih
 
 -- no member passes a test
 pub list_all-none : {X : Type 0} (p : X → Bool) (xs : List X) → list_any p xs ≡ false → list_all (λ x. not (p x)) xs ≡ true

@@ -9,9 +9,9 @@ use Rattle.std.proofs.lemmas.Int.{ints}
 use Rattle.std.proofs.lemmas.List.Folds.{find-append}
 use Rattle.ec_axioms.proofs.Members.{find-filter, find_agree}
 use Rattle.ec_rows.specs.declared.mark.Mark.{Mark}
-use Rattle.ec_rows.specs.Marks.{is_counted, with_mark}
+use Rattle.ec_rows.specs.Marks.{is_counted, mark_at, with_mark}
 use Rattle.ec_rows.proofs.OrderedLemmas.{and-left, and-right, ascending-first, ascending-rest}
-use Rattle.ec_points.specs.Changes.{Change, are_apart, are_all_apart, without_mark, with_change, changed, mark_at, change_at, made, ChangesAreMade}
+use Rattle.ec_points.specs.Changes.{Change, are_apart, are_all_apart, without_mark, with_change, changed, change_at, made, ChangesAreMade}
 
 -- ---- the first that passes a test, in what a filter keeps
 

@@ -5,7 +5,7 @@ use Rattle.std.specs.Ordering.{int_eq}
 use Rattle.ec_terms.specs.declared.ids.PropId.{PropId}
 use Rattle.ec_rows.specs.Ordered.{is_ascending}
 use Rattle.ec_rows.specs.declared.mark.Mark.{Mark}
-use Rattle.ec_rows.specs.Marks.{is_counted, with_mark}
+use Rattle.ec_rows.specs.Marks.{is_counted, mark_at, with_mark}
 
 -- a change: the new mark of a property, by its number
 abbrev pub Change : Type 0 → Type 0
@@ -45,10 +45,6 @@ changed rank n [] marks = marks
 changed rank n (change ∷ changes) marks = changed rank n changes (if change.0.0 == n then with_change rank change.1 marks else marks)
 
 -- ---- what stands at one time
-
--- the mark of a row at t, if there is one
-abbrev pub mark_at : {T : Type 0} → (T → ℤ) → ℤ → List (Mark T) → Option (Mark T)
-mark_at rank t marks = find (λ mark. int_eq (rank mark.at) t) marks
 
 -- the change of a property at t, if there is one
 abbrev pub change_at : {T : Type 0} → (T → ℤ) → ℕ → ℤ → List (Change T) → Option (Change T)

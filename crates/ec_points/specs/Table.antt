@@ -1,5 +1,5 @@
 -- The marks of all properties, and the currency that they tell.
-use Rattle.std.specs.Prelude.{◌≡◌, ◌==◌, ℕ, ℤ, Bool, nat_lt, List, [], map, Option, Some, None, is_some, IsTrue}
+use Rattle.std.specs.Prelude.{◌≡◌, ◌==◌, ℕ, ℤ, Bool, nat_lt, List, [], Option, Some, None, is_some, IsTrue}
 use Rattle.std.specs.List.{list_any, slice_index_or}
 use Rattle.ec_terms.specs.declared.ids.PropId.{PropId}
 use Rattle.ec_terms.specs.declared.ground.Ground.{Ground}
@@ -7,9 +7,10 @@ use Rattle.ec_terms.specs.declared.theory.Theory.{Theory}
 use Rattle.ec_terms.specs.Domain.{is_initial}
 use Rattle.ec_axioms.specs.Calculus.{PlainEvent, is_current}
 use Rattle.ec_axioms.specs.Changes.{is_history}
-use Rattle.ec_axioms.specs.Marks.{PlainMark, marks_of, last_mark_before, current_after}
+use Rattle.ec_axioms.specs.Marks.{marks_of, last_mark_before, current_after}
 use Rattle.ec_rows.specs.Ordered.{is_ascending}
 use Rattle.ec_rows.specs.declared.mark.Mark.{Mark}
+use Rattle.ec_rows.specs.PlainMarks.{plain_marks}
 
 -- the row of a property: its marks in order, and how many further marks it takes without memory
 pub record PointRow (T : Type 0) : Type 0 where
@@ -72,14 +73,6 @@ abbrev pub is_initial_at : {T : Type 0} → ℕ → PointTable T → Bool
 is_initial_at n points = has_number n points.initials
 
 -- ---- currency
-
--- a mark, with its time as a whole number
-abbrev pub plain_mark : {T : Type 0} → (T → ℤ) → Mark T → PlainMark
-plain_mark rank mark = record { instant = rank mark.at; inits = mark.inits; terms = mark.terms; clashes = mark.clashes }
-
--- marks, with their times as whole numbers
-abbrev pub plain_marks : {T : Type 0} → (T → ℤ) → List (Mark T) → List PlainMark
-plain_marks rank marks = map (plain_mark rank) marks
 
 -- the property of a number is current at t: the last mark before t initiates it, or there is none and it is initial
 abbrev pub is_current_at : {T : Type 0} → (T → ℤ) → PointTable T → ℕ → ℤ → Bool

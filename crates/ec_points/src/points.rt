@@ -2,7 +2,8 @@ ghost use Rattle.std.specs.Prelude.{◌≡◌, ◌≢◌, ℕ, ◌+◌, ◌≤�
 ghost use Rattle.ec_axioms.specs.Marks.{last_mark_before};
 ghost use Rattle.ec_points.specs.Changes.{changed, count_of as changes_of};
 ghost use Rattle.ec_points.specs.Kept.{IsGrown};
-ghost use Rattle.ec_points.specs.Table.{are_ascending, has_number, has_row, is_current_at, is_initial_at, marks_at, plain_mark, plain_marks, room_at, row_at, row_of};
+ghost use Rattle.ec_points.specs.Table.{are_ascending, has_number, has_row, is_current_at, is_initial_at, marks_at, room_at, row_at, row_of};
+ghost use Rattle.ec_rows.specs.PlainMarks.{plain_mark, plain_marks};
 
 use crate::change::MarkChange;
 use crate::initials::stands_in;

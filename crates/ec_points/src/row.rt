@@ -5,7 +5,7 @@ ghost use Rattle.std.specs.Ordering.{int_eq};
 ghost use Rattle.ec_axioms.specs.Marks.{last_mark_before};
 ghost use Rattle.ec_rows.specs.Marks.{IsMarkRow, is_counted, marks_before};
 ghost use Rattle.ec_points.specs.Changes.{with_change, without_mark};
-ghost use Rattle.ec_points.specs.Table.{plain_mark, plain_marks};
+ghost use Rattle.ec_rows.specs.PlainMarks.{plain_mark, plain_marks};
 
 use ec_moment::Moment;
 use ec_rows::{Mark, MarkRow};

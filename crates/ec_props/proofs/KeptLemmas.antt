@@ -1,7 +1,7 @@
 -- Kept properties: what is found among them, and what a property more, a property less, or other mentions leave.
 use Rattle.std.proofs.Common.{◌≡◌, ℕ, zero, suc, Bool, true, false, cond, not, ◌&&◌, ◌||◌, List, [], ◌∷◌, map, Option, Some, None, refl, sym, ap, ap₂, subst, ◌∙◌, ⊎_elim, slice_get, is_some, arith}
 use Rattle.std.specs.Prelude.{find, option_map, ◌==◌, if◌then◌else◌}
-use Rattle.std.specs.List.{list_any, list_all, insert, remove}
+use Rattle.std.specs.List.{list_all, insert, remove}
 use Rattle.std.specs.declared.cmp.Ordering.{Ordering}
 use Rattle.std.specs.declared.cmp.Ordering.TheVariants.{Less, Equal, Greater}
 use Rattle.std.specs.Ordering.{is_lt, is_eq}
@@ -51,12 +51,6 @@ cond-same false x = refl
 cond-none : {A : Type 0} (b : Bool) (x y o : A) → cond b x o ≡ cond b x (cond b y o)
 cond-none true x y o = refl
 cond-none false x y o = refl
-
--- where nothing passes, nothing is found
-pub find-none : {A : Type 0} (p : A → Bool) (xs : List A) → list_any p xs ≡ false → find p xs ≡ None
-find-none p [] none = refl
-find-none p (x ∷ xs) none =
-    ap (λ b. cond b (Some x) (find p xs)) (or_left-false (p x) (list_any p xs) none) ∙ find-none p xs (or_right-false (p x) (list_any p xs) none)
 
 -- what holds of all members holds of the one at a place
 pub list_all-slice_get : {A : Type 0} (p : A → Bool) (xs : List A) (i : ℕ) (x : A) → list_all p xs ≡ true → slice_get xs i ≡ Some x → p x ≡ true

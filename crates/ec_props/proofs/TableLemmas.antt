@@ -13,7 +13,8 @@ use Rattle.ec_terms.specs.Term.{term_cmp, term_eq}
 use Rattle.ec_terms.proofs.OrderLemmas.{term_cmp-total}
 use Rattle.ec_rows.specs.Ordered.{is_ascending}
 use Rattle.ec_rows.proofs.OrderedLemmas.{IsPlace, IsPlace-by_key, IsPartitionedBy-ascending, is_at, is_eq-is_at, length-partition, filter-behind_free, list_any-free, list_any-same}
-use Rattle.ec_props.proofs.KeptLemmas.{find-none, find-term, same_term, term_eq-is_eq, place-prop_at, same-places}
+use Rattle.ec_rows.proofs.OrderedLemmas.{find-none}
+use Rattle.ec_props.proofs.KeptLemmas.{find-term, same_term, term_eq-is_eq, place-prop_at, same-places}
 use Rattle.ec_props.proofs.ArityLemmas.{IsRising-arity}
 use Rattle.ec_props.specs.Table.{KeptProp, prop_at, term_at, mentions_at, prop_of, prop_before, arity_cmp, props_below, kept_as, number_of, kept_of, IsTable}
 use Rattle.ec_props.specs.declared.property.Property.{Property}

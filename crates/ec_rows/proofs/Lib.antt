@@ -1,3 +1,4 @@
+pub mod KnownByTimes
 pub mod MarkLemmas
 pub mod OrderedLemmas
 pub mod SpanLemmas

@@ -1,10 +1,11 @@
 -- Rows of marks: the empty one, and what edits leave.
-use Rattle.std.proofs.Common.{◌≡◌, ℕ, ◌+◌, ◌<◌, ℤ, List, [], true, refl, sym, subst, length, take, drop, set, add-one}
+use Rattle.std.proofs.Common.{◌≡◌, ℕ, ◌+◌, ◌<◌, ℤ, List, [], ◌∷◌, ◌++◌, true, refl, sym, subst, ◌∙◌, length, take, drop, set, add-one}
 use Rattle.std.specs.List.{insert, remove}
+use Rattle.std.proofs.lemmas.List.Folds.{list_all-append}
 use Rattle.ec_rows.specs.declared.mark.Mark.{Mark}
 use Rattle.ec_rows.specs.Ordered.{is_ascending, members_before, members_after}
-use Rattle.ec_rows.specs.Marks.{IsMarkRow, is_counted, mark_before, with_mark}
-use Rattle.ec_rows.proofs.OrderedLemmas.{list_all-remove, is_ascending-remove, list_all-with_member, is_ascending-with_member, with_member-at, with_member-free}
+use Rattle.ec_rows.specs.Marks.{IsMarkRow, is_counted, mark_before, are_before, with_mark}
+use Rattle.ec_rows.proofs.OrderedLemmas.{list_all-remove, is_ascending-remove, is_ascending-append_one, list_all-with_member, is_ascending-with_member, with_member-at, with_member-free}
 use Rattle.ec_rows.proofs.TimedLemmas.{IsOrder-by_time}
 
 module _ {T : Type 0} (rank : T → ℤ) where
@@ -19,6 +20,14 @@ module _ {T : Type 0} (rank : T → ℤ) where
   IsMarkRow-with_mark mark marks new counted row is = subst (IsMarkRow rank) (sym is) (record {
     ascending = is_ascending-with_member (mark_before rank) (IsOrder-by_time rank (λ (m : Mark T). m.at)) mark marks row.ascending;
     counted = list_all-with_member (mark_before rank) is_counted mark marks counted row.counted;
+  })
+
+  -- one mark more, behind all others
+  pub IsMarkRow-push : (mark : Mark T) (marks new : List (Mark T)) → is_counted mark ≡ true → are_before rank marks mark ≡ true → IsMarkRow rank marks →
+      new ≡ marks ++ mark ∷ [] → IsMarkRow rank new
+  IsMarkRow-push mark marks new counted last row is = subst (IsMarkRow rank) (sym is) (record {
+    ascending = is_ascending-append_one (mark_before rank) marks mark row.ascending last;
+    counted = list_all-append is_counted marks (mark ∷ []) ∙ rw (row.counted, counted);
   })
 
   -- one mark less

@@ -1,6 +1,6 @@
 -- Lists in order. A test that keeps to one side cuts an ascending list in two; what a place cuts out is what
 -- the tests of before and after keep; and edits at a place keep the order.
-use Rattle.std.proofs.Common.{◌≡◌, ℕ, ◌<◌, ◌≤◌, zero, suc, Bool, true, false, not, cond, ◌&&◌, ◌||◌, List, [], ◌∷◌, ◌++◌, length, filter, get_or, take, drop, set, refl, sym, ap, ap₂, ◌∙◌, ⊎_elim, true≢false, arith}
+use Rattle.std.proofs.Common.{◌≡◌, ℕ, ◌<◌, ◌≤◌, zero, suc, Bool, true, false, not, cond, ◌&&◌, ◌||◌, List, [], ◌∷◌, ◌++◌, length, filter, find, Some, None, get_or, take, drop, set, refl, sym, ap, ap₂, ◌∙◌, ⊎_elim, true≢false, arith}
 use Rattle.std.specs.Cmp.{IsTotalOrder}
 use Rattle.std.specs.declared.cmp.Ordering.{Ordering}
 use Rattle.std.specs.declared.cmp.Ordering.TheVariants.{Less, Equal, Greater}
@@ -52,6 +52,11 @@ list_all-weaker p q weaker (x ∷ xs) all = let ih = list_all-weaker p q weaker 
 pub list_any-none : {X : Type 0} (p : X → Bool) (xs : List X) → list_all (λ x. not (p x)) xs ≡ true → list_any p xs ≡ false
 list_any-none p [] all = refl
 list_any-none p (x ∷ xs) all = let ih = list_any-none p xs in grind arith
+
+-- where nothing passes, nothing is found
+pub find-none : {X : Type 0} (p : X → Bool) (xs : List X) → list_any p xs ≡ false → find p xs ≡ None
+find-none p [] none = refl
+find-none p (x ∷ xs) none = let ih = find-none p xs in grind arith
 
 -- two tests that agree
 pub list_any-same : {X : Type 0} (p q : X → Bool) → ((x : X) → p x ≡ q x) → (xs : List X) → list_any p xs ≡ list_any q xs
@@ -126,6 +131,15 @@ drop-partition p q other (x ∷ xs) (suc i) cut =
 pub length-partition : {X : Type 0} (p : X → Bool) (xs : List X) (i : ℕ) → i ≤ length xs → IsPartitionPoint (λ y. p y ≡ true) (λ y. p y ≡ false) xs i →
     i ≡ length (filter p xs)
 length-partition p xs i within cut = sym (length-take-le i xs within) ∙ ap length (take-partition p xs i cut)
+
+-- what is found at the cut, by a test that no member in front of it passes
+pub find-at_cut : {X : Type 0} (p q : X → Bool) → ((x : X) → p x ≡ true → q x ≡ false) → (xs : List X) (i : ℕ) (x : X) →
+    IsPartitionPoint (λ y. p y ≡ true) (λ y. p y ≡ false) xs i → i < length xs → x ≡ get_or xs i x → q x ≡ true → find q xs ≡ Some x
+find-at_cut p q apart [] i x cut within is passes = absurd (omega arith)
+find-at_cut p q apart (y ∷ xs) zero x cut within is passes = rw (← is) (ap (λ b. cond b (Some x) (find q xs)) passes)
+find-at_cut p q apart (y ∷ xs) (suc i) x cut within is passes =
+    let here : q y ≡ false = apart y (cut.0 zero y (omega arith) (omega arith)) in
+    ap (λ b. cond b (Some y) (find q xs)) here ∙ find-at_cut p q apart xs i x (IsPartitionPoint-rest p y xs i cut) (omega arith) is passes
 
 -- ---- the place of a key
 
@@ -360,6 +374,19 @@ with_member-at stands_before x xs i within before behind = set_split xs i x with
 pub with_member-free : {X : Type 0} (stands_before : X → X → Bool) (x : X) → let p : X → Bool = λ y. stands_before y x in let q : X → Bool = λ y. stands_before x y in
     (xs : List X) (i : ℕ) → take i xs ≡ filter p xs → drop i xs ≡ filter q xs → insert xs i x ≡ with_member stands_before x xs
 with_member-free stands_before x xs i before behind = ap₂ (λ ys zs. ys ++ x ∷ zs) before behind
+
+-- one more at the end, behind all
+pub is_ascending-append_one : {X : Type 0} (stands_before : X → X → Bool) (xs : List X) (x : X) → is_ascending stands_before xs ≡ true →
+    list_all (λ y. stands_before y x) xs ≡ true → is_ascending stands_before (xs ++ x ∷ []) ≡ true
+unfolding is_ascending
+is_ascending-append_one stands_before [] x ascending all = refl
+is_ascending-append_one stands_before (y ∷ xs) x ascending all =
+    let here : stands_before y x ≡ true = and-left _ _ all in
+    let ih : is_ascending stands_before (xs ++ x ∷ []) ≡ true =
+    is_ascending-append_one stands_before xs x (ascending-rest stands_before y xs ascending) (and-right _ _ all) in
+    let first : list_all (stands_before y) xs ≡ true = ascending-first stands_before y xs ascending in
+    let front : list_all (stands_before y) (xs ++ x ∷ []) ≡ true = list_all-append (stands_before y) xs (x ∷ []) ∙ rw (first, here) in
+    ap (λ b. b && is_ascending stands_before (xs ++ x ∷ [])) front ∙ ih
 
 -- ---- orders by a key
 

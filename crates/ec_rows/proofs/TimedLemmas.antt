@@ -28,6 +28,9 @@ behind_too a b t = grind (arith, ints)
 not_both : (a t : ℤ) → int_lt a t ≡ true → int_lt t a ≡ false
 not_both a t = grind (arith, ints)
 
+pub before-not_at : (a t : ℤ) → int_lt a t ≡ true → int_eq a t ≡ false
+before-not_at a t = grind (arith, ints)
+
 same-not_behind : (a t : ℤ) → int_eq a t ≡ true → int_lt t a ≡ false
 same-not_behind a t = grind (arith, ints)
 

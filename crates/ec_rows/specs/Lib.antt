@@ -1,4 +1,5 @@
 pub mod Marks
 pub mod Ordered
+pub mod PlainMarks
 pub mod Spans
 pub mod Times

@@ -1,5 +1,5 @@
 -- Rows of marks: their order, and the row with one more mark.
-use Rattle.std.specs.Prelude.{◌+◌, Bool, nat_lt, List, IsTrue, ℤ, int_lt, filter}
+use Rattle.std.specs.Prelude.{◌≡◌, ◌+◌, Bool, nat_lt, List, Option, IsTrue, ℤ, int_lt, filter, find}
 use Rattle.std.specs.List.{list_all, list_any}
 use Rattle.std.specs.Ordering.{int_eq}
 use Rattle.ec_rows.specs.declared.mark.Mark.{Mark}
@@ -25,6 +25,10 @@ marks_before rank t marks = filter (λ mark. int_lt (rank mark.at) t) marks
 abbrev pub marks_after : {T : Type 0} → (T → ℤ) → ℤ → List (Mark T) → List (Mark T)
 marks_after rank t marks = filter (λ mark. int_lt t (rank mark.at)) marks
 
+-- the mark at t, if there is one
+abbrev pub mark_at : {T : Type 0} → (T → ℤ) → ℤ → List (Mark T) → Option (Mark T)
+mark_at rank t marks = find (λ mark. int_eq (rank mark.at) t) marks
+
 -- some mark is at t
 abbrev pub has_mark : {T : Type 0} → (T → ℤ) → ℤ → List (Mark T) → Bool
 has_mark rank t marks = list_any (λ mark. int_eq (rank mark.at) t) marks
@@ -32,3 +36,13 @@ has_mark rank t marks = list_any (λ mark. int_eq (rank mark.at) t) marks
 -- the row with a mark at its time, in place of the one that was there
 abbrev pub with_mark : {T : Type 0} → (T → ℤ) → Mark T → List (Mark T) → List (Mark T)
 with_mark rank mark marks = with_member (mark_before rank) mark marks
+
+-- each mark of the row is before another
+abbrev pub are_before : {T : Type 0} → (T → ℤ) → List (Mark T) → Mark T → Bool
+are_before rank marks mark = list_all (λ m. mark_before rank m mark) marks
+
+-- a row of marks is known by the mark that it has at each time
+abbrev pub IsKnownByTimes : {T : Type 0} → (T → ℤ) → Type 0
+IsKnownByTimes {T} rank =
+    (marks others : List (Mark T)) → IsMarkRow rank marks → IsMarkRow rank others
+    → ((t : ℤ) → mark_at rank t marks ≡ mark_at rank t others) → marks ≡ others

@@ -1,5 +1,5 @@
 -- Rows of spans: which of them are proper, in what order they stand, and which time a span covers.
-use Rattle.std.specs.Prelude.{Bool, true, false, ◌&&◌, List, IsTrue, ℤ, int_lt, int_le}
+use Rattle.std.specs.Prelude.{Bool, true, false, ◌&&◌, List, IsTrue, ℤ, int_lt, int_le, filter}
 use Rattle.std.specs.List.{list_all}
 use Rattle.ec_rows.specs.declared.span.End.{End}
 use Rattle.ec_rows.specs.declared.span.End.TheVariants.{At, Unended}
@@ -37,3 +37,7 @@ pub record IsSpanRow {T : Type 0} (rank : T → ℤ) (spans : List (Span T)) : T
 -- a span covers t where t lies after its start, and up to its end
 abbrev pub is_covering : {T : Type 0} → (T → ℤ) → ℤ → Span T → Bool
 is_covering rank t span = int_lt (rank span.from) t && reaches rank t span.end
+
+-- the spans that start before t
+abbrev pub spans_before : {T : Type 0} → (T → ℤ) → ℤ → List (Span T) → List (Span T)
+spans_before rank t spans = filter (λ span. int_lt (rank span.from) t) spans

@@ -4,7 +4,9 @@
 //! members that it takes without memory. A row over `Vec` implements each.
 #![tactic(auto)]
 
+mod copied;
 mod edits;
+mod laws;
 mod mark;
 mod mark_row;
 mod search;
@@ -17,6 +19,8 @@ mod vec_marks;
 mod vec_spans;
 mod vec_times;
 
+pub use copied::Copied;
+pub use laws::rows_ext;
 pub use mark::Mark;
 pub use mark_row::MarkRow;
 pub use span::{End, Span};

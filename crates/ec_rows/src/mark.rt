@@ -1,3 +1,4 @@
+use crate::copied::Copied;
 use crate::search::Timed;
 use ec_moment::Moment;
 
@@ -16,5 +17,11 @@ impl<T: Moment> Timed<T> for Mark<T> {
 
     fn time(&self) -> T {
         self.at
+    }
+}
+
+impl<T: Moment> Copied for Mark<T> {
+    fn copied(&self) -> Self {
+        *self
     }
 }

@@ -1,5 +1,6 @@
 //! Places in an ordered row, found by binary search.
 ghost use Rattle.std.specs.Prelude.{◌≡◌, ◌+◌, ◌<◌, ◌≤◌, IsTrue, true, false, IfOk, IfErr, OnOk, OnErr, length, take, drop, int_lt, int_le};
+ghost use Rattle.std.specs.List.{HoldsAt};
 ghost use Rattle.std.specs.List.Sorted.{IsPartitionPoint};
 ghost use Rattle.std.specs.Ordering.{int_eq};
 ghost use Rattle.ec_rows.specs.Ordered.{is_ascending, by_time, members_before, members_from, members_up_to, members_after, has_member};
@@ -56,6 +57,8 @@ pub(crate) fn place_of<T: Moment, X: Timed<T>>(row: &[X], at: T) -> Result<usize
     requires { IsTrue (is_ascending (by_time T.rank X.time) row.now) }
     ensures found { IfOk result (λ i. i < length row.now) }
     ensures present { OnOk result (IsTrue (has_member T.rank X.time (T.rank at) row.now)) }
+    ensures at { IfOk result (λ i. HoldsAt (λ x. int_eq (T.rank (X.time x)) (T.rank at) ≡ true) row.now i) }
+    ensures cut { IfOk result (λ i. IsPartitionPoint (λ x. int_lt (T.rank (X.time x)) (T.rank at) ≡ true) (λ x. int_lt (T.rank (X.time x)) (T.rank at) ≡ false) row.now i) }
     ensures before { IfOk result (λ i. take i row.now ≡ members_before T.rank X.time (T.rank at) row.now) }
     ensures after { IfOk result (λ i. drop (i + 1) row.now ≡ members_after T.rank X.time (T.rank at) row.now) }
     ensures absent { OnErr result (has_member T.rank X.time (T.rank at) row.now ≡ false) }

@@ -1,3 +1,4 @@
+use crate::copied::Copied;
 use crate::search::Timed;
 use ec_moment::Moment;
 
@@ -20,5 +21,11 @@ impl<T: Moment> Timed<T> for Span<T> {
 
     fn time(&self) -> T {
         self.from
+    }
+}
+
+impl<T: Moment> Copied for Span<T> {
+    fn copied(&self) -> Self {
+        *self
     }
 }

@@ -1,7 +1,7 @@
-ghost use Rattle.std.specs.Prelude.{◌≡◌, ◌+◌, ◌-◌, ◌<◌, ◌≤◌, ℕ, List, [], IsTrue, false, Some, IfSome, IfNone, IfOk, OnOk, length, slice_get};
+ghost use Rattle.std.specs.Prelude.{◌≡◌, ◌+◌, ◌-◌, ◌<◌, ◌≤◌, ℕ, List, [], IsTrue, false, Some, IfSome, IfNone, IfOk, OnOk, length, take, drop, slice_get};
 ghost use Rattle.std.specs.List.{splice, HoldsAt, list_any};
 ghost use Rattle.ec_rows.specs.declared.span.Span.{Span};
-ghost use Rattle.ec_rows.specs.Spans.{IsSpanRow, is_covering};
+ghost use Rattle.ec_rows.specs.Spans.{IsSpanRow, is_covering, spans_before};
 
 use crate::span::Span;
 use ec_moment::Moment;
@@ -36,6 +36,18 @@ pub trait SpanRow<T: Moment>: Drop {
     fn get(&self, i: usize) -> Span<T>
         requires { i < length (spans self.now) }
         ensures span { slice_get (spans self.now) i ≡ Some result }
+        ensures row { IsSpanRow T.rank (spans self.now) };
+
+    /// The spans from a place on that lie together in memory.
+    fn run(&self, i: usize) -> &[Span<T>]
+        requires { i < length (spans self.now) }
+        ensures some { 1 ≤ length result.now }
+        ensures run { result.now ≡ take (length result.now) (drop i (spans self.now)) }
+        ensures row { IsSpanRow T.rank (spans self.now) };
+
+    /// How many spans start strictly before a time.
+    fn count_before(&self, at: T) -> usize
+        ensures count { result ≡ length (spans_before T.rank (T.rank at) (spans self.now)) }
         ensures row { IsSpanRow T.rank (spans self.now) };
 
     /// The place of the span that covers a time: its start lies before the time, and it does not end

@@ -1,4 +1,4 @@
-ghost use Rattle.std.specs.Prelude.{◌≡◌, ◌+◌, ◌<◌, ◌≤◌, ℕ, List, [], IsTrue, false, Some, IfOk, OnOk, length, slice_get, Contains};
+ghost use Rattle.std.specs.Prelude.{◌≡◌, ◌+◌, ◌<◌, ◌≤◌, ℕ, List, [], IsTrue, false, Some, IfOk, OnOk, length, take, drop, slice_get, Contains};
 ghost use Rattle.ec_terms.specs.declared.ids.Slot.{Slot};
 ghost use Rattle.ec_rows.specs.Times.{IsTimeRow, entries_before, has_entry, with_entry, without_entry};
 
@@ -34,6 +34,13 @@ pub trait TimeRow<T: Moment>: Drop {
     fn get(&self, i: usize) -> (T, Name, Slot)
         requires { i < length (times self.now) }
         ensures entry { slice_get (times self.now) i ≡ Some result }
+        ensures row { IsTimeRow T.rank (times self.now) };
+
+    /// The entries from a place on that lie together in memory.
+    fn run(&self, i: usize) -> &[(T, Name, Slot)]
+        requires { i < length (times self.now) }
+        ensures some { 1 ≤ length result.now }
+        ensures run { result.now ≡ take (length result.now) (drop i (times self.now)) }
         ensures row { IsTimeRow T.rank (times self.now) };
 
     /// The place of the first entry that is not before a time, which is the number of entries before it.

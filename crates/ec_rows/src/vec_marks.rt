@@ -1,7 +1,7 @@
-ghost use Rattle.std.specs.Prelude.{◌≡◌, ◌+◌, ◌-◌, ◌<◌, ◌≤◌, ℕ, List, IsTrue, Some, IfSome, IfNone, IfOk, OnOk, OnErr, length, if◌then◌else◌, vec_len, slice_get};
+ghost use Rattle.std.specs.Prelude.{◌≡◌, ◌++◌, ◌∷◌, [], ◌+◌, ◌-◌, ◌<◌, ◌≤◌, ℕ, List, IsTrue, Some, IfSome, IfNone, IfOk, OnOk, OnErr, length, if◌then◌else◌, vec_len, slice_get};
 ghost use Rattle.std.specs.List.{remove};
 ghost use Rattle.std.specs.Vec.{vec_capacity};
-ghost use Rattle.ec_rows.specs.Marks.{IsMarkRow, is_counted, has_mark, with_mark};
+ghost use Rattle.ec_rows.specs.Marks.{IsMarkRow, is_counted, are_before, has_mark, with_mark, marks_before, mark_at};
 
 use crate::edits::insert_within;
 use crate::mark::Mark;
@@ -56,6 +56,18 @@ impl<T: Moment> MarkRow<T> for VecMarks<T> {
         self.marks[i]
     }
 
+    fn run(&self, i: usize) -> &[Mark<T>] {
+        &self.marks[i..]
+    }
+
+    fn count_before(&self, at: T, _near: usize) -> usize {
+        count_marks_before(&self.marks, at)
+    }
+
+    fn mark_at(&self, at: T) -> Option<Mark<T>> {
+        find_mark(&self.marks, at)
+    }
+
     fn last_before(&self, at: T) -> Option<usize> {
         count_before(&self.marks, at).checked_sub(1)
     }
@@ -79,8 +91,40 @@ impl<T: Moment> MarkRow<T> for VecMarks<T> {
         put_mark(&mut self.marks, mark);
     }
 
+    fn push(&mut self, mark: Mark<T>) -> Result<(), NoMemory>
+        requires counted { IsTrue (is_counted mark) }
+        requires last { IsTrue (are_before T.rank self.old.items mark) }
+        ensures ok { OnOk result (self.new.items ≡ self.old.items ++ mark ∷ []) }
+        ensures err { OnErr result (self.new.items ≡ self.old.items) }
+        ensures spare { self.old.spare ≤ self.new.spare + 1 }
+        ensures same_spare { OnErr result (self.old.spare ≤ self.new.spare) }
+        ensures row { IsMarkRow T.rank self.new.items }
+    {
+        self.marks.push(mark)?;
+        Ok(())
+    }
+
     fn take_out(&mut self, i: usize) -> Mark<T> {
         take_out_mark(&mut self.marks, i)
+    }
+}
+
+/// How many marks are before a time.
+fn count_marks_before<T: Moment>(marks: &[Mark<T>], at: T) -> usize
+    requires { IsMarkRow T.rank marks.now }
+    ensures { result ≡ length (marks_before T.rank (T.rank at) marks.now) }
+{
+    count_before(marks, at)
+}
+
+/// The mark at a time.
+fn find_mark<T: Moment>(marks: &[Mark<T>], at: T) -> Option<Mark<T>>
+    requires { IsMarkRow T.rank marks.now }
+    ensures { result ≡ mark_at T.rank (T.rank at) marks.now }
+{
+    match place_of(marks, at) {
+        Ok(place) => Some(marks[place]),
+        Err(_) => None,
     }
 }
 

@@ -1,6 +1,6 @@
 ghost use Rattle.std.specs.Prelude.{◌≡◌, ◌+◌, ◌-◌, ◌<◌, ◌≤◌, IsTrue, false, IfSome, IfNone, length};
 ghost use Rattle.std.specs.List.{splice, HoldsAt, list_any};
-ghost use Rattle.ec_rows.specs.Spans.{IsSpanRow, is_covering, reaches};
+ghost use Rattle.ec_rows.specs.Spans.{IsSpanRow, is_covering, spans_before, reaches};
 
 use crate::edits::splice_within;
 use crate::search::count_before;
@@ -55,6 +55,14 @@ impl<T: Moment> SpanRow<T> for VecSpans<T> {
         self.spans[i]
     }
 
+    fn run(&self, i: usize) -> &[Span<T>] {
+        &self.spans[i..]
+    }
+
+    fn count_before(&self, at: T) -> usize {
+        count_spans_before(&self.spans, at)
+    }
+
     fn covering(&self, at: T) -> Option<usize> {
         place_covering(&self.spans, at)
     }
@@ -69,6 +77,14 @@ impl<T: Moment> SpanRow<T> for VecSpans<T> {
     {
         splice_within(&mut self.spans, from, to, with);
     }
+}
+
+/// How many spans start before a time.
+fn count_spans_before<T: Moment>(spans: &[Span<T>], at: T) -> usize
+    requires { IsSpanRow T.rank spans.now }
+    ensures { result ≡ length (spans_before T.rank (T.rank at) spans.now) }
+{
+    count_before(spans, at)
 }
 
 /// Whether a time lies up to the end of a span.

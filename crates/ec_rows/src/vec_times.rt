@@ -57,6 +57,10 @@ impl<T: Moment> TimeRow<T> for VecTimes<T> {
         (*at, id.copied(), *slot)
     }
 
+    fn run(&self, i: usize) -> &[(T, Name, Slot)] {
+        &self.times[i..]
+    }
+
     fn first_at(&self, at: T) -> usize {
         count_entries_before(&self.times, at)
     }

@@ -2,7 +2,7 @@
 use Rattle.std.proofs.Common.{◌≡◌, drop}
 use Rattle.std.specs.Prelude.{option_map}
 use Rattle.ec_axioms.specs.Marks.{broken_spans_of}
-use Rattle.ec_points.specs.Table.{plain_marks}
+use Rattle.ec_rows.specs.PlainMarks.{plain_marks}
 use Rattle.ec_intervals.specs.Broken.{first_after}
 use Rattle.ec_intervals.specs.Table.{plain_begin}
 use Rattle.ec_intervals.proofs.Pass.{pass, broken_begin_by}

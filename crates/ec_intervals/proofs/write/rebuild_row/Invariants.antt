@@ -3,7 +3,7 @@ use Rattle.std.proofs.Common.{◌≤◌, Some}
 use Rattle.std.specs.Prelude.{option_map}
 use Rattle.std.specs.Vec.{vec_capacity}
 use Rattle.ec_axioms.specs.Marks.{spans_of}
-use Rattle.ec_points.specs.Table.{plain_marks}
+use Rattle.ec_rows.specs.PlainMarks.{plain_marks}
 use Rattle.ec_intervals.specs.Kept.{seen}
 use Rattle.ec_intervals.specs.Table.{members_in, plain_begin}
 use Rattle.ec_intervals.proofs.Written.{IsWritten}

@@ -3,7 +3,7 @@ use Rattle.std.proofs.Common.{◌+◌, ◌<◌, ◌≤◌, is_some, length, sym,
 use Rattle.std.specs.Prelude.{◌^◌}
 use Rattle.std.proofs.lemmas.List.{length-map}
 use Rattle.ec_axioms.specs.Marks.{spans_of}
-use Rattle.ec_points.specs.Table.{plain_marks}
+use Rattle.ec_rows.specs.PlainMarks.{plain_marks}
 use Rattle.ec_intervals.specs.Kept.{kept_at, seen_at}
 use Rattle.ec_intervals.specs.Table.{members_in, plain_interval, plain_intervals, room_in, row_at}
 use Rattle.ec_intervals.proofs.KeptRows.{AreFew-each, row_at-seen, row_at-table, is_some-seen, row_at-same}

@@ -3,7 +3,8 @@ use Rattle.std.proofs.Common.{◌&&◌, IsTrue, subst, sym, ap, ◌∙◌}
 use Rattle.std.specs.Prelude.{◌==◌}
 use Rattle.std.specs.Ordering.{int_eq}
 use Rattle.ec_points.specs.Changes.{are_apart, are_all_apart, has_change}
-use Rattle.ec_points.proofs.Lists.{is_ascending-append_one, list_all-none}
+use Rattle.ec_rows.proofs.OrderedLemmas.{is_ascending-append_one}
+use Rattle.ec_points.proofs.Lists.{list_all-none}
 use Rattle.ec_points.proofs.change.MarkChange.push.Goals as goal
 
 pub invariant_of-self-2 : goal.invariant_of-self-2
