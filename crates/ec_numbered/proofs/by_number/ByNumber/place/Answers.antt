@@ -1,0 +1,11 @@
+-- The places that are added are empty.
+use Rattle.std.proofs.Common.{rules, arith, ap, ◌∙◌}
+use Rattle.ec_numbered.specs.ByNumber.{kept_at}
+use Rattle.ec_numbered.proofs.ByNumberLemmas.{kept_at-AppendsResults}
+use Rattle.ec_numbered.proofs.by_number.ByNumber.place.Goals as goal
+
+pub returns-clause-same : goal.returns-clause-same
+returns-clause-same g c = λ n.
+    kept_at-AppendsResults _ (λ f x f' called. search (rules, called)) n _ _ c.resize_with.new.self.items _
+    (omega (arith, c.len.ensures, c.if-p-len.false, c.in-Some.ensures, c.self.inside.rows.ok.0)) c.in_ok-resize_with.ensures.items
+    ∙ ap (kept_at n) c.self.view_is
