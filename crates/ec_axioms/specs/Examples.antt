@@ -1,5 +1,5 @@
 -- The theories and the events of the worked examples: lamps that are plugged and pushed, and people who move.
-use Rattle.std.specs.Prelude.{ℕ, Bool, true, false, List, [], ◌∷◌, ◌++◌, pos, Some, None, codes}
+use Rattle.std.specs.Prelude.{ℕ, ◌+◌, ◌/◌, ◌%◌, nat_lt, if◌then◌else◌, Bool, true, false, List, [], ◌∷◌, ◌++◌, ℤ, pos, negsuc, Some, None, codes}
 use Rattle.ec_terms.specs.declared.ground.Arg.{Arg}
 use Rattle.ec_terms.specs.declared.ground.Arg.TheVariants.{Word}
 use Rattle.ec_terms.specs.declared.ground.Ground.{Ground}
@@ -191,3 +191,8 @@ three_linked_moves = event (codes "m1") 1 move_home ∷ event (codes "m2") 1 mov
 -- bob moves home at 10
 unfoldable pub moved_home_once : List PlainEvent
 moved_home_once = event (codes "m1") 10 move_home ∷ []
+
+-- a number below 100 in one or two digits, with `-` before it where it is below 0, as the worked replies write times
+abbrev pub short_number : ℤ → List ℕ
+short_number (pos n) = if nat_lt n 10 then (48 + n) ∷ [] else (48 + n / 10) ∷ (48 + n % 10) ∷ []
+short_number (negsuc n) = 45 ∷ (49 + n) ∷ []

@@ -11,3 +11,4 @@ pub mod Answers
 pub mod Replies
 pub mod Events
 pub mod Plain
+pub mod QueryTexts

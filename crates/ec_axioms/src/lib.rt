@@ -13,6 +13,7 @@ mod plain_tests;
 mod steps;
 #[cfg(test)]
 mod tests;
+pub mod worked_replies;
 pub mod worked_rows;
 
 pub use current::Current;
