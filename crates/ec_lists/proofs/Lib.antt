@@ -1,0 +1,10 @@
+pub mod Booleans
+pub mod Numbers
+pub mod Integers
+pub mod Orderings
+pub mod Options
+pub mod Tests
+pub mod Filters
+pub mod Finds
+pub mod Fronts
+pub mod Partitions

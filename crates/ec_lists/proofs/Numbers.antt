@@ -1,0 +1,19 @@
+-- Tests of natural numbers and of bytes. That a number is itself, and what the tests say, stands in std.
+use Rattle.std.proofs.Common.{◌≡◌, ◌≢◌, ℕ, false, ◌==◌, List, sym, arith}
+use Rattle.std.specs.Prelude.{bytes_eq}
+use Rattle.std.proofs.lemmas.Bool.Decides.{same_from_decides, nat_tests}
+use Rattle.std.proofs.lemmas.Slice.Eq.{bytes_eq-Decides}
+
+-- the test of two numbers goes both ways
+pub eqb_comm : (m n : ℕ) → (m == n) ≡ (n == m)
+eqb_comm m n = grind (arith, nat_tests)
+
+-- numbers that the test tells apart differ, seen from the second
+pub eqb-apart : (m n : ℕ) → (m == n) ≡ false → n ≢ m
+eqb-apart m n other same = grind (arith, nat_tests)
+
+-- the test of two texts goes both ways
+pub bytes_eq_comm : (xs ys : List ℕ) → bytes_eq xs ys ≡ bytes_eq ys xs
+bytes_eq_comm xs ys =
+    same_from_decides (bytes_eq xs ys) (bytes_eq ys xs) (bytes_eq-Decides xs ys)
+    ((λ same. sym ((bytes_eq-Decides ys xs).0 same)), (λ same. (bytes_eq-Decides ys xs).1 (sym same)))
