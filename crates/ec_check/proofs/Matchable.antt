@@ -1,9 +1,11 @@
 -- A theory without a fault can be matched: its patterns are small, and the event of a rule gives every place of its head, tests and literals.
 use Rattle.std.proofs.Common.{◌≡◌, ℕ, ◌+◌, ◌<◌, ◌≤◌, suc, zero, Bool, true, false, ◌&&◌, not, List, [], ◌∷◌, ◌++◌, length, Option, Some, None, refl, subst, ◌⊎◌, inl, inr, ⊎_elim, arith}
-use Rattle.std.specs.Prelude.{if◌then◌else◌, count_by, nat_le, nat_lt, option_map}
+use Rattle.std.specs.Prelude.{count_by, nat_le, nat_lt}
 use Rattle.std.specs.List.{All, list_all}
 use Rattle.std.proofs.lemmas.Bool.{and_parts, and_from, and_cases, cases_eq, eq-eqb, leb-true, ltb-true, not-false}
 use Rattle.std.proofs.lemmas.List.Elements.{All-nil, All-cons}
+use Rattle.ec_lists.proofs.Booleans.{cond-None}
+use Rattle.ec_lists.proofs.Options.{None-from_option_map}
 use Rattle.ec_terms.specs.declared.pattern.PatArg.{PatArg}
 use Rattle.ec_terms.specs.declared.pattern.PatArg.TheVariants.{Var, Any, Fixed}
 use Rattle.ec_terms.specs.declared.pattern.Pattern.{Pattern}
@@ -21,34 +23,25 @@ use Rattle.ec_check.specs.Faults.{each_fault, each_open, earlier_fault, exclusiv
 
 -- ---- no first one
 
--- a choice that gives nothing fails its test, and goes on to nothing
-else_none : {A : Type 0} (test : Bool) (a : A) (rest : Option A) → (if test then Some a else rest) ≡ None → (test ≡ false) × (rest ≡ None)
-else_none true a rest none = cc
-else_none false a rest none = (refl, none)
-
-option_map-none : {A B : Type 0} (f : A → B) (o : Option A) → option_map f o ≡ None → o ≡ None
-option_map-none f None none = refl
-option_map-none f (Some a) none = cc
-
 -- where there is no first number that passes, none passes
-first_from-none : (test : ℕ → Bool) (n v w : ℕ) → first_from test n v ≡ None → v ≤ w → w < v + n → test w ≡ false
+pub first_from-none : (test : ℕ → Bool) (n v w : ℕ) → first_from test n v ≡ None → v ≤ w → w < v + n → test w ≡ false
 unfolding first_from
 first_from-none test zero v w none low high = absurd (omega arith)
 first_from-none test (suc n) v w none low high =
-    let parts = else_none (test v) v (first_from test n (v + 1)) none in
+    let parts = cond-None (test v) v (first_from test n (v + 1)) none in
     ⊎_elim (λ same. subst (λ u. test u ≡ false) same parts.0)
     (λ other. first_from-none test n (v + 1) w parts.1 (omega arith) (omega arith))
     (cases_eq v w)
 
-first_of-none : (first later : Option CheckFault) → first_of first later ≡ None → (first ≡ None) × (later ≡ None)
+pub first_of-none : (first later : Option CheckFault) → first_of first later ≡ None → (first ≡ None) × (later ≡ None)
 first_of-none None later none = (refl, none)
 first_of-none (Some fault) later none = cc
 
-earlier_fault-none : (first second : Option CheckFault) → earlier_fault first second ≡ None → (first ≡ None) × (second ≡ None)
+pub earlier_fault-none : (first second : Option CheckFault) → earlier_fault first second ≡ None → (first ≡ None) × (second ≡ None)
 unfolding earlier_fault
 earlier_fault-none None second none = (refl, none)
 earlier_fault-none (Some a) None none = cc
-earlier_fault-none (Some a) (Some b) none = let parts = else_none _ b (Some a) none in cc
+earlier_fault-none (Some a) (Some b) none = let parts = cond-None _ b (Some a) none in cc
 
 -- ---- the event gives the places of a rule
 
@@ -105,18 +98,18 @@ record IsBound (r : Rule) : Type 0 where
 IsBound-no_fault : (earlier : List Rule) (r : Rule) → rule_fault earlier r ≡ None → IsBound r
 unfolding rule_fault
 IsBound-no_fault earlier r none =
-    let rules = else_none (nat_le 1024 (length earlier)) (TooMany Rules r.clause) _ none in
-    let arity = else_none (not (is_narrow_rule r)) (Arity r.clause) _ rules.1 in
-    let event_rules = else_none (nat_le 64 (count_by (same_event r) earlier)) (TooMany EventRules r.clause) _ arity.1 in
-    let tests = else_none (nat_lt 16 (length r.tests)) (TooMany Tests r.clause) _ event_rules.1 in
-    let literals = else_none (nat_lt 16 (length r.literals)) (TooMany Literals r.clause) _ tests.1 in
-    let variables = else_none (not (has_few_variables r)) (TooMany Variables r.clause) _ literals.1 in
-    let any = else_none (not (each_open is_no_any r)) (AnyInHead r.clause) _ variables.1 in
+    let rules = cond-None (nat_le 1024 (length earlier)) (TooMany Rules r.clause) _ none in
+    let arity = cond-None (not (is_narrow_rule r)) (Arity r.clause) _ rules.1 in
+    let event_rules = cond-None (nat_le 64 (count_by (same_event r) earlier)) (TooMany EventRules r.clause) _ arity.1 in
+    let tests = cond-None (nat_lt 16 (length r.tests)) (TooMany Tests r.clause) _ event_rules.1 in
+    let literals = cond-None (nat_lt 16 (length r.literals)) (TooMany Literals r.clause) _ tests.1 in
+    let variables = cond-None (not (has_few_variables r)) (TooMany Variables r.clause) _ literals.1 in
+    let any = cond-None (not (each_open is_no_any r)) (AnyInHead r.clause) _ variables.1 in
     record {
       narrow = not-false _ arity.0;
       small = not-false _ variables.0;
       known = not-false _ any.0;
-      bound = option_map-none (λ v. Unbound r.clause v) (least_unbound r) any.1;
+      bound = None-from_option_map (λ v. Unbound r.clause v) (least_unbound r) any.1;
     }
 
 -- each variable below 16 is in the event, or in no part of the rule but the event
@@ -175,9 +168,9 @@ All-each fault P one earlier (a ∷ list) none =
 IsMatchableExclusive-no_fault : (earlier : ℕ) (declaration : Exclusive) → exclusive_fault earlier declaration ≡ None → IsMatchableExclusive declaration
 unfolding exclusive_fault
 IsMatchableExclusive-no_fault earlier declaration none =
-    let many = else_none _ _ _ none in
-    let arity = else_none _ _ _ many.1 in
-    let variables = else_none _ _ _ arity.1 in
+    let many = cond-None _ _ _ none in
+    let arity = cond-None _ _ _ many.1 in
+    let variables = cond-None _ _ _ arity.1 in
     let narrows = and_parts _ _ (not-false _ arity.0) in
     let smalls = and_parts _ _ (not-false _ variables.0) in
     record { left = IsSmall-from declaration.left narrows.0 smalls.0; right = IsSmall-from declaration.right narrows.1 smalls.1 }
@@ -185,9 +178,9 @@ IsMatchableExclusive-no_fault earlier declaration none =
 IsSmall-no_fault : (earlier : ℕ) (declaration : Initial) → initial_fault earlier declaration ≡ None → IsSmall declaration.prop
 unfolding initial_fault
 IsSmall-no_fault earlier declaration none =
-    let many = else_none _ _ _ none in
-    let arity = else_none _ _ _ many.1 in
-    let variables = else_none _ _ _ arity.1 in
+    let many = cond-None _ _ _ none in
+    let arity = cond-None _ _ _ many.1 in
+    let variables = cond-None _ _ _ arity.1 in
     IsSmall-from declaration.prop (not-false _ arity.0) (not-false _ variables.0)
 
 -- ---- a theory

@@ -1,8 +1,7 @@
 -- Values that may be absent.
-use Rattle.std.proofs.Common.{◌≡◌, Bool, true, false, List, ◌++◌, Option, Some, None, IsSome, IsTrue, IfSome, IfNone, ◌↔◌, is_some, option_map, refl}
+use Rattle.std.proofs.Common.{◌≡◌, true, false, List, ◌++◌, Option, Some, None, IfSome, IfNone, is_some, option_map, refl}
 use Rattle.std.specs.List.{cons_option}
 use Rattle.std.specs.Option.{option_to_list}
-use Rattle.std.proofs.lemmas.Bool.{false_from_ne_true}
 
 -- an absent value is none
 pub None-from_is_some : {A : Type 0} (o : Option A) → is_some o ≡ false → o ≡ None
@@ -24,10 +23,6 @@ pub is_some-option_map : {A B : Type 0} (f : A → B) (o : Option A) → is_some
 is_some-option_map f None = refl
 is_some-option_map f (Some a) = refl
 
--- a test that holds exactly where there is a value fails where there is none
-pub false-from_None : {A : Type 0} (o : Option A) (b : Bool) → IsSome o ↔ IsTrue b → o ≡ None → b ≡ false
-false-from_None o b same none = false_from_ne_true b (λ yes. let there = same.1 yes in cc)
-
 -- what holds of the value holds of the one that there is
 pub IfSome-from : {A : Type 0} (o : Option A) (P : A → Type 0) (x : A) → o ≡ Some x → P x → IfSome o P
 IfSome-from None P x is holds = cc
@@ -43,12 +38,7 @@ IfNone-from (Some x) P holds = tt
 
 -- ---- a value in front of a list
 
--- a value, if there is one, before two lists
-pub cons_option-append : {A : Type 0} (o : Option A) (xs ys : List A) → cons_option o (xs ++ ys) ≡ cons_option o xs ++ ys
-cons_option-append None xs ys = refl
-cons_option-append (Some x) xs ys = refl
-
--- as a list of its own before the list
+-- it stands as a list of its own before the list
 pub cons_option-is_append : {A : Type 0} (o : Option A) (xs : List A) → cons_option o xs ≡ option_to_list o ++ xs
 cons_option-is_append None xs = refl
 cons_option-is_append (Some x) xs = refl

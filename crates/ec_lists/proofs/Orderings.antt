@@ -22,11 +22,17 @@ Greater-from_is_gt Less h = cc
 Greater-from_is_gt Equal h = cc
 Greater-from_is_gt Greater h = refl
 
--- two steps of an order are equal only where both are
-pub Equal-from_then : (a b : Ordering) → ordering_then a b ≡ Equal → (a ≡ Equal) × (b ≡ Equal)
+-- two steps of an order are equal only where the first is
+pub Equal-from_then : (a b : Ordering) → ordering_then a b ≡ Equal → a ≡ Equal
 Equal-from_then Less b h = cc
-Equal-from_then Equal b h = (refl, h)
+Equal-from_then Equal b h = refl
 Equal-from_then Greater b h = cc
+
+-- and where the second is
+pub Equal-from_then_last : (a b : Ordering) → ordering_then a b ≡ Equal → b ≡ Equal
+Equal-from_then_last Less b h = cc
+Equal-from_then_last Equal b h = h
+Equal-from_then_last Greater b h = cc
 
 -- three steps, in whichever way they are taken together
 pub ordering_then_assoc : (a b c : Ordering) → ordering_then (ordering_then a b) c ≡ ordering_then a (ordering_then b c)
@@ -40,7 +46,6 @@ slice_cmp-exact exact [] [] h = refl
 slice_cmp-exact exact [] (y ∷ ys) h = cc
 slice_cmp-exact exact (x ∷ xs) [] h = cc
 slice_cmp-exact {K} {R} exact (x ∷ xs) (y ∷ ys) h =
-    let both = Equal-from_then (R x y) (slice_cmp R xs ys) h in
-    let first = exact x y both.0 in
-    let rest = slice_cmp-exact exact xs ys both.1 in
+    let first = exact x y (Equal-from_then (R x y) (slice_cmp R xs ys) h) in
+    let rest = slice_cmp-exact exact xs ys (Equal-from_then_last (R x y) (slice_cmp R xs ys) h) in
     cc

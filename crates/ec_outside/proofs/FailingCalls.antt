@@ -1,8 +1,9 @@
 -- How many failing numbers are those of calls made so far, as one more call is made.
-use Rattle.std.proofs.Common.{◌≡◌, ℕ, ◌+◌, ◌<◌, ◌≤◌, Bool, true, false, cond, ◌==◌, nat_le, List, [], ◌∷◌, length, filter, refl, arith, ◌||◌, lit≤}
+use Rattle.std.proofs.Common.{◌≡◌, ℕ, ◌+◌, ◌<◌, ◌≤◌, Bool, true, false, cond, ◌==◌, nat_le, List, [], ◌∷◌, length, filter, refl, arith, ◌||◌}
 use Rattle.std.specs.List.{list_any}
 use Rattle.std.proofs.lemmas.List.Sums.{length-filter, count_by-le-length}
 use Rattle.std.proofs.lemmas.Bool.Decides.{nat_tests}
+use Rattle.ec_lists.proofs.Filters.{length-filter_wider}
 use Rattle.ec_outside.specs.Calls.{Calls, IsWithin, next_fails, one_more}
 use Rattle.ec_outside.specs.Counts.{last_count, next_count}
 
@@ -25,9 +26,7 @@ filter-cons bound number failing =
 -- at a higher bound there are as many at least
 pub filter-≤ : (failing : List ℕ) (low high : ℕ) → low ≤ high
     → length (filter (λ n. nat_le n low) failing) ≤ length (filter (λ n. nat_le n high) failing)
-filter-≤ [] low high up = lit≤ tt
-filter-≤ (number ∷ failing) low high up =
-    omega (arith, filter-cons low number failing, filter-cons high number failing, counted_once-≤ low high number up, filter-≤ failing low high up)
+filter-≤ failing low high up = length-filter_wider (λ n. nat_le n low) (λ n. nat_le n high) (λ n within. grind (arith, nat_tests)) failing
 
 -- the next number is one more, where it is among them
 pub filter-next : (failing : List ℕ) (made : ℕ) → list_any (λ number. number == made + 1) failing ≡ true

@@ -4,20 +4,22 @@ use Rattle.std.specs.List.{list_all}
 use Rattle.std.specs.Char.{is_ascii_digit}
 use Rattle.std.specs.Str.{all_ascii_digits}
 use Rattle.std.specs.Str.Parse.{starts_with_minus}
-use Rattle.std.proofs.lemmas.Bool.{cases_Bool, and_left, cond-true, cond-false, false_from_ne_true}
+use Rattle.std.proofs.lemmas.Bool.{cases_Bool, and_left, cond-true, cond-false, false_from_ne_true, and_parts}
 use Rattle.std.proofs.lemmas.Bool.Decides.{nat_tests}
 use Rattle.std.proofs.lemmas.List.Sums.{take_while-cons}
 use Rattle.std.proofs.lemmas.Option.{cond_some}
 use Rattle.ec_moment.specs.Number.{is_digit_run, is_number, number_value, signed_value, without_minus}
 use Rattle.ec_terms.specs.Spelling.{is_lower, is_upper, is_name_byte, begins_with, is_name, name_run}
 use Rattle.ec_terms.specs.Front.{name_front, digit_run, number_run, number_front}
-use Rattle.ec_terms.proofs.Names.{and-first, and-second, is_name-lower, is_name-bytes}
+use Rattle.ec_terms.proofs.Names.{is_name-lower, is_name-bytes}
 use Rattle.ec_terms.specs.declared.ground.Arg.{Arg}
 use Rattle.ec_terms.specs.declared.ground.Arg.TheVariants.{Int, Word}
 use Rattle.ec_terms.specs.Term.{arg_value}
 use Rattle.ec_terms.specs.Front.{arg_run, arg_front}
 use Rattle.std.proofs.lemmas.Int.{to_z-of_z}
-use Rattle.ec_terms.proofs.Runs.{SFits-number_front, list_all-take_while, take_while-all, take_while-seam, list_all-weaken, list_all-name_run, name_run-is_take, name_run-within, number_run-is_take, number_run-within, number_run-minus, number_run-plain, minus_cases}
+use Rattle.ec_terms.proofs.Runs.{SFits-number_front, list_all-name_run, name_run-is_take, name_run-within, number_run-is_take, number_run-within, number_run-minus, number_run-plain, minus_cases}
+use Rattle.ec_lists.proofs.Tests.{list_all-weaker}
+use Rattle.ec_lists.proofs.Fronts.{list_all-take_while, take_while-all, take_while-seam}
 
 -- ---- what begins with a letter, and what has the form of a number
 
@@ -34,13 +36,13 @@ all_ascii_digits-is [] = refl
 all_ascii_digits-is (d ∷ ds) = ap (λ b. is_ascii_digit d && b) (all_ascii_digits-is ds)
 
 pub list_all-digits : (ds : List ℕ) → is_digit_run ds ≡ true → list_all is_ascii_digit ds ≡ true
-list_all-digits ds h = sym (all_ascii_digits-is ds) ∙ and-second _ _ h
+list_all-digits ds h = sym (all_ascii_digits-is ds) ∙ (and_parts _ _ h).1
 
 -- digits do not begin with a letter
 pub begins_lower-digits : (ds : List ℕ) → list_all is_ascii_digit ds ≡ true → begins_with is_lower ds ≡ false
 unfolding begins_with is_lower
 begins_lower-digits [] h = refl
-begins_lower-digits (d ∷ ds) h = let e : is_ascii_digit d ≡ true = and-first _ _ h in grind (arith, nat_tests)
+begins_lower-digits (d ∷ ds) h = let e : is_ascii_digit d ≡ true = (and_parts _ _ h).0 in grind (arith, nat_tests)
 
 begins_lower-minus : (xs : List ℕ) → begins_with is_lower (45 ∷ xs) ≡ false
 unfolding begins_with is_lower
@@ -69,7 +71,7 @@ number_run-all bs =
 -- what spells a number has the form of one
 pub is_digit_run-from_value : (bs : List ℕ) (z : ℤ) → number_value bs ≡ Some z → is_digit_run (without_minus bs) ≡ true
 unfolding number_value
-is_digit_run-from_value bs z h = and-first _ _ (cond_some (is_digit_run (without_minus bs) && is_number (signed_value bs)) (signed_value bs) z h).0
+is_digit_run-from_value bs z h = (and_parts _ _ (cond_some (is_digit_run (without_minus bs) && is_number (signed_value bs)) (signed_value bs) z h).0).0
 
 -- what begins with a letter spells no number
 pub number_value-letter : (bs : List ℕ) → begins_with is_lower bs ≡ true → number_value bs ≡ None
@@ -194,7 +196,7 @@ list_all-digit_run bs = list_all-take_while is_ascii_digit bs
 
 plain_number_run : (bs : List ℕ) → list_all is_plain (number_run bs) ≡ true
 plain_number_run bs =
-    let digits = λ (xs : List ℕ). list_all-weaken is_ascii_digit is_plain plain_digit (digit_run xs) (list_all-digit_run xs) in
+    let digits = λ (xs : List ℕ). list_all-weaker is_ascii_digit is_plain plain_digit (digit_run xs) (list_all-digit_run xs) in
     minus_cases (λ xs. list_all is_plain (number_run xs) ≡ true)
     (λ xs. ap (list_all is_plain) (number_run-minus xs) ∙ digits xs)
     (λ xs h. ap (list_all is_plain) (number_run-plain xs h) ∙ digits xs)
@@ -204,7 +206,7 @@ plain_number_run bs =
 pub plain_arg_run : (bs : List ℕ) → list_all is_plain (arg_run bs) ≡ true
 plain_arg_run bs =
     letter_cases (λ run. list_all is_plain run ≡ true) bs
-    (λ e. list_all-weaken is_name_byte is_plain plain_name_byte (name_run bs) (list_all-name_run bs))
+    (λ e. list_all-weaker is_name_byte is_plain plain_name_byte (name_run bs) (list_all-name_run bs))
     (λ e. plain_number_run bs)
 
 mark_no_name_byte : (d : ℕ) → is_mark d ≡ true → is_name_byte d ≡ false

@@ -8,7 +8,7 @@ use Rattle.ec_terms.specs.declared.ground.Arg.{Arg}
 use Rattle.ec_terms.specs.declared.ground.ArgRef.{ArgRef}
 use Rattle.ec_terms.specs.Term.{arg_of, is_argument}
 use Rattle.ec_terms.specs.Binding.{is_named_value, shown, values_of, with_value}
-use Rattle.ec_terms.proofs.OrderLemmas.{and-both, and-intro}
+use Rattle.std.proofs.lemmas.Bool.{and_parts, and_from}
 
 -- the value of a variable is what its place shows
 pub values_of-shown : (places : List (Option ArgRef)) (v : ℕ) → values_of (map shown places) v ≡ option_map arg_of (get_or places v None)
@@ -20,14 +20,14 @@ values_of-shown (p ∷ places) (suc v) = values_of-shown places v
 pub named-at : (places : List (Option ArgRef)) (v : ℕ) → list_all is_named_value (map shown places) ≡ true → IfSome (get_or places v None) (λ a. IsTrue (is_argument (arg_of a)))
 named-at [] v h = tt
 named-at (None ∷ places) zero h = tt
-named-at (Some a ∷ places) zero h = (and-both _ _ h).0
-named-at (p ∷ places) (suc v) h = named-at places v (and-both _ _ h).1
+named-at (Some a ∷ places) zero h = (and_parts _ _ h).0
+named-at (p ∷ places) (suc v) h = named-at places v (and_parts _ _ h).1
 
 -- places stay named where one takes a value that is named
 pub named-set : (places : List (Option ArgRef)) (v : ℕ) (a : ArgRef) → IsTrue (is_argument (arg_of a)) → list_all is_named_value (map shown places) ≡ true → list_all is_named_value (map shown (set places v (Some a))) ≡ true
 named-set [] v a named h = refl
-named-set (p ∷ places) zero a named h = and-intro _ _ named (and-both _ _ h).1
-named-set (p ∷ places) (suc v) a named h = and-intro _ _ (and-both _ _ h).0 (named-set places v a named (and-both _ _ h).1)
+named-set (p ∷ places) zero a named h = and_from _ _ named (and_parts _ _ h).1
+named-set (p ∷ places) (suc v) a named h = and_from _ _ (and_parts _ _ h).0 (named-set places v a named (and_parts _ _ h).1)
 
 set_value : (places : List (Option ArgRef)) (v : ℕ) (a : ArgRef) → v < length places → (w : ℕ) (same : Bool) → (v == w) ≡ same →
     option_map arg_of (get_or (set places v (Some a)) w None) ≡ (if same then Some (arg_of a) else option_map arg_of (get_or places w None))

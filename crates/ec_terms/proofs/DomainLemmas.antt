@@ -29,7 +29,7 @@ pub term_eq-refl : (p : Ground) → term_eq p p ≡ true
 term_eq-refl p = (term_eq-Decides p p).1 refl
 
 -- a declaration speaks of two properties in either order
-excludes-comm : (p q : Ground) (declaration : Exclusive) → excludes p q declaration ≡ excludes q p declaration
+pub excludes-comm : (p q : Ground) (declaration : Exclusive) → excludes p q declaration ≡ excludes q p declaration
 unfolding excludes
 excludes-comm p q declaration =
     or_comm (both_fit declaration.left declaration.right p q) (both_fit declaration.left declaration.right q p)

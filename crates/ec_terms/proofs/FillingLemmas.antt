@@ -1,7 +1,8 @@
 -- Patterns filled in place by place, and comparisons of borrowed arguments.
-use Rattle.std.proofs.Common.{◌≡◌, ℕ, zero, suc, ◌+◌, ◌<◌, true, false, not, List, [], ◌∷◌, ◌++◌, length, map, take, get_or, add-one, Option, Some, None, refl, ap, sym, ◌∙◌, arith}
-use Rattle.std.specs.List.{list_all, filter_map, cons_option}
-use Rattle.std.proofs.lemmas.List.{map-append}
+use Rattle.std.proofs.Common.{append-nil, ◌≡◌, ℕ, ◌+◌, ◌<◌, true, false, not, List, [], ◌∷◌, ◌++◌, length, map, take, get_or, Option, Some, None, refl, sym, ◌∙◌}
+use Rattle.std.specs.List.{list_all, filter_map}
+use Rattle.std.proofs.lemmas.List.{map-append, take_more}
+use Rattle.std.proofs.lemmas.List.Elements.{filter_map-append}
 use Rattle.std.specs.Cmp.{Some-then}
 use Rattle.std.specs.Cmp.Lexicographic.{slice_cmp, slice_partial_cmp}
 use Rattle.std.specs.Ordering.{is_lt, is_le, nat_cmp}
@@ -16,7 +17,7 @@ use Rattle.ec_terms.specs.declared.theory.TestOp.{TestOp}
 use Rattle.ec_terms.specs.declared.theory.TestOp.TheVariants.{Same, Differ, Less as Below, AtMost}
 use Rattle.ec_terms.specs.Term.{arg_of, arg_eq, arg_cmp, is_argument}
 use Rattle.ec_terms.specs.Matching.{Values, value_of, compares, values_compare, test_holds}
-use Rattle.ec_terms.proofs.OrderLemmas.{and-both, and-intro}
+use Rattle.ec_lists.proofs.Tests.{list_all-push}
 
 -- ---- comparisons
 
@@ -83,44 +84,31 @@ value_of-fixed s p a b is same = rw (is, same)
 -- ---- the arguments of a filled pattern
 
 -- one more member that has a value adds it at the end
-pub filter_map-take_Some : {X Y : Type 0} (f : X → Option Y) (xs : List X) (i : ℕ) (x : X) (y : Y) → i < length xs → x ≡ get_or xs i x → Some y ≡ f x →
-    filter_map f (take (suc i) xs) ≡ filter_map f (take i xs) ++ y ∷ []
-filter_map-take_Some f [] i x y h e v = absurd (omega arith)
-filter_map-take_Some f (z ∷ xs) zero x y h e v = rw (← e, ← v)
-filter_map-take_Some f (z ∷ xs) (suc i) x y h e v = rw (filter_map-take_Some f xs i x y (omega arith) e v) (cons_option-append (f z) (filter_map f (take i xs)) (y ∷ []))
-  where
-    cons_option-append : {Y : Type 0} (o : Option Y) (xs ys : List Y) → cons_option o (xs ++ ys) ≡ cons_option o xs ++ ys
-    cons_option-append None xs ys = refl
-    cons_option-append (Some x) xs ys = refl
+pub filter_map-more_Some : {X Y : Type 0} (f : X → Option Y) (xs : List X) (i : ℕ) (x : X) (y : Y) → i < length xs → x ≡ get_or xs i x → Some y ≡ f x →
+    filter_map f (take (i + 1) xs) ≡ filter_map f (take i xs) ++ y ∷ []
+filter_map-more_Some f xs i x y h e v = rw (take_more xs i x h, filter_map-append, ← e, ← v)
 
 -- one more member that has no value adds nothing
-pub filter_map-take_None : {X Y : Type 0} (f : X → Option Y) (xs : List X) (i : ℕ) (x : X) → i < length xs → x ≡ get_or xs i x → None ≡ f x →
-    filter_map f (take (suc i) xs) ≡ filter_map f (take i xs)
-filter_map-take_None f [] i x h e v = absurd (omega arith)
-filter_map-take_None f (z ∷ xs) zero x h e v = rw (← e, ← v)
-filter_map-take_None f (z ∷ xs) (suc i) x h e v = ap (cons_option (f z)) (filter_map-take_None f xs i x (omega arith) e v)
-
--- named arguments with one more at the end
-pub list_all_named-push : (args : List Arg) (a : Arg) → list_all is_argument args ≡ true → is_argument a ≡ true → list_all is_argument (args ++ a ∷ []) ≡ true
-list_all_named-push [] a h k = and-intro _ _ k refl
-list_all_named-push (b ∷ args) a h k = and-intro _ _ (and-both _ _ h).0 (list_all_named-push args a (and-both _ _ h).1 k)
+pub filter_map-more_None : {X Y : Type 0} (f : X → Option Y) (xs : List X) (i : ℕ) (x : X) → i < length xs → x ≡ get_or xs i x → None ≡ f x →
+    filter_map f (take (i + 1) xs) ≡ filter_map f (take i xs)
+filter_map-more_None f xs i x h e v = rw (take_more xs i x h, filter_map-append, ← e, ← v) (append-nil (filter_map f (take i xs)))
 
 -- one more place that has a value adds it to the arguments that borrowed arguments show
 pub shown-push : (s : Values) (ps : List PatArg) (i : ℕ) (p : PatArg) (refs more : List ArgRef) (r : ArgRef) →
     i < length ps → p ≡ get_or ps i p → Some (arg_of r) ≡ value_of s p → more ≡ refs ++ r ∷ [] →
     map arg_of refs ≡ filter_map (value_of s) (take i ps) → map arg_of more ≡ filter_map (value_of s) (take (i + 1) ps)
 shown-push s ps i p refs more r within here value is before =
-    let step = filter_map-take_Some (value_of s) ps i p (arg_of r) within here value in
-    rw (is, map-append, before, add-one i) (sym step)
+    let step = filter_map-more_Some (value_of s) ps i p (arg_of r) within here value in
+    rw (is, map-append, before) (sym step)
 
 -- one more place that has no value adds nothing
 pub shown-same : (s : Values) (ps : List PatArg) (i : ℕ) (p : PatArg) (refs : List ArgRef) →
     i < length ps → p ≡ get_or ps i p → None ≡ value_of s p →
     map arg_of refs ≡ filter_map (value_of s) (take i ps) → map arg_of refs ≡ filter_map (value_of s) (take (i + 1) ps)
 shown-same s ps i p refs within here value before =
-    let step = filter_map-take_None (value_of s) ps i p within here value in rw (add-one i) (before ∙ sym step)
+    let step = filter_map-more_None (value_of s) ps i p within here value in before ∙ sym step
 
 -- arguments with a named one more are named
 pub shown-push_named : (refs more : List ArgRef) (r : ArgRef) → more ≡ refs ++ r ∷ [] → list_all is_argument (map arg_of refs) ≡ true →
     is_argument (arg_of r) ≡ true → list_all is_argument (map arg_of more) ≡ true
-shown-push_named refs more r is before named = rw (is, map-append) (list_all_named-push (map arg_of refs) (arg_of r) before named)
+shown-push_named refs more r is before named = rw (is, map-append) (list_all-push is_argument (map arg_of refs) (arg_of r) before named)

@@ -1,12 +1,12 @@
 -- Matching place by place finds the one binding that fits, where there is one.
-use Rattle.std.proofs.Common.{◌≡◌, ℕ, not, ◌+◌, ◌<◌, length, drop, get_or, add-one, map, zero, suc, ◌≤◌, IsTrue, IsSome, IfSome, IfNone, ◌↔◌, arith, Bool, true, false, ◌&&◌, ◌||◌, ◌==◌, if◌then◌else◌, List, [], ◌∷◌, Option, Some, None, refl, ap, sym, ◌∙◌, subst, inl, inr}
+use Rattle.std.proofs.Common.{◌≡◌, ℕ, ◌+◌, ◌<◌, length, drop, get_or, add-one, map, zero, suc, ◌≤◌, IsTrue, IsSome, IfSome, IfNone, ◌↔◌, arith, Bool, true, false, ◌&&◌, ◌||◌, ◌==◌, if◌then◌else◌, List, [], ◌∷◌, Option, Some, None, refl, ap, sym, ◌∙◌, subst, inl, inr}
 use Rattle.std.proofs.Math.Path.{fun_ext}
 use Rattle.std.specs.Option.{is_some}
-use Rattle.std.proofs.lemmas.Bool.{cases_Bool}
+use Rattle.std.proofs.lemmas.Bool.{cases_Bool, and_parts, and_from, or_right, and_right}
 use Rattle.std.proofs.lemmas.Bool.Decides.{Decides-eqb}
 use Rattle.std.specs.Str.{bytes_eq}
 use Rattle.std.specs.List.{list_all, list_any}
-use Rattle.std.proofs.lemmas.List.{length-map}
+use Rattle.std.proofs.lemmas.List.{length-map, drop_all}
 use Rattle.ec_terms.specs.contracts.ground.ArgRefPartialEq.TheImpl.{eq-value}
 use Rattle.ec_terms.specs.declared.ground.Arg.{Arg}
 use Rattle.ec_terms.specs.declared.ground.ArgRef.{ArgRef}
@@ -19,33 +19,9 @@ use Rattle.ec_terms.specs.declared.pattern.Pattern.{Pattern}
 use Rattle.ec_terms.specs.Matching.{Values, is_value, place_fits, places_fit, first_value, binding_of, fits, fits_some}
 use Rattle.ec_terms.specs.MatchingLaws.{HasOneBinding, FitsByFirstPlaces}
 use Rattle.ec_terms.specs.Binding.{Extends, values_of, stands_at, stands_in, no_values, with_value, after_place}
-use Rattle.ec_terms.proofs.OrderLemmas.{arg_eq-Decides, and-both, and-intro}
-
--- ---- tests
-
-or-false : (b : Bool) → (b || false) ≡ b
-or-false true = refl
-or-false false = refl
-
-or-true : (b : Bool) → (b || true) ≡ true
-or-true true = refl
-or-true false = refl
-
-and-false : (b : Bool) → (b && false) ≡ false
-and-false true = refl
-and-false false = refl
-
-pub not-true : (b : Bool) → not b ≡ true → b ≡ false
-not-true true h = sym h
-not-true false h = refl
-
-pub not-false : (b : Bool) → not b ≡ false → b ≡ true
-not-false true h = refl
-not-false false h = sym h
-
-or_assoc : (a b c : Bool) → ((a || b) || c) ≡ (a || (b || c))
-or_assoc true b c = refl
-or_assoc false b c = refl
+use Rattle.ec_terms.proofs.OrderLemmas.{arg_eq-Decides}
+use Rattle.std.proofs.Math.Bool.{or-false, or_assoc}
+use Rattle.ec_lists.proofs.Options.{None-from_is_some, Some-from_is_some}
 
 -- ---- values
 
@@ -63,16 +39,6 @@ is_value-Some (Some b) a h = ap Some ((arg_eq-Decides b a).0 h)
 pub is_value-from_Some : (o : Option Arg) (a : Arg) → o ≡ Some a → is_value o a ≡ true
 unfolding is_value
 is_value-from_Some o a h = rw h (arg_eq-refl a)
-
--- an absent value is none
-pub None-from_is_some : (o : Option Arg) → is_some o ≡ false → o ≡ None
-None-from_is_some None h = refl
-None-from_is_some (Some a) h = cc
-
--- a present value is some argument
-pub Some-from_is_some : (o : Option Arg) → is_some o ≡ true → (a : Arg) × (o ≡ Some a)
-Some-from_is_some None h = cc
-Some-from_is_some (Some a) h = (a, refl)
 
 -- the variable that gets a value has it
 pub with_value-same : (s : Values) (v : ℕ) (a : Arg) → with_value s v a v ≡ Some a
@@ -160,7 +126,7 @@ is_some-after_place s (Var w) a v =
           ]
       | inr free ↦
           elim (cases_Bool (w == v)) [
-            | inl same ↦ rw (free, same) (sym (or-true (is_some (s v))))
+            | inl same ↦ rw (free, same) (sym (or_right (is_some (s v)) true refl))
             | inr other ↦ rw (free, other) (sym (or-false (is_some (s v))))
           ]
     ]
@@ -200,7 +166,7 @@ walk-Some s found (p ∷ ps) (a ∷ args) h =
           let rest = walk-Some (after_place s p a) found ps args (rw fitting at h) in
           record {
             extends = λ v b e. rest.extends v b (after_place-Extends s p a v b e);
-            fits = and-intro _ _ (place_fits-Extends (after_place s p a) found p a rest.extends fitting) rest.fits;
+            fits = and_from _ _ (place_fits-Extends (after_place s p a) found p a rest.extends fitting) rest.fits;
             bound = λ v. rest.bound v ∙ ap (λ (b : Bool). b || list_any (stands_at v) ps) (is_some-after_place s p a v) ∙ or_assoc (is_some (s v)) (stands_at v p) (list_any (stands_at v) ps);
           }
       | inr failing ↦ let none : None ≡ Some found = rw failing at h in cc
@@ -228,7 +194,7 @@ unfolding places_fit place_fits first_value
 fits-first_value values [] args v fit there = cc
 fits-first_value values (p ∷ ps) [] v fit there = cc
 fits-first_value values (Var w ∷ ps) (a ∷ args) v fit there =
-    let both = and-both (is_value (values w) a) (places_fit values ps args) fit in
+    let both = and_parts (is_value (values w) a) (places_fit values ps args) fit in
     elim (cases_Bool (w == v)) [
       | inl same ↦
           let is : w ≡ v = (Decides-eqb w v).0 same in
@@ -237,7 +203,7 @@ fits-first_value values (Var w ∷ ps) (a ∷ args) v fit there =
     ]
 fits-first_value values (Any ∷ ps) (a ∷ args) v fit there = fits-first_value values ps args v fit there
 fits-first_value values (Fixed b ∷ ps) (a ∷ args) v fit there =
-    fits-first_value values ps args v (and-both (arg_eq b a) (places_fit values ps args) fit).1 there
+    fits-first_value values ps args v (and_parts (arg_eq b a) (places_fit values ps args) fit).1 there
 
 -- a variable that stands in no place has no first place
 pub first_value-absent : (ps : List PatArg) (args : List Arg) (v : ℕ) → list_any (stands_at v) ps ≡ false → first_value ps args v ≡ None
@@ -261,7 +227,7 @@ places_fit-agree f g (p ∷ ps) [] same = refl
 places_fit-agree f g (Var w ∷ ps) (a ∷ args) same =
     let itself : (w == w) ≡ true = (Decides-eqb w w).1 refl in
     let here : f w ≡ g w = same w (rw itself) in
-    let rest = places_fit-agree f g ps args (λ v h. same v (rw h (or-true (w == v)))) in
+    let rest = places_fit-agree f g ps args (λ v h. same v (rw h (or_right (w == v) true refl))) in
     rw (here, rest)
 places_fit-agree f g (Any ∷ ps) (a ∷ args) same = places_fit-agree f g ps args same
 places_fit-agree f g (Fixed b ∷ ps) (a ∷ args) same = ap (λ (r : Bool). arg_eq b a && r) (places_fit-agree f g ps args same)
@@ -286,13 +252,13 @@ found-first_value found ps args fit bound =
 -- bindings under which a pattern fits agree on its variables
 pub fits-unique : (pattern : Pattern) (term : Ground) → HasOneBinding pattern term
 unfolding fits
-fits-unique pattern term values v h there = fits-first_value values pattern.args term.args v (and-both _ _ h).1 there
+fits-unique pattern term values v h there = fits-first_value values pattern.args term.args v (and_parts _ _ h).1 there
 
 -- a pattern that fits under some binding fits under that of the first places
 pub fits_some-from_fits : (pattern : Pattern) (term : Ground) (values : Values) → fits values pattern term ≡ true → fits_some pattern term ≡ true
 unfolding fits fits_some
 fits_some-from_fits pattern term values h =
-    let both = and-both _ _ h in and-intro _ _ both.0 (fits-at_first_value values pattern.args term.args both.1)
+    let both = and_parts _ _ h in and_from _ _ both.0 (fits-at_first_value values pattern.args term.args both.1)
 
 -- and the other way
 pub fits_some-exists : (pattern : Pattern) (term : Ground) → FitsByFirstPlaces pattern term
@@ -306,7 +272,7 @@ places_fit-other_length values [] [] h = absurd (h refl)
 places_fit-other_length values [] (a ∷ args) h = refl
 places_fit-other_length values (p ∷ ps) [] h = refl
 places_fit-other_length values (p ∷ ps) (a ∷ args) h =
-    rw (places_fit-other_length values ps args (λ e. h (ap suc e))) (and-false (place_fits values p a))
+    rw (places_fit-other_length values ps args (λ e. h (ap suc e))) (and_right (place_fits values p a) false refl)
 
 -- a pattern with another name fits no term
 pub fits-other_name : (values : Values) (pattern : Pattern) (term : Ground) → bytes_eq pattern.name term.name ≡ false → fits values pattern term ≡ false
@@ -316,17 +282,17 @@ fits-other_name values pattern term h = rw h
 -- nor does one with another number of arguments
 pub fits-other_length : (values : Values) (pattern : Pattern) (term : Ground) → (length pattern.args ≡ length term.args → ⊥) → fits values pattern term ≡ false
 unfolding fits
-fits-other_length values pattern term h = rw (places_fit-other_length values pattern.args term.args h) (and-false (bytes_eq pattern.name term.name))
+fits-other_length values pattern term h = rw (places_fit-other_length values pattern.args term.args h) (and_right (bytes_eq pattern.name term.name) false refl)
 
 -- nor does one whose places do not fit
 pub fits-other_args : (values : Values) (pattern : Pattern) (term : Ground) → places_fit values pattern.args term.args ≡ false → fits values pattern term ≡ false
 unfolding fits
-fits-other_args values pattern term h = rw h (and-false (bytes_eq pattern.name term.name))
+fits-other_args values pattern term h = rw h (and_right (bytes_eq pattern.name term.name) false refl)
 
 -- a pattern fits where the names are the same and the places fit
 pub fits-from_args : (values : Values) (pattern : Pattern) (term : Ground) → bytes_eq pattern.name term.name ≡ true → places_fit values pattern.args term.args ≡ true → fits values pattern term ≡ true
 unfolding fits
-fits-from_args values pattern term h k = and-intro _ _ h k
+fits-from_args values pattern term h k = and_from _ _ h k
 
 -- ---- the walk by places
 
@@ -378,15 +344,9 @@ pub walk-ends : (s : Values) (ps : List PatArg) (refs : List ArgRef) (i : ℕ) �
     walk s (drop i ps) (drop i (map arg_of refs)) ≡ Some s
 unfolding walk
 walk-ends s ps refs i past lengths =
-    let places : drop i ps ≡ [] = drop-past ps i past in
-    let arguments : drop i (map arg_of refs) ≡ [] = drop-past (map arg_of refs) i (rw (length-map refs arg_of) (omega arith)) in
+    let places : drop i ps ≡ [] = drop_all i ps past in
+    let arguments : drop i (map arg_of refs) ≡ [] = drop_all i (map arg_of refs) (rw (length-map refs arg_of) (omega arith)) in
     rw (places, arguments)
-  where
-    drop-past : {X : Type 0} (xs : List X) (i : ℕ) → length xs ≤ i → drop i xs ≡ []
-    drop-past [] zero h = refl
-    drop-past [] (suc i) h = refl
-    drop-past (x ∷ xs) zero h = absurd (omega arith)
-    drop-past (x ∷ xs) (suc i) h = drop-past xs i (omega arith)
 
 -- ---- one place in the code
 
@@ -420,16 +380,10 @@ place_fits-fixed s p b x a is same = rw (is, same)
 
 -- ---- names among the arguments
 
--- each argument of named arguments is named
-pub is_argument-at : (refs : List ArgRef) (i : ℕ) (d : ArgRef) → list_all is_argument (map arg_of refs) ≡ true → i < length refs → is_argument (arg_of (get_or refs i d)) ≡ true
-is_argument-at [] i d h within = absurd (omega arith)
-is_argument-at (r ∷ refs) zero d h within = (and-both _ _ h).0
-is_argument-at (r ∷ refs) (suc i) d h within = is_argument-at refs i d (and-both _ _ h).1 (omega arith)
-
 -- the arguments of a named term are named
 pub arguments_are_named : (term : Ground) → names_are_names term ≡ true → list_all is_argument term.args ≡ true
 unfolding names_are_names
-arguments_are_named term h = (and-both _ _ h).1
+arguments_are_named term h = (and_parts _ _ h).1
 
 -- ---- matching from no values
 
@@ -454,6 +408,6 @@ pub matches-binding : (o : Option (List (Option Arg))) (start : List (Option Arg
     IfSome o (λ found. values_of found ≡ binding_of pattern term)
 unfolding fits
 matches-binding (Some found) start pattern term empty fit bound =
-    found-first_value (values_of found) pattern.args term.args (and-both _ _ fit).1
+    found-first_value (values_of found) pattern.args term.args (and_parts _ _ fit).1
     (λ v. bound v ∙ ap (λ (s : Values). is_some (s v) || stands_in v pattern) empty)
 matches-binding None start pattern term empty fit bound = tt

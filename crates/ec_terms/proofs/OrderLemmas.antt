@@ -1,5 +1,5 @@
 -- The laws of the order and of the equality of arguments and terms.
-use Rattle.std.proofs.Common.{◌≡◌, Bool, true, false, ℕ, ◌&&◌, List, map, [], ◌∷◌, length, refl, ap, subst, ◌∙◌}
+use Rattle.std.proofs.Common.{◌≡◌, true, false, ℕ, List, map, [], ◌∷◌, length, refl, ap, subst, ◌∙◌}
 use Rattle.std.specs.Bool.{Decides}
 use Rattle.std.specs.Cmp.{IsTotalOrder}
 use Rattle.std.specs.Cmp.Lexicographic.{slice_cmp, pointwise}
@@ -20,6 +20,8 @@ use Rattle.ec_terms.specs.declared.ground.ArgRef.TheVariants.{Int as IntRef, Wor
 use Rattle.ec_terms.specs.declared.ground.GroundRef.{GroundRef}
 use Rattle.ec_terms.specs.OrderLaws.{IsEqualOnlyIfSame, IsEquality}
 use Rattle.ec_terms.specs.Term.{arg_of, ground_of, arg_eq, term_eq, arg_cmp, term_cmp, name_cmp}
+use Rattle.std.proofs.lemmas.Bool.{and_parts, and_from}
+use Rattle.ec_lists.proofs.Orderings.{Equal-from_then, Equal-from_then_last, ordering_then_assoc, slice_cmp-exact}
 
 -- ---- the order of arguments
 
@@ -63,23 +65,6 @@ arg_cmp-exact (Word v) (Word w) h = ap Word (exact_bytes v w h)
 
 -- ---- lists in dictionary order
 
--- two steps of an order are equal only where both are
-pub ordering_then-Equal : (a b : Ordering) → ordering_then a b ≡ Equal → (a ≡ Equal) × (b ≡ Equal)
-ordering_then-Equal Less b h = cc
-ordering_then-Equal Equal b h = (refl, h)
-ordering_then-Equal Greater b h = cc
-
--- lists that the dictionary order calls equal are the same, where this is so of their members
-pub slice_cmp-exact : {K : Type 0} {R : K → K → Ordering} → CmpEqualImpliesEq R → CmpEqualImpliesEq (slice_cmp R)
-slice_cmp-exact exact [] [] h = refl
-slice_cmp-exact exact [] (y ∷ ys) h = cc
-slice_cmp-exact exact (x ∷ xs) [] h = cc
-slice_cmp-exact {K} {R} exact (x ∷ xs) (y ∷ ys) h =
-    let both = ordering_then-Equal (R x y) (slice_cmp R xs ys) h in
-    let first = exact x y both.0 in
-    let rest = slice_cmp-exact exact xs ys both.1 in
-    cc
-
 -- ---- the order of terms
 
 -- terms are in a total order
@@ -101,10 +86,10 @@ ground_same p q names lists =
 pub term_cmp-exact : CmpEqualImpliesEq term_cmp
 unfolding term_cmp
 term_cmp-exact p q h =
-    let outer = ordering_then-Equal (name_cmp p.name q.name) _ h in
-    let inner = ordering_then-Equal (nat_cmp (length p.args) (length q.args)) _ outer.1 in
-    let names = exact_bytes p.name q.name outer.0 in
-    ground_same p q names (slice_cmp-exact arg_cmp-exact p.args q.args inner.1)
+    let names = exact_bytes p.name q.name (Equal-from_then (name_cmp p.name q.name) _ h) in
+    let rest = Equal-from_then_last (name_cmp p.name q.name) _ h in
+    let args = Equal-from_then_last (nat_cmp (length p.args) (length q.args)) _ rest in
+    ground_same p q names (slice_cmp-exact arg_cmp-exact p.args q.args args)
 
 -- ---- equality
 
@@ -120,24 +105,15 @@ arg_eq-Decides (Word v) (Word w) = ((λ h. ap Word ((bytes_eq-Decides v w).0 h))
 pub args_eq-Decides : (xs ys : List Arg) → Decides (pointwise arg_eq xs ys) (xs ≡ ys)
 args_eq-Decides xs ys = slice_eq-Decides arg_eq-Decides xs ys (pointwise arg_eq xs ys) refl
 
--- a conjunction of tests is true where both are
-pub and-both : (a b : Bool) → (a && b) ≡ true → (a ≡ true) × (b ≡ true)
-and-both true b h = (refl, h)
-and-both false b h = cc
-
--- and it is true where both are
-pub and-intro : (a b : Bool) → a ≡ true → b ≡ true → (a && b) ≡ true
-and-intro a b h k = rw (h, k)
-
 -- `term_eq` tells whether two terms are the same
 pub term_eq-Decides : (p q : Ground) → Decides (term_eq p q) (p ≡ q)
 unfolding term_eq
 term_eq-Decides p q = (
   (λ h.
-      let both = and-both _ _ h in
+      let both = and_parts _ _ h in
       let names = (bytes_eq-Decides p.name q.name).0 both.0 in
       ground_same p q names ((args_eq-Decides p.args q.args).0 both.1)),
-  (λ h. and-intro _ _ ((bytes_eq-Decides p.name q.name).1 (ap (λ (r : Ground). r.name) h)) ((args_eq-Decides p.args q.args).1 (ap (λ (r : Ground). r.args) h))),
+  (λ h. and_from _ _ ((bytes_eq-Decides p.name q.name).1 (ap (λ (r : Ground). r.name) h)) ((args_eq-Decides p.args q.args).1 (ap (λ (r : Ground). r.args) h))),
 )
 
 -- ---- both ways
@@ -175,12 +151,6 @@ arg_refs_cmp [] (y ∷ ys) = refl
 arg_refs_cmp (x ∷ xs) [] = refl
 arg_refs_cmp (x ∷ xs) (y ∷ ys) = rw (arg_ref_cmp x y, arg_refs_cmp xs ys)
 
--- steps of an order may be grouped either way
-ordering_then-assoc : (a b c : Ordering) → ordering_then (ordering_then a b) c ≡ ordering_then a (ordering_then b c)
-ordering_then-assoc Less b c = refl
-ordering_then-assoc Equal b c = refl
-ordering_then-assoc Greater b c = refl
-
 -- a first step that is not equal decides
 pub then-decided : (a c : Ordering) → is_ne a ≡ true → a ≡ ordering_then a c
 then-decided Less c h = refl
@@ -200,4 +170,4 @@ pub term_cmp-ground_of : (p q : GroundRef) →
 unfolding term_cmp
 term_cmp-ground_of p q =
     rw (arg_refs_cmp p.args q.args, length-map p.args arg_of, length-map q.args arg_of)
-    (ordering_then-assoc (name_cmp p.name.now q.name.now) (nat_cmp (length p.args) (length q.args)) (slice_cmp arg_cmp (map arg_of p.args) (map arg_of q.args)))
+    (ordering_then_assoc (name_cmp p.name.now q.name.now) (nat_cmp (length p.args) (length q.args)) (slice_cmp arg_cmp (map arg_of p.args) (map arg_of q.args)))

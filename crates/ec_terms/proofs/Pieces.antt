@@ -1,7 +1,7 @@
 -- The arguments between the parentheses, piece by piece: what one more argument, a `,` and a `)` do.
-use Rattle.std.proofs.Common.{◌≡◌, ℕ, ◌<◌, ◌≤◌, ◌+◌, Bool, true, false, ◌==◌, not, nat_le, List, [], ◌∷◌, ◌++◌, length, take, drop, take_while, get_or, cond, map, arith, refl, zero, suc, ap, sym, subst, ◌∙◌, inl, inr, eqb-true, append_assoc, length-append, length-drop, ◌-◌, add-one, zero-add, Option, Some, None, option_map, option_and_then}
+use Rattle.std.proofs.Common.{◌≡◌, ℕ, ◌<◌, ◌≤◌, ◌+◌, Bool, true, false, ◌==◌, not, nat_le, List, [], ◌∷◌, ◌++◌, length, take, drop, get_or, cond, map, arith, refl, ap, sym, subst, ◌∙◌, inl, inr, eqb-true, append_assoc, length-append, length-drop, ◌-◌, add-one, zero-add, Option, Some, None, option_map, option_and_then}
 use Rattle.std.specs.List.{list_all, before_first}
-use Rattle.std.proofs.lemmas.Bool.{cases_Bool, and_from, cond-true, cond-false, le-leb, lt-leb}
+use Rattle.std.proofs.lemmas.Bool.{cases_Bool, and_from, cond-true, cond-false, le-leb, lt-leb, and_parts}
 use Rattle.std.proofs.lemmas.Bool.Decides.{nat_tests}
 use Rattle.std.specs.Option.{unwrap_or}
 use Rattle.std.proofs.Math.Seq.{get_or-append_seam, split_at}
@@ -14,9 +14,10 @@ use Rattle.ec_terms.specs.Spelling.{begins_with}
 use Rattle.ec_terms.specs.Pieces.{pieces_between, before_first_piece}
 use Rattle.ec_terms.specs.Term.{arg_of, is_argument, arg_value, pieces_of, args_value, args_within, inside_of}
 use Rattle.ec_terms.specs.Front.{arg_run, arg_front, args_front}
-use Rattle.ec_terms.proofs.Names.{and-first, and-second}
-use Rattle.ec_terms.proofs.Runs.{take_while-all, take_while-append, list_all-weaken}
+use Rattle.ec_terms.proofs.Runs.{take_while-append}
 use Rattle.ec_terms.proofs.Arguments.{is_mark, is_plain, arg_run-is_take, arg_run-within, plain_arg_run, arg_run-seam, arg_run-all}
+use Rattle.ec_lists.proofs.Tests.{list_all-weaker}
+use Rattle.ec_lists.proofs.Fronts.{take_while-all, take_while-pass}
 
 -- ---- up to the `)`
 
@@ -24,12 +25,7 @@ plain_open : (b : ℕ) → is_plain b ≡ true → not (b == 41) ≡ true
 plain_open b h = grind (arith, nat_tests)
 
 plain_all_open : (p : List ℕ) → list_all is_plain p ≡ true → list_all (λ b. not (b == 41)) p ≡ true
-plain_all_open p h = list_all-weaken is_plain (λ b. not (b == 41)) plain_open p h
-
-take_while-pass : (t : ℕ → Bool) (p ys : List ℕ) → list_all t p ≡ true → take_while t (p ++ ys) ≡ p ++ take_while t ys
-take_while-pass t [] ys h = refl
-take_while-pass t (x ∷ p) ys h =
-    take_while-cons t x (p ++ ys) ∙ cond-true (t x) _ _ (and-first _ _ h) ∙ ap (λ zs. x ∷ zs) (take_while-pass t p ys (and-second _ _ h))
+plain_all_open p h = list_all-weaker is_plain (λ b. not (b == 41)) plain_open p h
 
 same_test : (a b c d : ℕ) → (a ≤ b → c ≤ d) → (c ≤ d → a ≤ b) → nat_le a b ≡ nat_le c d
 same_test a b c d there back = grind (arith, nat_tests)
@@ -83,13 +79,13 @@ plain_no_comma b h = grind (arith, nat_tests)
 pub pieces_of-plain : (p : List ℕ) → list_all is_plain p ≡ true → pieces_of p ≡ p ∷ []
 unfolding pieces_between
 pieces_of-plain [] h = refl
-pieces_of-plain (b ∷ p) h = pieces_of-first b p p [] (plain_no_comma b (and-first _ _ h)) (pieces_of-plain p (and-second _ _ h))
+pieces_of-plain (b ∷ p) h = pieces_of-first b p p [] (plain_no_comma b (and_parts _ _ h).0) (pieces_of-plain p (and_parts _ _ h).1)
 
 -- a `,` ends a piece
 pub pieces_of-comma : (p i : List ℕ) → list_all is_plain p ≡ true → pieces_of (p ++ 44 ∷ i) ≡ p ∷ pieces_of i
 unfolding pieces_between
 pieces_of-comma [] i h = refl
-pieces_of-comma (b ∷ p) i h = pieces_of-first b (p ++ 44 ∷ i) p (pieces_of i) (plain_no_comma b (and-first _ _ h)) (pieces_of-comma p i (and-second _ _ h))
+pieces_of-comma (b ∷ p) i h = pieces_of-first b (p ++ 44 ∷ i) p (pieces_of i) (plain_no_comma b (and_parts _ _ h).0) (pieces_of-comma p i (and_parts _ _ h).1)
 
 some_piece : (bs : List ℕ) → (p : List ℕ) × (ps : List (List ℕ)) × (pieces_of bs ≡ p ∷ ps)
 unfolding pieces_between
@@ -241,11 +237,6 @@ args_from-full before at rest full = of (inside_of rest)
 -- a list is what stands before a place, the element there and the rest
 around : (n : ℕ) (xs : List ℕ) → n < length xs → xs ≡ take n xs ++ get_or xs n 0 ∷ drop (n + 1) xs
 around n xs h = split_at xs n 0 h ∙ ap (λ k. take n xs ++ get_or xs n 0 ∷ drop k xs) (sym (add-one n))
-
-all_at : (t : ℕ → Bool) (xs : List ℕ) (n : ℕ) → list_all t xs ≡ true → n < length xs → t (get_or xs n 0) ≡ true
-all_at t [] n h k = absurd (omega arith)
-all_at t (x ∷ xs) zero h k = and-first _ _ h
-all_at t (x ∷ xs) (suc n) h k = all_at t xs n (and-second _ _ h) (omega arith)
 
 same_arg : (a b : Arg) (n m : ℕ) → ◌≡◌ {A = Option (Arg × ℕ)} (Some (a, n)) (Some (b, m)) → a ≡ b
 same_arg a b n m e = ap (λ (o : Option (Arg × ℕ)). (unwrap_or o (a, n)).0) e

@@ -3,7 +3,7 @@ use Rattle.std.proofs.Common.{◌≡◌, ℕ, ◌<◌, ◌≤◌, ◌+◌, ◌�
 use Rattle.std.specs.List.{list_all, join_with_byte}
 use Rattle.std.specs.Option.{unwrap_or}
 use Rattle.std.proofs.Math.Seq.{drop-append_seam}
-use Rattle.std.proofs.lemmas.Bool.{cond-true, or_parts}
+use Rattle.std.proofs.lemmas.Bool.{cond-true, or_parts, and_parts}
 use Rattle.ec_moment.specs.Number.{number_text}
 use Rattle.ec_moment.proofs.NumberLemmas.{number_value-number_text, IsNumber-from_true}
 use Rattle.ec_terms.specs.declared.ground.Arg.{Arg}
@@ -13,7 +13,7 @@ use Rattle.ec_terms.specs.Spelling.{is_name_byte, is_lower, is_upper, begins_wit
 use Rattle.ec_terms.specs.Term.{arg_text, args_text, term_text, arg_value, is_argument, term_front, term_value}
 use Rattle.ec_terms.specs.Front.{name_front, args_front}
 use Rattle.ec_terms.specs.TextLaws.{has_size, goes_on, IsReadInFront, IsReadBack, IsTextFaithful}
-use Rattle.ec_terms.proofs.Names.{and-first, and-second, is_name-bytes}
+use Rattle.ec_terms.proofs.Names.{is_name-bytes}
 use Rattle.ec_terms.proofs.Runs.{take_while-append}
 use Rattle.ec_terms.proofs.Arguments.{is_plain, plain_arg_run, arg_run-all, arg_value-no_letter, begins_lower-number, is_digit_run-from_value}
 use Rattle.ec_terms.proofs.Pieces.{args_from, args_from-front, args_from-comma, args_from-close}
@@ -44,14 +44,14 @@ pub args_from-text : (before : List Arg) (at : ℕ) (a : Arg) (args : List Arg) 
     args_from before at (join_with_byte 44 (map arg_text (a ∷ args)) ++ 41 ∷ rest)
     ≡ Some (before ++ a ∷ args, at + length (join_with_byte 44 (map arg_text (a ∷ args))) + 1)
 args_from-text before at a [] rest h k few =
-    args_from-close before at (arg_text a) rest a (plain-arg_text a (and-first _ _ h) (and-first _ _ k)) (arg_value-arg_text a (and-first _ _ h) (and-first _ _ k)) (omega arith)
+    args_from-close before at (arg_text a) rest a (plain-arg_text a (and_parts _ _ h).0 (and_parts _ _ k).0) (arg_value-arg_text a (and_parts _ _ h).0 (and_parts _ _ k).0) (omega arith)
 args_from-text before at a (b ∷ args) rest h k few =
     let joined : List ℕ = join_with_byte 44 (map arg_text (b ∷ args)) in
     let count : length (before ++ a ∷ []) + length (b ∷ args) ≤ 8 = omega (arith, length-append before (a ∷ [])) in
     let len : at + length (arg_text a) + 1 + length joined + 1 ≡ at + length (arg_text a ++ 44 ∷ joined) + 1 = omega (arith, length-append (arg_text a) (44 ∷ joined)) in
     ap (args_from before at) (append_assoc (arg_text a) (44 ∷ joined) (41 ∷ rest))
-    ∙ args_from-comma before at (arg_text a) (joined ++ 41 ∷ rest) a (plain-arg_text a (and-first _ _ h) (and-first _ _ k)) (arg_value-arg_text a (and-first _ _ h) (and-first _ _ k))
-    ∙ args_from-text (before ++ a ∷ []) (at + length (arg_text a) + 1) b args rest (and-second _ _ h) (and-second _ _ k) count
+    ∙ args_from-comma before at (arg_text a) (joined ++ 41 ∷ rest) a (plain-arg_text a (and_parts _ _ h).0 (and_parts _ _ k).0) (arg_value-arg_text a (and_parts _ _ h).0 (and_parts _ _ k).0)
+    ∙ args_from-text (before ++ a ∷ []) (at + length (arg_text a) + 1) b args rest (and_parts _ _ h).1 (and_parts _ _ k).1 count
     ∙ ap (λ (xs : List Arg). Some (xs, at + length (arg_text a) + 1 + length joined + 1)) (append_assoc before (a ∷ []) (b ∷ args))
     ∙ ap (λ (n : ℕ). Some (before ++ a ∷ b ∷ args, n)) len
 

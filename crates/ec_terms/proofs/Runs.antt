@@ -1,35 +1,21 @@
 -- The runs at the front of a text: where they lie, what they are made of, and where they end.
-use Rattle.std.proofs.Common.{◌≡◌, ℕ, ◌<◌, ◌≤◌, ◌+◌, Bool, true, false, ◌&&◌, ◌==◌, List, [], ◌∷◌, ◌++◌, length, take, drop, take_while, cond, arith, refl, ap, sym, subst, ◌∙◌, inl, inr, eqb-true, get_or, w64, SFits, to_z, of_z, pos, negsuc, ◌^◌, Option, Some, None, option_map, ℤ}
+use Rattle.std.proofs.Common.{◌≡◌, ℕ, ◌<◌, ◌≤◌, ◌+◌, Bool, true, false, ◌&&◌, ◌==◌, List, [], ◌∷◌, ◌++◌, length, take, drop, take_while, arith, refl, ap, sym, subst, ◌∙◌, inl, inr, eqb-true, get_or, w64, SFits, to_z, of_z, pos, negsuc, ◌^◌, Option, Some, None, option_map, ℤ}
 use Rattle.std.specs.List.{list_all}
 use Rattle.std.specs.Char.{is_ascii_digit}
 use Rattle.std.specs.Option.{unwrap_or}
 use Rattle.std.specs.Str.Parse.{starts_with_minus}
-use Rattle.std.proofs.lemmas.Bool.{cases_Bool, and_from, cond-true, cond-false, cond_both}
-use Rattle.std.proofs.lemmas.List.Sums.{prefix_len-le-length, take_while-cons}
-use Rattle.std.proofs.lemmas.List.Folds.{length-prefix_len}
+use Rattle.std.proofs.lemmas.Bool.{cases_Bool, cond-true, cond-false, and_parts}
+use Rattle.std.proofs.lemmas.List.Sums.{take_while-cons}
 use Rattle.std.proofs.lemmas.Option.{cond_some}
 use Rattle.ec_moment.specs.Number.{IsNumber, is_digit_run, is_number, number_value, signed_value, without_minus}
 use Rattle.ec_terms.specs.Spelling.{is_name_byte, begins_with, is_name, name_run}
 use Rattle.ec_terms.specs.Front.{name_front, digit_run, number_run, number_front}
-use Rattle.ec_terms.proofs.Names.{and-first, and-second}
 use Rattle.std.proofs.lemmas.Option.{cond_some}
 use Rattle.std.proofs.lemmas.Int.{ints, to_z-of_z}
 use Rattle.ec_moment.proofs.NumberLemmas.{IsNumber-from_true}
+use Rattle.ec_lists.proofs.Fronts.{list_all-take_while, take_while-is_take, take_while-within}
 
 -- ---- runs of any kind
-
--- each element of a run passes its test
-pub list_all-take_while : (p : ℕ → Bool) (xs : List ℕ) → list_all p (take_while p xs) ≡ true
-list_all-take_while p [] = refl
-list_all-take_while p (x ∷ xs) =
-    subst (λ (ys : List ℕ). list_all p ys ≡ true) (sym (take_while-cons p x xs))
-    (cond_both (p x) (x ∷ take_while p xs) [] (λ ys. list_all p ys ≡ true) (λ e. and_from (p x) _ e (list_all-take_while p xs)) (λ e. refl))
-
--- a list whose elements all pass is its own run
-pub take_while-all : (p : ℕ → Bool) (xs : List ℕ) → list_all p xs ≡ true → take_while p xs ≡ xs
-take_while-all p [] h = refl
-take_while-all p (x ∷ xs) h =
-    take_while-cons p x xs ∙ cond-true (p x) _ _ (and-first _ _ h) ∙ ap (λ ys. x ∷ ys) (take_while-all p xs (and-second _ _ h))
 
 -- a run ends where the next element fails
 pub take_while-none : (p : ℕ → Bool) (xs : List ℕ) → begins_with p xs ≡ false → take_while p xs ≡ []
@@ -40,25 +26,7 @@ take_while-none p (x ∷ xs) h = take_while-cons p x xs ∙ cond-false (p x) _ _
 pub take_while-append : (p : ℕ → Bool) (xs ys : List ℕ) → list_all p xs ≡ true → begins_with p ys ≡ false → take_while p (xs ++ ys) ≡ xs
 take_while-append p [] ys h e = take_while-none p ys e
 take_while-append p (x ∷ xs) ys h e =
-    take_while-cons p x (xs ++ ys) ∙ cond-true (p x) _ _ (and-first _ _ h) ∙ ap (λ zs. x ∷ zs) (take_while-append p xs ys (and-second _ _ h) e)
-
--- an element that fails ends each run before it
-pub take_while-seam : (p : ℕ → Bool) (xs : List ℕ) (d : ℕ) (ys : List ℕ) → p d ≡ false → take_while p (xs ++ d ∷ ys) ≡ take_while p xs
-take_while-seam p [] d ys h = take_while-cons p d ys ∙ cond-false (p d) _ _ h
-take_while-seam p (x ∷ xs) d ys h =
-    take_while-cons p x (xs ++ d ∷ ys) ∙ ap (λ zs. cond (p x) (x ∷ zs) []) (take_while-seam p xs d ys h) ∙ sym (take_while-cons p x xs)
-
--- a run is a front of its text
-pub take_while-is_take : (p : ℕ → Bool) (xs : List ℕ) → take_while p xs ≡ take (length (take_while p xs)) xs
-take_while-is_take p xs = ap (λ n. take n xs) (sym (length-prefix_len p xs))
-
-pub take_while-within : (p : ℕ → Bool) (xs : List ℕ) → length (take_while p xs) ≤ length xs
-take_while-within p xs = omega (arith, length-prefix_len p xs, prefix_len-le-length p xs)
-
--- a weaker test passes too
-pub list_all-weaken : (p q : ℕ → Bool) (each : (b : ℕ) → p b ≡ true → q b ≡ true) (xs : List ℕ) → list_all p xs ≡ true → list_all q xs ≡ true
-list_all-weaken p q each [] h = refl
-list_all-weaken p q each (x ∷ xs) h = and_from _ _ (each x (and-first _ _ h)) (list_all-weaken p q each xs (and-second _ _ h))
+    take_while-cons p x (xs ++ ys) ∙ cond-true (p x) _ _ (and_parts _ _ h).0 ∙ ap (λ zs. x ∷ zs) (take_while-append p xs ys (and_parts _ _ h).1 e)
 
 -- ---- runs of name bytes
 
@@ -159,7 +127,7 @@ pub SFits-number : (bs : List ℕ) (z : ℤ) → number_value bs ≡ Some z → 
 unfolding number_value
 SFits-number bs z h =
     let found = cond_some (is_digit_run (without_minus bs) && is_number (signed_value bs)) (signed_value bs) z h in
-    SFits-from_number z (IsNumber-from_true z (subst (λ (x : ℤ). is_number x ≡ true) found.1 (and-second _ _ found.0)))
+    SFits-from_number z (IsNumber-from_true z (subst (λ (x : ℤ). is_number x ≡ true) found.1 (and_parts _ _ found.0).1))
 
 pub number_front-some : (bs : List ℕ) (n : ℕ) (z : ℤ) → n ≡ length (number_run bs) → number_value (take n bs) ≡ Some z →
     Some (to_z w64 (of_z w64 z), n) ≡ number_front bs

@@ -1,5 +1,5 @@
 -- The text of a term as it grows, argument by argument.
-use Rattle.std.proofs.Common.{◌≤◌, ◌≡◌, ℕ, ℤ, pos, negsuc, SFits, w64, zero, suc, ◌<◌, ◌+◌, true, List, [], ◌∷◌, ◌++◌, length, take, get_or, map, arith, refl, ap, sym, ◌∙◌, append_assoc, append-nil}
+use Rattle.std.proofs.Common.{◌≤◌, ◌≡◌, ℕ, ℤ, pos, negsuc, SFits, w64, ◌<◌, ◌+◌, true, List, [], ◌∷◌, ◌++◌, length, take, get_or, map, arith, refl, ap, sym, ◌∙◌, append_assoc, append-nil}
 use Rattle.std.specs.List.{list_all, join_with_byte}
 use Rattle.std.specs.Str.{IsAscii}
 use Rattle.std.proofs.lemmas.List.{map-append, take_more}
@@ -9,13 +9,13 @@ use Rattle.ec_terms.specs.declared.ground.Arg.TheVariants.{Int, Word}
 use Rattle.ec_terms.specs.declared.ground.ArgRef.{ArgRef}
 use Rattle.ec_terms.specs.Spelling.{is_name}
 use Rattle.ec_terms.specs.Term.{arg_of, arg_text, args_text, term_text, is_argument, names_are_names}
-use Rattle.std.proofs.lemmas.Bool.{and_from}
+use Rattle.std.proofs.lemmas.Bool.{and_from, and_parts}
 use Rattle.std.proofs.lemmas.Int.{ints}
 use Rattle.std.proofs.lemmas.List.Folds.{list_all-append}
 use Rattle.ec_moment.specs.Number.{IsNumber}
 use Rattle.ec_moment.proofs.NumberLemmas.{is_number-true}
 use Rattle.ec_terms.specs.TextLaws.{has_size, IsTerm}
-use Rattle.ec_terms.proofs.Names.{and-first, and-second, IsAscii-from_name_bytes, is_name-bytes}
+use Rattle.ec_terms.proofs.Names.{IsAscii-from_name_bytes, is_name-bytes}
 
 -- the mark before the next argument: `(` before the first, `,` before the others
 abbrev pub mark_before : List Arg → ℕ
@@ -60,21 +60,14 @@ pub taken-push : (items : List ArgRef) (i : ℕ) (d : ArgRef) → i < length ite
     map arg_of (take (i + 1) items) ≡ map arg_of (take i items) ++ arg_of (get_or items i d) ∷ []
 taken-push items i d within = ap (map arg_of) (take_more items i d within) ∙ map-append arg_of (take i items) (get_or items i d ∷ [])
 
--- each argument of a list of arguments is one
-pub is_argument-at : (items : List ArgRef) (i : ℕ) (d : ArgRef) → list_all is_argument (map arg_of items) ≡ true → i < length items →
-    is_argument (arg_of (get_or items i d)) ≡ true
-is_argument-at [] i d h within = absurd (omega arith)
-is_argument-at (y ∷ items) zero d h within = and-first _ _ h
-is_argument-at (y ∷ items) (suc i) d h within = is_argument-at items i d (and-second _ _ h) (omega arith)
-
 -- the name and the arguments of a term
 pub names-name : (name : List ℕ) (args : List Arg) → names_are_names (record { name = name; args = args }) ≡ true → is_name name ≡ true
 unfolding names_are_names
-names-name name args h = and-first _ _ h
+names-name name args h = (and_parts _ _ h).0
 
 pub names-args : (name : List ℕ) (args : List Arg) → names_are_names (record { name = name; args = args }) ≡ true → list_all is_argument args ≡ true
 unfolding names_are_names
-names-args name args h = and-second _ _ h
+names-args name args h = (and_parts _ _ h).1
 
 pub IsAscii-from_name : (bs : List ℕ) → is_name bs ≡ true → IsAscii bs
 IsAscii-from_name bs h = IsAscii-from_name_bytes bs (is_name-bytes bs h)

@@ -3,10 +3,11 @@ use Rattle.std.proofs.lemmas.List.{take_all}
 use Rattle.ec_terms.specs.Binding.{values_of}
 use Rattle.ec_terms.specs.Term.{ground_of, names_are_names}
 use Rattle.ec_terms.specs.Matching.{filled, value_of}
-use Rattle.ec_terms.proofs.OrderLemmas.{ground_same, and-intro}
+use Rattle.ec_terms.proofs.OrderLemmas.{ground_same}
 use Rattle.ec_terms.proofs.FillingLemmas.{shown-push, shown-same, shown-push_named}
 use Rattle.ec_terms.proofs.filling.fill_ref.Goals as goal
 use Rattle.ec_terms.proofs.filling.fill_ref.Goals.{in-Some, in_default}
+use Rattle.std.proofs.lemmas.Bool.{and_from}
 
 pub loop-place-preserved : goal.loop-place-preserved
 loop-place-preserved c =
@@ -46,4 +47,4 @@ pub returns-clause-named : goal.returns-clause-named
 unfolding names_are_names
 returns-clause-named c =
     let bytes = c.as_bytes.ensures.bytes in
-    and-intro _ _ (rw bytes c.as_bytes.ensures.name) c.loop-place.invariant.named
+    and_from _ _ (rw bytes c.as_bytes.ensures.name) c.loop-place.invariant.named

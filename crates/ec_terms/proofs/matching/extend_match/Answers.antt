@@ -4,10 +4,12 @@ use Rattle.std.specs.Str.{bytes_eq}
 use Rattle.std.proofs.lemmas.List.{length-map}
 use Rattle.ec_terms.specs.declared.ground.ArgRef.TheVariants.{Int as IntRef}
 use Rattle.ec_terms.specs.Binding.{values_of}
-use Rattle.ec_terms.specs.Term.{arg_of, ground_of}
-use Rattle.ec_terms.proofs.MatchingLemmas.{IsFound, walk-Some, walk-None, walk-stops, walk-goes_on, walk-ends, fits-other_name, fits-other_length, fits-other_args, fits-from_args, is_argument-at, arguments_are_named, not-true, not-false}
+use Rattle.ec_terms.specs.Term.{arg_of, ground_of, is_argument}
+use Rattle.ec_terms.proofs.MatchingLemmas.{IsFound, walk-Some, walk-None, walk-stops, walk-goes_on, walk-ends, fits-other_name, fits-other_length, fits-other_args, fits-from_args, arguments_are_named}
 use Rattle.ec_terms.proofs.matching.extend_match.Goals as goal
 use Rattle.ec_terms.proofs.matching.extend_match.Goals.{then-ne-via-then-ne, then-ne-via-else-ne+then-len-args}
+use Rattle.std.proofs.lemmas.Bool.{not-true, not-false}
+use Rattle.ec_lists.proofs.Tests.{list_all-map_get_or}
 
 pub returns-then-ne-clause-none : goal.returns-then-ne-clause-none
 returns-then-ne-clause-none c =
@@ -29,7 +31,7 @@ place_meets-requires-clause-named c =
     let items = c.as_slice-args.ensures.items in
     let within : c.loop-i.i < length c.args.term.now.args =
     omega (arith, c.loop-i-test.true, c.len.ensures, c.if-len-args.false, ap length c.as_slice-place-items.ensures, ap length items) in
-    rw items (is_argument-at c.args.term.now.args c.loop-i.i _ (arguments_are_named (ground_of c.args.term.now) c.requires.named) within)
+    rw items (list_all-map_get_or is_argument arg_of c.args.term.now.args c.loop-i.i _ (arguments_are_named (ground_of c.args.term.now) c.requires.named) within)
 
 pub returns-then-not-place_meets-clause-none : goal.returns-then-not-place_meets-clause-none
 returns-then-not-place_meets-clause-none c =

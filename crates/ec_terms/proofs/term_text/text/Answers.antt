@@ -8,8 +8,9 @@ use Rattle.ec_terms.specs.Term.{arg_of, is_argument, names_are_names, term_value
 use Rattle.ec_terms.specs.TextLaws.{has_size, IsTerm}
 use Rattle.ec_terms.proofs.ReadBack.{read_back}
 use Rattle.ec_terms.proofs.Names.{is_name-short}
-use Rattle.ec_terms.proofs.Texts.{IsAscii-from_name, names-name, names-args, is_argument-at, taken-push, text-first, text-more, mark-more, sizes-more, IsTerm-from, text-plain, text-closed}
+use Rattle.ec_terms.proofs.Texts.{IsAscii-from_name, names-name, names-args, taken-push, text-first, text-more, mark-more, sizes-more, IsTerm-from, text-plain, text-closed}
 use Rattle.ec_terms.proofs.term_text.text.Goals as goal
+use Rattle.ec_lists.proofs.Tests.{list_all-map_get_or}
 
 -- when the loop has gone through them, each argument was written
 whole_term : (name : List ℕ) (items : List ArgRef) (i : ℕ) (slice : List ArgRef) → slice ≡ items → length items ≤ 8 →
@@ -40,7 +41,7 @@ loop-arg-init c =
 pub push_arg-requires-clause-name : goal.push_arg-requires-clause-name
 push_arg-requires-clause-name c =
     let items = c.as_slice-arg-items.ensures.items in
-    is_argument-at c.as_slice-arg-items.result.now c.loop-arg.arg-index _
+    list_all-map_get_or is_argument arg_of c.as_slice-arg-items.result.now c.loop-arg.arg-index _
     (ap (λ (xs : List ArgRef). list_all is_argument (map arg_of xs)) items ∙ names-args _ _ c.requires) c.loop-arg-test.true
 
 pub loop-arg-preserved : goal.loop-arg-preserved

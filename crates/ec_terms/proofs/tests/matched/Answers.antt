@@ -4,8 +4,8 @@ use Rattle.std.proofs.lemmas.List.Folds.{list_all-map}
 use Rattle.ec_terms.specs.declared.ground.ArgRef.{ArgRef}
 use Rattle.ec_terms.specs.Spelling.{is_name}
 use Rattle.ec_terms.specs.Term.{arg_of, is_argument, names_are_names}
-use Rattle.ec_terms.proofs.OrderLemmas.{and-intro}
 use Rattle.ec_terms.proofs.tests.matched.Goals as goal
+use Rattle.std.proofs.lemmas.Bool.{and_from}
 
 pub matches-requires-clause-named : goal.matches-requires-clause-named
 unfolding names_are_names
@@ -15,4 +15,4 @@ matches-requires-clause-named g c =
     let told = c.are_named.ensures in
     let name : is_name c.args.term.now.name.now ≡ true = cc in
     let named : list_all (λ (a : ArgRef). is_argument (arg_of a)) c.args.term.now.args ≡ true = cc in
-    and-intro _ _ name (list_all-map is_argument arg_of c.args.term.now.args ∙ named)
+    and_from _ _ name (list_all-map is_argument arg_of c.args.term.now.args ∙ named)
