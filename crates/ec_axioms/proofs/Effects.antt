@@ -11,7 +11,7 @@ use Rattle.ec_terms.specs.declared.theory.Theory.{Theory}
 use Rattle.ec_terms.specs.Domain.{GroundLiteral, GroundEntry, entries_of, is_initial, is_strong}
 use Rattle.ec_axioms.specs.Laws.{events_before}
 use Rattle.ec_axioms.specs.Timeline.{Timeline, is_current_on, instants_before, instants_between, carries, carries_initially}
-use Rattle.ec_axioms.specs.Calculus.{PlainEvent, Currency, with_instant, instants_of, effects_of, agrees, is_active, effects_at, is_initiating, is_terminating, is_clashing, has_effect, is_initiated, has_break, timeline_by}
+use Rattle.ec_axioms.specs.Calculus.{PlainEvent, Effect, Currency, with_instant, instants_of, effects_of, agrees, is_active, effects_at, is_initiating, is_terminating, is_clashing, has_effect, is_initiated, has_break, timeline_by}
 use Rattle.ec_axioms.proofs.Members.{list_any-filter}
 use Rattle.ec_axioms.proofs.Ranks.{int_eq-is}
 
@@ -122,6 +122,11 @@ unfolding agrees
 agrees-same c d t [] same = refl
 agrees-same c d t (literal ∷ literals) same =
     ap₂ (λ x y. beq x literal.positive && y) (same literal.prop) (agrees-same c d t literals same)
+
+-- an entry is active alike with currencies that agree at its event's time
+pub is_active-same : (c d : Currency) (effect : Effect) → ((p : Ground) → c p effect.event.rank ≡ d p effect.event.rank) → is_active c effect ≡ is_active d effect
+unfolding is_active
+is_active-same c d effect same = agrees-same c d effect.event.rank effect.entry.literals same
 
 -- the active effects of one event
 effects-same_of_one : (c d : Currency) (e : PlainEvent) (wanted : GroundEntry → Bool) (entries : List GroundEntry) →

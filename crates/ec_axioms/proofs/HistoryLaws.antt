@@ -5,12 +5,12 @@ use Rattle.ec_terms.specs.Domain.{is_strong, is_initial}
 use Rattle.ec_axioms.specs.Timeline.{begin_at, is_current_on, begins_of, next_break, intervals_on, broken_on}
 use Rattle.ec_axioms.specs.Calculus.{timeline_of, timeline_by, instants_of, intervals_of, broken_of, holds_at, holds_through, reason_of}
 use Rattle.ec_axioms.specs.Marks.{mark_at, marks_of}
-use Rattle.ec_axioms.specs.Laws.{CurrencyIsOfTheLastMark, SpansAreTheIntervals, IntervalsAreDisjoint, ExclusivesShareOnlyABeginning, ThroughIsEachInstant, HoldingIsTheReasonYes}
+use Rattle.ec_axioms.specs.Laws.{CurrencyIsOfTheLastMark, SpansAreTheIntervals, IntervalsAreDisjoint, AtMostOneIntervalCovers, ExclusivesShareOnlyABeginning, ThroughIsEachInstant, HoldingIsTheReasonYes}
 use Rattle.ec_axioms.proofs.Rounds.{is_current-equation}
 use Rattle.ec_axioms.proofs.Ranks.{int_le-is, le_int_le}
 use Rattle.ec_axioms.proofs.Members.{IsMember-from_contains, IsSomeAnd-weaker}
 use Rattle.ec_axioms.proofs.Instants.{is_ascending-instants_of}
-use Rattle.ec_axioms.proofs.TimelineLaws.{IsBegin-from_member, next_break-start, is_held_at-reason_on, is_held_through-each, covers-same_begin}
+use Rattle.ec_axioms.proofs.TimelineLaws.{IsBegin-from_member, next_break-start, is_held_at-reason_on, is_held_through-each, covers-same, covers-same_begin}
 use Rattle.ec_axioms.proofs.MarkLaws.{is_current_on-last_mark, spans_of-marks_at, broken_spans_of-marks_at}
 use Rattle.ec_axioms.proofs.HistoryMarks.{instant-mark_at, timeline_of-marks, AreAllMarked-mark_at}
 use Rattle.ec_axioms.proofs.ExclusiveLaws.{are_exclusive-comm, IsBrokenBy-timeline_of}
@@ -51,6 +51,14 @@ IntervalsAreDisjoint-law theory events p begin s history first start after =
     let starts = IsBegin-from_member line (begin_at s) (IsMember-from_contains (begins_of line) (begin_at s) start) in
     IsSomeAnd-weaker (next_break line begin) (λ x. IsTrue (int_le x s)) (λ x. x ≤ℤ s) (λ x. int_le-is x s)
     (next_break-start line (is_ascending-instants_of events history) begin s begins starts after)
+
+-- an interval that covers a time has ended before a later one begins
+pub AtMostOneIntervalCovers-law : AtMostOneIntervalCovers
+unfolding timeline_of timeline_by intervals_of
+AtMostOneIntervalCovers-law theory events p t i j history has_i has_j covers_i covers_j =
+    let line = timeline_of theory events p in
+    covers-same line (is_ascending-instants_of events history) i j
+    (IsMember-from_contains (intervals_on line) i has_i) (IsMember-from_contains (intervals_on line) j has_j) t covers_i covers_j
 
 -- each of two exclusive properties breaks where the other begins
 pub ExclusivesShareOnlyABeginning-law : ExclusivesShareOnlyABeginning

@@ -11,10 +11,10 @@ use Rattle.ec_axioms.specs.Timeline.{Timeline, Begin, before_all, begin_at, is_a
 use Rattle.ec_axioms.specs.Calculus.{holds_at, intervals_of, timeline_of, timeline_by}
 use Rattle.ec_axioms.specs.Plain.{ends_well, HoldsWhereCurrent}
 use Rattle.ec_axioms.proofs.Instants.{is_ascending, is_ascending-instants_of}
-use Rattle.ec_axioms.proofs.Members.{IsMember, IsMember-filter, IsMember-from_filter, list_any-member, member-list_any, list_any-false, list_any-filter_map, find-Some, find-filter, length_member}
-use Rattle.ec_axioms.proofs.Ranks.{cases_int, int_lt-trans}
+use Rattle.ec_axioms.proofs.Members.{IsMember, IsMember-append_right, IsMember-map, IsMember-filter, IsMember-from_filter, list_any-member, member-list_any, list_any-false, list_any-filter_map, find-Some, find-filter, find_agree_members, length_member}
+use Rattle.ec_axioms.proofs.Ranks.{cases_int}
 use Rattle.ec_axioms.proofs.Rounds.{is_current-equation, length-below_lt}
-use Rattle.ec_axioms.proofs.TimelineLaws.{IsBegin-from_member, broken_between, next_break-least}
+use Rattle.ec_axioms.proofs.TimelineLaws.{is_after-later, IsBegin-from_member, broken_between, next_break-least}
 
 -- no break lies behind the begin and before t
 abbrev IsUnbroken : Timeline → Begin → ℤ → Type 0
@@ -39,20 +39,6 @@ unbroken_join line begin s t first here later u member after before =
     ⊎_elim (λ same. subst (λ x. IsFalse (line.breaks x)) (sym same) here)
     (⊎_elim (λ sooner. first u member after sooner) (λ behind. later u member behind before))
     (cases_int u s)
-
--- a later time is behind a begin too
-is_after-later : (begin : Begin) (s t : ℤ) → IsTrue (is_after begin s) → IsTrue (int_lt s t) → IsTrue (is_after begin t)
-is_after-later before_all s t after later = refl
-is_after-later (begin_at r) s t after later = int_lt-trans r s t after later
-
-IsMember-append_right : {X : Type 0} (xs ys : List X) (x : X) → IsMember ys x → IsMember (xs ++ ys) x
-IsMember-append_right [] ys x member = member
-IsMember-append_right (y ∷ xs) ys x member = inr (IsMember-append_right xs ys x member)
-
-IsMember-map : {X Y : Type 0} (f : X → Y) (xs : List X) (x : X) → IsMember xs x → IsMember (map f xs) (f x)
-IsMember-map f [] x member = absurd member
-IsMember-map f (y ∷ xs) x (inl same) = inl (ap f same)
-IsMember-map f (y ∷ xs) x (inr later) = inr (IsMember-map f xs x later)
 
 -- an initial property that has no break yet has begun before all events
 begun_initially : (line : Timeline) (t : ℤ) → IsTrue (carries_initially line t) → HasBegun line t
@@ -142,16 +128,12 @@ is_held_at-begins line t =
     list_any-filter_map (covers t) (λ begin. interval_from line begin (next_break line begin)) (begins_of line)
     ∙ ap (λ f. list_any f (begins_of line)) (fun_ext (λ begin. covers-interval_from line begin (next_break line begin) t))
 
--- where no break lies before t, the next break after the begin is the first from t on
-find_agree_members : {X : Type 0} (p q : X → Bool) (xs : List X) → ((x : X) → IsMember xs x → p x ≡ q x) → find p xs ≡ find q xs
-find_agree_members p q [] same = refl
-find_agree_members p q (x ∷ xs) same =
-    let here = same x (inl refl) in let ih = find_agree_members p q xs (λ y later. same y (inr later)) in grind arith
-
+-- what is not before an instant behind a begin is behind it too
 is_after-from : (begin : Begin) (t x : ℤ) → IsTrue (is_after begin t) → IsTrue (int_le t x) → IsTrue (is_after begin x)
 is_after-from before_all t x after from = refl
 is_after-from (begin_at s) t x after from = grind (arith, ints)
 
+-- where no break lies before t, the next break after the begin is the first from t on
 next_break-from : (line : Timeline) (begin : Begin) (t : ℤ) → IsTrue (is_after begin t) → IsUnbroken line begin t →
     next_break line begin ≡ find line.breaks (filter (λ s. int_le t s) line.instants)
 next_break-from line begin t after unbroken =

@@ -15,5 +15,6 @@ pub mod LastInstant
 pub mod Givens
 pub mod Histories
 pub mod HoldingLaws
+pub mod NotInitial
 pub mod NextBreak
 pub mod BareTheories

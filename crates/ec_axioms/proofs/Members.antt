@@ -24,11 +24,28 @@ IsMember_at (y ∷ ys) x (suc k) within there = inr (IsMember_at ys x k (omega a
 pub IsMember-from_contains : {X : Type 0} (xs : List X) (x : X) → Contains xs x → IsMember xs x
 IsMember-from_contains xs x found = IsMember_at xs x found.0 found.1 found.2
 
+-- and the other way
+pub Contains-from_member : {X : Type 0} (xs : List X) (x : X) → IsMember xs x → Contains xs x
+Contains-from_member [] x member = absurd member
+Contains-from_member (y ∷ ys) x (inl same) = (zero, omega arith, same)
+Contains-from_member (y ∷ ys) x (inr later) = let found = Contains-from_member ys x later in let within = found.1 in (suc found.0, omega arith, found.2)
+
 -- the members of two lists joined are those of each
 pub IsMember-append_cases : {X : Type 0} (xs ys : List X) (x : X) → IsMember (xs ++ ys) x → IsMember xs x ⊎ IsMember ys x
 IsMember-append_cases [] ys x member = inr member
 IsMember-append_cases (z ∷ xs) ys x (inl same) = inl (inl same)
 IsMember-append_cases (z ∷ xs) ys x (inr later) = ⊎_elim (λ left. inl (inr left)) (λ right. inr right) (IsMember-append_cases xs ys x later)
+
+-- a member of the second of two lists is a member of them joined
+pub IsMember-append_right : {X : Type 0} (xs ys : List X) (x : X) → IsMember ys x → IsMember (xs ++ ys) x
+IsMember-append_right [] ys x member = member
+IsMember-append_right (y ∷ xs) ys x member = inr (IsMember-append_right xs ys x member)
+
+-- the value of a function at a member is a member of its values
+pub IsMember-map : {X Y : Type 0} (f : X → Y) (xs : List X) (x : X) → IsMember xs x → IsMember (map f xs) (f x)
+IsMember-map f [] x member = absurd member
+IsMember-map f (y ∷ xs) x (inl same) = inl (ap f same)
+IsMember-map f (y ∷ xs) x (inr later) = inr (IsMember-map f xs x later)
 
 -- a member of the values of a function is its value at a member
 pub IsMember-from_map : {X Y : Type 0} (f : X → Y) (xs : List X) (y : Y) → IsMember (map f xs) y → (x : X) × IsMember xs x × (f x ≡ y)
@@ -162,6 +179,12 @@ find-filter p q (x ∷ xs) = let rest = find-filter p q xs in grind arith
 -- tests that agree find the same
 pub find_agree : {X : Type 0} (p q : X → Bool) → ((x : X) → p x ≡ q x) → (xs : List X) → find p xs ≡ find q xs
 find_agree p q agree xs = ap (λ test. find test xs) (fun_ext agree)
+
+-- tests that agree at each member find the same
+pub find_agree_members : {X : Type 0} (p q : X → Bool) (xs : List X) → ((x : X) → IsMember xs x → p x ≡ q x) → find p xs ≡ find q xs
+find_agree_members p q [] agree = refl
+find_agree_members p q (x ∷ xs) agree =
+    let here = agree x (inl refl) in let rest = find_agree_members p q xs (λ y later. agree y (inr later)) in grind arith
 
 -- the first of the values of a function that passes is the value at the first that does
 pub find-map : {X Y : Type 0} (p : Y → Bool) (f : X → Y) (xs : List X) → find p (map f xs) ≡ option_map f (find (λ x. p (f x)) xs)

@@ -1,5 +1,5 @@
 -- Facts on the order of ranks, by its tests. All that is proved of instants rests on these.
-use Rattle.std.proofs.Common.{◌≡◌, ◌⊎◌, ℕ, zero, suc, ℤ, pos, negsuc, ◌+ℤ◌, ◌-ℤ◌, ◌≤ℤ◌, IsTrue, IsFalse, refl, subst, arith}
+use Rattle.std.proofs.Common.{◌≡◌, ◌⊎◌, ℕ, zero, suc, ℤ, pos, negsuc, ◌+ℤ◌, ◌-ℤ◌, ◌≤ℤ◌, ◌<ℤ◌, IsTrue, IsFalse, refl, subst, arith}
 use Rattle.std.specs.Prelude.{int_lt, int_le}
 use Rattle.std.specs.Ordering.{int_eq}
 use Rattle.std.proofs.lemmas.Int.{ints}
@@ -10,6 +10,14 @@ use Rattle.std.proofs.lemmas.Bool.Decides.{Decides-int_eq}
 -- no rank is before itself
 pub int_lt-same : (s : ℤ) → IsFalse (int_lt s s)
 int_lt-same s = grind (arith, ints)
+
+-- the test says what the order says
+pub int_lt-is : (s t : ℤ) → IsTrue (int_lt s t) → s <ℤ t
+int_lt-is s t before = grind (arith, ints)
+
+-- and passes where the order says so
+pub lt_int_lt : (s t : ℤ) → s <ℤ t → IsTrue (int_lt s t)
+lt_int_lt s t before = grind (arith, ints)
 
 -- before what is before is before
 pub int_lt-trans : (r s t : ℤ) → IsTrue (int_lt r s) → IsTrue (int_lt s t) → IsTrue (int_lt r t)

@@ -11,7 +11,7 @@ use Rattle.ec_terms.specs.Domain.{GroundEntry, is_initial}
 use Rattle.ec_axioms.specs.Laws.{SolvesEquation, CurrencyIsTheSolution, PastIsClosed, events_before, events_up_to}
 use Rattle.ec_axioms.specs.Timeline.{Timeline, is_current_on, carries}
 use Rattle.ec_axioms.specs.Calculus.{PlainEvent, Currency, instants_of, effects_at, is_initiated, has_break, timeline_by, round_current, is_current}
-use Rattle.ec_axioms.proofs.Effects.{list_any-instants, filter-filter_wider, current_by, is_current_on-by, current_by-same, current_by-past, events_at, effects_at-same, effects_at-events, effects_at-none, is_initiated-same, has_break-same}
+use Rattle.ec_axioms.proofs.Effects.{list_any-instants, filter-filter_wider, current_by, is_current_on-by, current_by-same, current_by-past, events_at, is_active-same, effects_at-same, effects_at-events, effects_at-none, is_initiated-same, has_break-same}
 
 -- ---- how many instants lie before
 
@@ -42,7 +42,7 @@ filter-none p [] none = refl
 filter-none p (x ∷ xs) none = let ih = filter-none p xs in grind arith
 
 -- a time that is no instant has no event
-events_at-no_instant : (events : List PlainEvent) (s : ℤ) → list_any (λ u. int_eq u s) (instants_of events) ≡ false → events_at s events ≡ []
+pub events_at-no_instant : (events : List PlainEvent) (s : ℤ) → list_any (λ u. int_eq u s) (instants_of events) ≡ false → events_at s events ≡ []
 events_at-no_instant events s none = filter-none (λ e. int_eq e.rank s) events (sym (list_any-instants (λ u. int_eq u s) events) ∙ none)
 
 -- no instant before t
@@ -215,4 +215,7 @@ pub PastIsClosed-law : PastIsClosed
 PastIsClosed-law = (
   λ theory old new t u p same within. is_current-past theory old new t u p same (grind (arith, ints)),
   effects_at-past,
+  λ theory old new t effect same within.
+      is_active-same (is_current theory old) (is_current theory new) effect
+      (λ p. is_current-past theory old new t effect.event.rank p same (grind (arith, ints))),
 )

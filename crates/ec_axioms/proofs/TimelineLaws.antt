@@ -1,6 +1,6 @@
--- The laws of one timeline: its intervals are disjoint, holding is the reason yes, holding through a stretch is holding at each
+-- The laws of one timeline: its intervals are disjoint, at most one covers an instant, holding is the reason yes, holding through a stretch is holding at each
 -- whole number of it; and of two: if each breaks where the other begins, their intervals share only a beginning.
-use Rattle.std.proofs.Common.{◌≡◌, ◌⊎◌, ◌↔◌, ℤ, pos, ◌+ℤ◌, Bool, true, false, not, ◌&&◌, ◌||◌, List, ◌++◌, map, filter, Option, Some, None, IsTrue, IsFalse, IsSomeAnd, refl, ap, sym, subst, ◌∙◌, inl, inr, ⊎_elim, arith}
+use Rattle.std.proofs.Common.{◌≡◌, ◌⊎◌, ◌↔◌, ℤ, pos, ◌+ℤ◌, Bool, true, false, not, ◌&&◌, ◌||◌, List, ◌++◌, map, filter, Option, Some, None, IsTrue, IsFalse, IsSomeAnd, refl, ap, ap₂, sym, subst, ◌∙◌, inl, inr, ⊎_elim, arith}
 use Rattle.std.specs.Prelude.{int_lt, int_le}
 use Rattle.std.specs.List.{list_all, list_any}
 use Rattle.std.specs.Option.{option_map_or}
@@ -24,7 +24,7 @@ abbrev IsBehind : Begin → Begin → Type 0
 IsBehind b c = (s : ℤ) × (c ≡ begin_at s) × IsTrue (is_after b s)
 
 -- what is behind a begin stays behind it
-is_after-later : (begin : Begin) (t u : ℤ) → IsTrue (is_after begin t) → IsTrue (int_lt t u) → IsTrue (is_after begin u)
+pub is_after-later : (begin : Begin) (t u : ℤ) → IsTrue (is_after begin t) → IsTrue (int_lt t u) → IsTrue (is_after begin u)
 is_after-later before_all t u after before = refl
 is_after-later (begin_at s) t u after before = int_lt-trans s t u after before
 
@@ -194,6 +194,31 @@ module _ (line : Timeline) (ascending : IsTrue (is_ascending line.instants)) whe
   covers-unbroken i member s t instant breaks after before =
       let ended = subst (λ o. IsSomeAnd o (λ x. IsTrue (int_le x s))) (intervals_on-is line i member).1 (next_break-least i.from s instant after breaks) in
       and_right (is_after i.from t) (is_within_end i.until t) (ended_before i.until s t ended before)
+
+  -- no interval begins behind another where both cover one instant
+  covering_not_behind : (i j : Interval) → IsMember (intervals_on line) i → IsMember (intervals_on line) j → (t : ℤ)
+      → IsTrue (covers t i) → IsTrue (covers t j) → IsBehind i.from j.from → ⊥
+  covering_not_behind i j member_i member_j t covers_i covers_j behind =
+      let s = behind.0 in
+      let first = intervals_on-is line i member_i in
+      let start = subst (IsBegin line) behind.1 (intervals_on-is line j member_j).0 in
+      let before = subst (λ begin. IsTrue (is_after begin t)) behind.1 (and_parts (is_after j.from t) (is_within_end j.until t) covers_j).0 in
+      let ended = subst (λ o. IsSomeAnd o (λ x. IsTrue (int_le x s))) first.1 (next_break-start i.from s first.0 start behind.2) in
+      both_ways (covers t i) (and_right (is_after i.from t) (is_within_end i.until t) (ended_before i.until s t ended before)) covers_i
+
+  -- Two intervals that cover one instant are the same.
+  pub covers-same : (i j : Interval) → IsMember (intervals_on line) i → IsMember (intervals_on line) j → (t : ℤ)
+      → IsTrue (covers t i) → IsTrue (covers t j) → i ≡ j
+  covers-same i j member_i member_j t covers_i covers_j =
+      ⊎_elim
+      (λ same.
+      ap₂ (λ from until. let k : Interval = record { from = from; until = until } in k) same
+      (sym (intervals_on-is line i member_i).1 ∙ ap (next_break line) same ∙ (intervals_on-is line j member_j).1))
+      (λ apart. absurd (⊎_elim
+      (covering_not_behind i j member_i member_j t covers_i covers_j)
+      (covering_not_behind j i member_j member_i t covers_j covers_i)
+      apart))
+      (cases_begin i.from j.from)
 
 -- ---- holding through a stretch
 

@@ -9,6 +9,9 @@ use Rattle.ec_terms.specs.declared.ground.Ground.{Ground}
 use Rattle.ec_terms.specs.declared.theory.Theory.{Theory}
 use Rattle.ec_terms.specs.Term.{term_eq, name_cmp}
 use Rattle.ec_terms.specs.Domain.{GroundLiteral}
+use Rattle.ec_axioms.specs.declared.event.Cut.{Cut}
+use Rattle.ec_axioms.specs.declared.event.Cut.TheVariants.{Duplicate, Unknown}
+use Rattle.ec_axioms.specs.declared.event.Seen.{Seen}
 use Rattle.ec_axioms.specs.Timeline.{Begin, before_all, begin_at, Interval}
 use Rattle.ec_axioms.specs.Calculus.{PlainEvent, Effect, Currency, effects_of, is_active, is_current, intervals_of}
 use Rattle.ec_axioms.specs.Links.{live_properties}
@@ -19,14 +22,6 @@ use Rattle.ec_axioms.specs.Links.{live_properties}
 pub data PlainUpdate : Type 0 where
   asserting : PlainEvent → PlainUpdate
   retracting : List ℕ → PlainUpdate
-
--- why an update is refused: its identity is present already, or absent; or a limit would be passed
-pub data UpdateRefusal : Type 0 where
-  duplicate : List ℕ → UpdateRefusal
-  unknown : List ℕ → UpdateRefusal
-  full_events : UpdateRefusal
-  full_mentions : UpdateRefusal
-  full_links : UpdateRefusal
 
 -- some event has the identity
 unfoldable pub has_id : List ℕ → List PlainEvent → Bool
@@ -50,28 +45,28 @@ with_event e (f ∷ events) = if comes_before e f then e ∷ f ∷ events else f
 unfoldable pub without_event : List ℕ → List PlainEvent → List PlainEvent
 without_event id events = filter (λ e. not (bytes_eq e.id id)) events
 
--- The list after an update, or its refusal: an assert is refused where its identity is present, a retract where
+-- The list after an update, or what it is refused for: an assert is refused where its identity is present, a retract where
 -- it is absent.
-unfoldable pub update_of : List PlainEvent → PlainUpdate → Result (List PlainEvent) UpdateRefusal
-update_of events (asserting e) = if has_id e.id events then Err (duplicate e.id) else Ok (with_event e events)
-update_of events (retracting id) = if has_id id events then Ok (without_event id events) else Err (unknown id)
+unfoldable pub update_of : List PlainEvent → PlainUpdate → Result (List PlainEvent) Cut
+update_of events (asserting e) = if has_id e.id events then Err (Duplicate e.id) else Ok (with_event e events)
+update_of events (retracting id) = if has_id id events then Ok (without_event id events) else Err (Unknown id)
 
--- the first refusal among several updates, with its place
-abbrev pub PlacedRefusal : Type 0
-PlacedRefusal = ℕ × UpdateRefusal
+-- what one of several updates is refused for, with its place
+abbrev pub PlacedCut : Type 0
+PlacedCut = ℕ × Cut
 
 -- what follows an update: the rest of the updates on the list that it leaves, or its refusal with its place
-abbrev pub after_update : ℕ → Result (List PlainEvent) UpdateRefusal → (List PlainEvent → Result (List PlainEvent) PlacedRefusal) → Result (List PlainEvent) PlacedRefusal
+abbrev pub after_update : ℕ → Result (List PlainEvent) Cut → (List PlainEvent → Result (List PlainEvent) PlacedCut) → Result (List PlainEvent) PlacedCut
 after_update place (Ok events) rest = rest events
-after_update place (Err refusal) rest = Err (place, refusal)
+after_update place (Err cut) rest = Err (place, cut)
 
 -- the list after updates that are applied in order and numbered from `place` on, or the first refusal with its place
-unfoldable pub update_from : ℕ → List PlainEvent → List PlainUpdate → Result (List PlainEvent) PlacedRefusal
+unfoldable pub update_from : ℕ → List PlainEvent → List PlainUpdate → Result (List PlainEvent) PlacedCut
 update_from place events [] = Ok events
 update_from place events (update ∷ updates) = after_update place (update_of events update) (λ after. update_from (place + 1) after updates)
 
 -- the list after all updates in order, or the first refusal with its place from 1
-abbrev pub update_all : List PlainEvent → List PlainUpdate → Result (List PlainEvent) PlacedRefusal
+abbrev pub update_all : List PlainEvent → List PlainUpdate → Result (List PlainEvent) PlacedCut
 update_all events updates = update_from 1 events updates
 
 -- ---- what changed between two lists
@@ -103,14 +98,6 @@ begin_eq (begin_at s) (begin_at t) = int_eq s t
 abbrev pub interval_eq : Interval → Interval → Bool
 interval_eq i j = begin_eq i.from j.from && option_eq int_eq i.until j.until
 
--- what changed: entries that saw a literal's property change, entries that became active, entries that became
--- inactive, properties whose intervals differ
-pub record Counts : Type 0 where
-  pub seen : ℕ
-  pub on : ℕ
-  pub off : ℕ
-  pub props : ℕ
-
 -- the entries of the events that stand in both lists
 unfoldable pub kept_effects : Theory → List PlainEvent → List PlainEvent → List Effect
 kept_effects theory old new = flat_map (effects_of theory) (kept_events old new)
@@ -124,8 +111,9 @@ sees_change old new effect =
 unfoldable pub has_other_intervals : Theory → List PlainEvent → List PlainEvent → Ground → Bool
 has_other_intervals theory old new p = not (pointwise interval_eq (intervals_of theory old p) (intervals_of theory new p))
 
--- the four counts from an old list to a new one
-unfoldable pub change_counts : Theory → List PlainEvent → List PlainEvent → Counts
+-- The four counts from an old list to a new one: entries that saw a literal's property change, entries that became active,
+-- entries that became inactive, properties whose intervals differ.
+unfoldable pub change_counts : Theory → List PlainEvent → List PlainEvent → Seen
 change_counts theory old new =
     let before = is_current theory old in
     let after = is_current theory new in

@@ -196,3 +196,26 @@ moved_home_once = event (codes "m1") 10 move_home ∷ []
 abbrev pub short_number : ℤ → List ℕ
 short_number (pos n) = if nat_lt n 10 then (48 + n) ∷ [] else (48 + n / 10) ∷ (48 + n % 10) ∷ []
 short_number (negsuc n) = 45 ∷ (49 + n) ∷ []
+
+-- a bare name as a term, and as a pattern
+abbrev pub bare : List ℕ → Ground
+bare name = term name []
+
+abbrev pub bare_pattern : List ℕ → Pattern
+bare_pattern name = pattern name []
+
+-- a lamp that a push lights by one rule, and a plug by two
+unfoldable pub theory_of_ties : Theory
+theory_of_ties = record {
+  rules = rule 1 Initiates (bare_pattern (codes "push")) (bare_pattern (codes "lit")) []
+      ∷ rule 2 Initiates (bare_pattern (codes "plug")) (bare_pattern (codes "lit")) []
+      ∷ rule 3 Initiates (bare_pattern (codes "plug")) (bare_pattern (codes "lit")) []
+      ∷ [];
+  exclusives = [];
+  strongs = [];
+  initials = [];
+}
+
+-- a push and a plug at 10
+unfoldable pub plugged_with_a_push : List PlainEvent
+plugged_with_a_push = event (codes "a") 10 (bare (codes "plug")) ∷ event (codes "b") 10 (bare (codes "push")) ∷ []

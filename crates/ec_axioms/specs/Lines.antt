@@ -1,6 +1,7 @@
 -- How an input is cut into lines, and a line into words.
 use Rattle.std.specs.Prelude.{ℕ, Bool, true, false, ◌||◌, ◌==◌, if◌then◌else◌, nat_lt, List, [], ◌∷◌, ◌++◌, map, filter, length}
 use Rattle.ec_terms.specs.Pieces.{pieces_between}
+use Rattle.ec_axioms.specs.declared.limits.TheConstants.{LONGEST_LINE}
 
 -- the byte that ends a line, and the one that may stand before it
 abbrev pub line_feed : ℕ
@@ -50,7 +51,7 @@ lines_of bytes = whole_lines bytes ++ last_line (cut_of bytes).rest
 
 -- the most bytes that a line has without its line end
 abbrev pub longest_line : ℕ
-longest_line = 4096
+longest_line = LONGEST_LINE
 
 -- a line has more bytes than that
 unfoldable pub is_long : List ℕ → Bool

@@ -8,19 +8,20 @@ use Rattle.ec_terms.specs.declared.theory.Theory.{Theory}
 use Rattle.ec_terms.specs.Term.{term_eq, term_cmp}
 use Rattle.ec_terms.specs.Matching.{filled}
 use Rattle.ec_terms.specs.Domain.{GroundLiteral, GroundEntry, entries_of, are_exclusive, is_initial}
+use Rattle.ec_axioms.specs.declared.limits.TheConstants.{MOST_EVENTS, MOST_MENTIONS, MOST_LINKS}
 use Rattle.ec_axioms.specs.Calculus.{PlainEvent}
 
 -- the most events that are present at once
 abbrev pub most_events : ℕ
-most_events = 131072
+most_events = MOST_EVENTS
 
 -- the most mentions
 abbrev pub most_mentions : ℕ
-most_mentions = 1048576
+most_mentions = MOST_MENTIONS
 
 -- the most links
 abbrev pub most_links : ℕ
-most_links = 16777216
+most_links = MOST_LINKS
 
 -- the head and the literals of an entry
 abbrev pub entry_mentions : GroundEntry → List Ground

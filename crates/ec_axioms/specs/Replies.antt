@@ -3,7 +3,9 @@ use Rattle.std.specs.Prelude.{◌≡◌, ◌⊎◌, ℕ, Bool, true, false, not,
 use Rattle.std.specs.List.{list_any}
 use Rattle.ec_terms.specs.declared.theory.Theory.{Theory}
 use Rattle.ec_axioms.specs.Calculus.{PlainEvent, holds_at}
-use Rattle.ec_axioms.specs.Changes.{PlainUpdate, asserting, retracting, UpdateRefusal, duplicate, unknown, full_events, full_mentions, full_links, update_of}
+use Rattle.ec_axioms.specs.declared.event.Cut.{Cut}
+use Rattle.ec_axioms.specs.declared.event.Cut.TheVariants.{Duplicate, Unknown, FullEvents, FullMentions, FullLinks}
+use Rattle.ec_axioms.specs.Changes.{PlainUpdate, asserting, retracting, update_of}
 use Rattle.ec_axioms.specs.Lines.{is_long}
 use Rattle.ec_axioms.specs.Commands.{PlainCommand, silent, bad, assert_event, retract_event, ask_holds, quit, PlainParsed, parsed_of}
 use Rattle.ec_axioms.specs.Answers.{PlainAnswer, answer_ok, answer_yes, answer_no, answer_bye, refused_long_line, refused_syntax, refused_memory, refused_unbuilt, refused_update, reply_text}
@@ -28,9 +30,9 @@ abbrev pub answering : Option ℕ → PlainAnswer → State → Reply
 answering session answer state = record { text = reply_text session answer; after = state }
 
 -- the reply to an update: `ok` and the list that it leaves, or its refusal and the same state
-abbrev pub update_reply : Option ℕ → State → Result (List PlainEvent) UpdateRefusal → Reply
+abbrev pub update_reply : Option ℕ → State → Result (List PlainEvent) Cut → Reply
 update_reply session state (Ok events) = answering session answer_ok (record { events = events })
-update_reply session state (Err refusal) = answering session (refused_update refusal) state
+update_reply session state (Err cut) = answering session (refused_update cut) state
 
 -- yes or no
 abbrev pub yes_or_no : Bool → PlainAnswer
@@ -71,17 +73,17 @@ reply_of theory spelt state line =
 -- ---- want of memory
 
 -- a refusal in whose place want of memory never stands
-abbrev pub is_always_told : UpdateRefusal → Bool
-is_always_told (duplicate id) = true
-is_always_told (unknown id) = true
-is_always_told full_events = true
-is_always_told full_mentions = false
-is_always_told full_links = false
+abbrev pub is_always_told : Cut → Bool
+is_always_told (Duplicate id) = true
+is_always_told (Unknown id) = true
+is_always_told FullEvents = true
+is_always_told FullMentions = false
+is_always_told FullLinks = false
 
 -- memory may be wanting for an update that is accepted, or refused for a cause that takes memory to find
-abbrev pub update_may_want_memory : Result (List PlainEvent) UpdateRefusal → Bool
+abbrev pub update_may_want_memory : Result (List PlainEvent) Cut → Bool
 update_may_want_memory (Ok events) = true
-update_may_want_memory (Err refusal) = not (is_always_told refusal)
+update_may_want_memory (Err cut) = not (is_always_told cut)
 
 -- memory may be wanting for a command
 unfoldable pub command_may_want_memory : State → PlainCommand → Bool

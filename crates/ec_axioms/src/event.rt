@@ -1,4 +1,4 @@
-//! Events, the updates of a list of events, and what an update changed.
+//! Events, the updates of a list of events, what an update is refused for, and what it changed.
 
 use ec_terms::{Ground, Name, Sequence};
 
@@ -19,6 +19,21 @@ pub type EventList<T> = Sequence<Event<T>>;
 pub enum Update<T> {
     Assert(Event<T>),
     Retract(Name),
+}
+
+/// What an update is refused for.
+#[derive(Drop)]
+pub enum Cut {
+    /// An event of this identity is present already.
+    Duplicate(Name),
+    /// No event of this identity is present.
+    Unknown(Name),
+    /// There are `MOST_EVENTS` events, as many as there may be.
+    FullEvents,
+    /// There would be more than `MOST_MENTIONS` mentions of properties.
+    FullMentions,
+    /// There would be more than `MOST_LINKS` links between exclusive properties.
+    FullLinks,
 }
 
 /// What an update changed, in the entries of the events that stayed and in the properties.

@@ -8,8 +8,8 @@ pub fn currency_is_the_solution_law()
     ensures { CurrencyIsTheSolution }
 {}
 
-/// What is current at a time follows from the events strictly before it, and what takes effect there from
-/// the events up to and with it.
+/// What is current at a time follows from the events strictly before it, and so does whether an entry of an
+/// event there or before is active. What takes effect at the time follows from the events up to and with it.
 pub fn past_is_closed_law()
     ensures { PastIsClosed }
 {}

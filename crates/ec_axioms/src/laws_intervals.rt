@@ -1,6 +1,6 @@
 //! Laws of intervals, of holding and of marks, each the contract of a function. They speak of each theory and of each
 //! history, which is a list of events in order with distinct identities.
-ghost use Rattle.ec_axioms.specs.Laws.{CurrencyIsOfTheLastMark, ExclusivesShareOnlyABeginning, HoldingIsTheReasonYes, IntervalsAreDisjoint, SpansAreTheIntervals, ThroughIsEachInstant};
+ghost use Rattle.ec_axioms.specs.Laws.{AtMostOneIntervalCovers, CurrencyIsOfTheLastMark, ExclusivesShareOnlyABeginning, HoldingIsTheReasonYes, IntervalsAreDisjoint, SpansAreTheIntervals, ThroughIsEachInstant};
 
 /// A property is current at a time exactly where the last of its marks before that time initiates it, or it has no mark
 /// before that time and is initial. So one search in the row of a property's marks tells its currency.
@@ -17,6 +17,12 @@ pub fn spans_are_the_intervals_law()
 /// Intervals of one property are disjoint: an interval ends, or is broken, not after the next start of the property.
 pub fn intervals_are_disjoint_law()
     ensures { IntervalsAreDisjoint }
+{}
+
+/// A time is covered by at most one interval of a property: two that cover it are the same interval. So the interval in
+/// which a property holds at a time is one, and a search finds it by its begin.
+pub fn at_most_one_interval_covers_law()
+    ensures { AtMostOneIntervalCovers }
 {}
 
 /// Two exclusive properties hold at one time only through intervals with one beginning. A start of either breaks what the

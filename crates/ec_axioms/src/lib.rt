@@ -7,6 +7,8 @@ mod event;
 mod history;
 mod laws_currency;
 mod laws_intervals;
+mod laws_not_initial;
+mod limits;
 mod plain;
 #[cfg(test)]
 mod plain_tests;
@@ -17,14 +19,16 @@ pub mod worked_replies;
 pub mod worked_rows;
 
 pub use current::Current;
-pub use event::{Event, EventList, Seen, Update};
+pub use event::{Cut, Event, EventList, Seen, Update};
 pub use laws_currency::{
     currency_is_the_solution_law, holds_where_current_law, past_is_closed_law,
 };
 pub use laws_intervals::{
-    currency_is_of_the_last_mark_law, exclusives_share_only_a_beginning_law,
-    holding_is_the_reason_yes_law, intervals_are_disjoint_law, spans_are_the_intervals_law,
-    through_is_each_instant_law,
+    at_most_one_interval_covers_law, currency_is_of_the_last_mark_law,
+    exclusives_share_only_a_beginning_law, holding_is_the_reason_yes_law,
+    intervals_are_disjoint_law, spans_are_the_intervals_law, through_is_each_instant_law,
 };
+pub use laws_not_initial::not_initial_law;
+pub use limits::{LONGEST_LINE, MOST_DRAFTED, MOST_EVENTS, MOST_LINKS, MOST_MENTIONS};
 pub use plain::holds_plain;
 pub use steps::Steps;

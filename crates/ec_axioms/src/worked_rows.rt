@@ -3,10 +3,10 @@
 ghost use Rattle.std.specs.Prelude.{◌≡◌, true, false, [], ◌∷◌, pos, negsuc, codes};
 ghost use Rattle.ec_axioms.specs.Timeline.{before_all, begin_at, reason_yes, reason_never, reason_ended, reason_broken};
 ghost use Rattle.ec_axioms.specs.Calculus.{intervals_of, broken_of, holds_at, holds_through, reason_of, first_cause, is_initiating, is_terminating, is_breaking, is_current, clashes_of};
-ghost use Rattle.ec_axioms.specs.Changes.{change_counts, work_between};
+ghost use Rattle.ec_axioms.specs.Changes.{change_counts, without_event, work_between};
 ghost use Rattle.ec_axioms.specs.Links.{link_count, live_properties};
 ghost use Rattle.ec_axioms.specs.Marks.{marks_of};
-ghost use Rattle.ec_axioms.specs.Examples.{theory_a, theory_b, theory_c, theory_powered, home_from_the_start, strong_home_from_the_start, plugged_and_pushed, unplugged_between, three_pushes, four_pushes, pushed_before_plugged, plugged_at_the_unplug, two_moves, two_moves_and_a_leave, rung_between, moved_home_twice, moved_to_two_places, three_linked_moves, moved_home_once, lit_a, powered_a, bob_at_home, bob_at_work, bob_answered, unplug_a, push_a, event, interval, unended};
+ghost use Rattle.ec_axioms.specs.Examples.{theory_a, theory_b, theory_c, theory_powered, home_from_the_start, strong_home_from_the_start, plugged_and_pushed, unplugged_between, three_pushes, four_pushes, pushed_before_plugged, plugged_at_the_unplug, two_moves, two_moves_and_a_leave, rung_between, moved_home_twice, moved_to_two_places, three_linked_moves, moved_home_once, theory_of_ties, plugged_with_a_push, bare, lit_a, powered_a, bob_at_home, bob_at_work, bob_answered, unplug_a, push_a, event, interval, unended};
 
 /// A lamp is plugged at 5 and pushed at 10: it is lit after 10, and not yet at 10, since an interval begins
 /// behind its start. An unplug at 7 that arrives late leaves it dark: the first rule's entry at 10 sees that
@@ -96,16 +96,26 @@ pub fn weak_and_strong_initiation()
     ensures yes_at_20 { reason_of theory_b moved_home_twice bob_at_home (pos 20) ≡ reason_yes (begin_at (pos 14)) (Some (pos 20)) }
     ensures ended_at_21 { reason_of theory_b moved_home_twice bob_at_home (pos 21) ≡ reason_ended (begin_at (pos 14)) (pos 20) }
     ensures never_at_10 { reason_of theory_b moved_home_twice bob_at_home (pos 10) ≡ reason_never }
+    ensures cause_of_the_break { first_cause theory_b moved_home_twice (is_breaking theory_b bob_at_home) (pos 14) ≡ Some (record { id = codes "m2"; rule = 6 }) }
 {}
 
-/// Two moves at one instant clash: both places start there and both hold. Three moves to two places make three links.
+/// Of the entries that have one effect at one instant, the first cause is of the event whose identity comes first, whatever
+/// the rules, and of that event's entries the one whose rule comes first.
+pub fn first_cause_of_three()
+    ensures three { marks_of theory_of_ties plugged_with_a_push (bare (codes "lit")) ≡ (record { instant = pos 10; inits = 3; terms = 0; clashes = 0 }) ∷ [] }
+    ensures first { first_cause theory_of_ties plugged_with_a_push (is_initiating (bare (codes "lit"))) (pos 10) ≡ Some (record { id = codes "a"; rule = 2 }) }
+{}
+
+/// Two moves at one instant clash: both places start there and both hold. Three moves to two places make three links; when the
+/// only move to one of the places is taken out, that place is live no more and no link is left.
 pub fn clash_and_links()
     ensures at_home { intervals_of theory_a moved_to_two_places bob_at_home ≡ unended 10 ∷ [] }
     ensures at_work { intervals_of theory_a moved_to_two_places bob_at_work ≡ unended 10 ∷ [] }
     ensures clash { clashes_of theory_a moved_to_two_places ≡ pos 10 ∷ [] }
     ensures in_term_order { live_properties theory_a moved_to_two_places ≡ bob_at_home ∷ bob_at_work ∷ [] }
     ensures links { link_count theory_a three_linked_moves ≡ 3 }
-    ensures links_of_one { link_count theory_a moved_home_once ≡ 0 }
+    ensures live_after_the_retract { live_properties theory_a (without_event (codes "m2") three_linked_moves) ≡ bob_at_home ∷ [] }
+    ensures links_after_the_retract { link_count theory_a (without_event (codes "m2") three_linked_moves) ≡ 0 }
 {}
 
 /// What is initial is current from before all events up to its first break; it holds there only if that break
