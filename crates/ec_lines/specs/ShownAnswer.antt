@@ -1,23 +1,7 @@
 -- What the code's answers are among the plain ones.
-use Rattle.ec_axioms.specs.declared.event.Seen.{Seen}
-use Rattle.ec_axioms.specs.Changes.{UpdateRefusal, duplicate, unknown, full_events, full_mentions, full_links, Counts}
 use Rattle.ec_axioms.specs.Answers.{PlainAnswer, answer_ok, answer_yes, answer_no, answer_bye, answer_drafted, answer_last, refused_long_line, refused_syntax, refused_in_draft, refused_no_draft, refused_full_draft, refused_order, refused_memory, refused_unbuilt, refused_update, refused_commit}
-use Rattle.ec_lines.specs.declared.answer.Cut.{Cut}
-use Rattle.ec_lines.specs.declared.answer.Cut.TheVariants.{Duplicate, Unknown, FullEvents, FullMentions, FullLinks}
 use Rattle.ec_lines.specs.declared.answer.Answer.{Answer}
 use Rattle.ec_lines.specs.declared.answer.Answer.TheVariants.{Ok, Yes, No, Bye, Drafted, Last, LongLine, Syntax, InDraft, NoDraft, FullDraft, Order, Memory, Unbuilt, Update, Commit}
-
--- the four counts of a change
-abbrev pub plain_counts : Seen → Counts
-plain_counts seen = record { seen = seen.seen; on = seen.on; off = seen.off; props = seen.props }
-
--- why an update was refused
-abbrev pub plain_cut : Cut → UpdateRefusal
-plain_cut (Duplicate id) = duplicate id
-plain_cut (Unknown id) = unknown id
-plain_cut FullEvents = full_events
-plain_cut FullMentions = full_mentions
-plain_cut FullLinks = full_links
 
 -- the plain answer that an answer is
 abbrev pub plain_answer : Answer → PlainAnswer
@@ -26,7 +10,7 @@ plain_answer Yes = answer_yes
 plain_answer No = answer_no
 plain_answer Bye = answer_bye
 plain_answer (Drafted k) = answer_drafted k
-plain_answer (Last seen) = answer_last (plain_counts seen)
+plain_answer (Last seen) = answer_last seen
 plain_answer LongLine = refused_long_line
 plain_answer Syntax = refused_syntax
 plain_answer InDraft = refused_in_draft
@@ -35,5 +19,5 @@ plain_answer FullDraft = refused_full_draft
 plain_answer Order = refused_order
 plain_answer Memory = refused_memory
 plain_answer Unbuilt = refused_unbuilt
-plain_answer (Update cut) = refused_update (plain_cut cut)
-plain_answer (Commit k cut) = refused_commit k (plain_cut cut)
+plain_answer (Update cut) = refused_update cut
+plain_answer (Commit k cut) = refused_commit k cut

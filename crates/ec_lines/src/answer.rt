@@ -5,24 +5,8 @@ ghost use Rattle.ec_outside.specs.Streams.{Appended, AppendedPart};
 ghost use Rattle.ec_lines.specs.ShownAnswer.{plain_answer};
 
 use crate::reply_text::ReplyText;
-use ec_axioms::Seen;
+use ec_axioms::{Cut, Seen};
 use ec_outside::{Failed, Sink, write_all};
-use ec_terms::Name;
-
-/// Why an update was refused.
-#[derive(Drop)]
-pub enum Cut {
-    /// An event of this identity is present already.
-    Duplicate(Name),
-    /// No event of this identity is present.
-    Unknown(Name),
-    /// There are as many events as there may be.
-    FullEvents,
-    /// There would be more mentions of properties than there may be.
-    FullMentions,
-    /// There would be more links between exclusive properties than there may be.
-    FullLinks,
-}
 
 /// An answer to a line that is one of a few fixed forms.
 #[derive(Drop)]

@@ -4,7 +4,8 @@ ghost use Rattle.ec_axioms.specs.Lines.{line_feed, carriage_return, without_retu
 ghost use Rattle.ec_lines.specs.FeedState.{IsPart, IsReady, IsEnded, Advances, Finishes};
 ghost use Rattle.ec_lines.specs.ShownLine.{ShowsLine};
 
-use crate::line::{LONGEST_LINE, Line};
+use crate::line::Line;
+use ec_axioms::LONGEST_LINE;
 use ec_terms::NoMemory;
 use memchr::memchr;
 use std::alloc::Global;

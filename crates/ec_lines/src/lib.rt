@@ -13,9 +13,10 @@ mod reply_text;
 mod tests;
 mod words;
 
-pub use answer::{Answer, Cut, write_answer, write_front};
+pub use answer::{Answer, write_answer, write_front};
 pub use command::{Command, Parsed};
+pub use ec_axioms::{Cut, LONGEST_LINE};
 pub use feed::Feed;
-pub use line::{LONGEST_LINE, Line};
+pub use line::Line;
 pub use reading::read_command;
 pub use reply_text::ReplyText;

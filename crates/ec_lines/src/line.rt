@@ -1,6 +1,3 @@
-/// The most bytes that a line has without its line end.
-pub const LONGEST_LINE: usize = 4_096;
-
 /// A line without its line end: its bytes, or that it has too many of them.
 #[derive(Clone, Copy)]
 pub enum Line<'a> {

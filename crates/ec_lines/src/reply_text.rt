@@ -1,11 +1,11 @@
 //! The text of a reply while it is put together.
 ghost use Rattle.std.specs.Prelude.{◌≡◌, ◌+◌, ◌≤◌, [], ◌++◌, length, decimal};
-ghost use Rattle.ec_axioms.specs.Answers.{refused_commit, answer_text, counts_text, refusal_text, front_text};
-ghost use Rattle.ec_lines.specs.ShownAnswer.{plain_answer, plain_cut, plain_counts};
+ghost use Rattle.ec_axioms.specs.Answers.{refused_commit, answer_text, cut_text, seen_text, front_text};
+ghost use Rattle.ec_lines.specs.ShownAnswer.{plain_answer};
 
-use crate::answer::{Answer, Cut};
+use crate::answer::Answer;
 use arrayvec::ArrayVec;
-use ec_axioms::Seen;
+use ec_axioms::{Cut, MOST_DRAFTED, MOST_EVENTS, MOST_LINKS, MOST_MENTIONS, Seen};
 use itoa::Buffer;
 use std::marker::Model;
 
@@ -81,11 +81,11 @@ impl ReplyText {
         }
     }
 
-    /// Adds why an update was refused.
-    #[tactic(auto, unfolding(ec_axioms::specs::Answers::refusal_text), using(crate::proofs::Texts::texts))]
+    /// Adds what an update was refused for.
+    #[tactic(auto, unfolding(ec_axioms::specs::Answers::cut_text), using(crate::proofs::Texts::texts))]
     pub fn push_cut(&mut self, cut: &Cut)
         requires { length self.old + 74 ≤ 160 }
-        ensures text { self.new ≡ self.old ++ refusal_text (plain_cut cut.now) }
+        ensures text { self.new ≡ self.old ++ cut_text cut.now }
         ensures len { length self.new ≤ length self.old + 74 }
     {
         match cut {
@@ -97,17 +97,26 @@ impl ReplyText {
                 self.push(b"unknown ");
                 self.push(id.as_bytes());
             }
-            Cut::FullEvents => self.push(b"full-events 131072"),
-            Cut::FullMentions => self.push(b"full-mentions 1048576"),
-            Cut::FullLinks => self.push(b"full-links 16777216"),
+            Cut::FullEvents => {
+                self.push(b"full-events ");
+                self.push_number(MOST_EVENTS);
+            }
+            Cut::FullMentions => {
+                self.push(b"full-mentions ");
+                self.push_number(MOST_MENTIONS);
+            }
+            Cut::FullLinks => {
+                self.push(b"full-links ");
+                self.push_number(MOST_LINKS);
+            }
         }
     }
 
     /// Adds what an update changed.
-    #[tactic(auto, unfolding(ec_axioms::specs::Answers::counts_text), using(crate::proofs::Texts::texts))]
-    pub fn push_counts(&mut self, counts: &Seen)
+    #[tactic(auto, unfolding(ec_axioms::specs::Answers::seen_text), using(crate::proofs::Texts::texts))]
+    pub fn push_seen(&mut self, counts: &Seen)
         requires { length self.old + 101 ≤ 160 }
-        ensures text { self.new ≡ self.old ++ counts_text (plain_counts counts.now) }
+        ensures text { self.new ≡ self.old ++ seen_text counts.now }
         ensures len { length self.new ≤ length self.old + 101 }
     {
         self.push(b"seen ");
@@ -124,7 +133,7 @@ impl ReplyText {
     #[tactic(auto, unfolding(ec_axioms::specs::Answers::answer_text), using(crate::proofs::Texts::texts))]
     pub fn push_commit(&mut self, place: u32, cut: &Cut)
         requires { length self.old + 110 ≤ 160 }
-        ensures text { self.new ≡ self.old ++ answer_text (refused_commit place (plain_cut cut.now)) }
+        ensures text { self.new ≡ self.old ++ answer_text (refused_commit place cut.now) }
         ensures len { length self.new ≤ length self.old + 110 }
     {
         self.push(b"refused commit ");
@@ -151,13 +160,16 @@ impl ReplyText {
             }
             Answer::Last(counts) => {
                 self.push(b"last ");
-                self.push_counts(counts);
+                self.push_seen(counts);
             }
             Answer::LongLine => self.push(b"refused long-line"),
             Answer::Syntax => self.push(b"refused syntax"),
             Answer::InDraft => self.push(b"refused in-draft"),
             Answer::NoDraft => self.push(b"refused no-draft"),
-            Answer::FullDraft => self.push(b"refused full-draft 1024"),
+            Answer::FullDraft => {
+                self.push(b"refused full-draft ");
+                self.push_number(MOST_DRAFTED);
+            }
             Answer::Order => self.push(b"refused order"),
             Answer::Memory => self.push(b"refused memory"),
             Answer::Unbuilt => self.push(b"refused unbuilt"),

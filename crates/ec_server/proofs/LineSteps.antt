@@ -4,9 +4,11 @@ use Rattle.std.specs.Prelude.{filter, bytes_eq}
 use Rattle.std.specs.List.{list_any}
 use Rattle.ec_terms.specs.declared.ground.Ground.{Ground}
 use Rattle.ec_terms.specs.declared.theory.Theory.{Theory}
+use Rattle.ec_axioms.specs.declared.event.Cut.{Cut}
+use Rattle.ec_axioms.specs.declared.event.Cut.TheVariants.{Duplicate, Unknown}
 use Rattle.ec_axioms.specs.declared.event.Event.{Event}
 use Rattle.ec_axioms.specs.Calculus.{PlainEvent, holds_at}
-use Rattle.ec_axioms.specs.Changes.{is_history, asserting, retracting, UpdateRefusal, duplicate, unknown, has_id, with_event, without_event, update_of}
+use Rattle.ec_axioms.specs.Changes.{is_history, asserting, retracting, has_id, with_event, without_event, update_of}
 use Rattle.ec_axioms.specs.Events.{event_of}
 use Rattle.ec_axioms.specs.Lines.{is_long}
 use Rattle.ec_axioms.specs.Commands.{PlainCommand, silent, bad, assert_event, retract_event, begin_draft, commit_draft, abort_draft, ask_holds, ask_through, ask_intervals, ask_broken, ask_at, ask_clashes, ask_events, ask_why, ask_last, quit, PlainParsed, parsed_of}
@@ -57,17 +59,17 @@ is_history-none {T} rank events none = ap (λ (l : List (Event T)). is_history (
 -- ---- updates
 
 -- what an update makes where its test has this answer
-abbrev asserted : PlainEvent → List PlainEvent → Bool → Result (List PlainEvent) UpdateRefusal
-asserted e events present = cond present (Err (duplicate e.id)) (Ok (with_event e events))
+abbrev asserted : PlainEvent → List PlainEvent → Bool → Result (List PlainEvent) Cut
+asserted e events present = cond present (Err (Duplicate e.id)) (Ok (with_event e events))
 
-abbrev retracted : List ℕ → List PlainEvent → Bool → Result (List PlainEvent) UpdateRefusal
-retracted id events present = cond present (Ok (without_event id events)) (Err (unknown id))
+abbrev retracted : List ℕ → List PlainEvent → Bool → Result (List PlainEvent) Cut
+retracted id events present = cond present (Ok (without_event id events)) (Err (Unknown id))
 
 pub IsUpdated-duplicate : (e : PlainEvent) (events after : List PlainEvent) → has_id e.id events ≡ true → after ≡ events
-    → IsUpdated (update_of events (asserting e)) events (refused_update (duplicate e.id)) after
+    → IsUpdated (update_of events (asserting e)) events (refused_update (Duplicate e.id)) after
 unfolding update_of
 IsUpdated-duplicate e events after present same =
-    subst (λ (b : Bool). IsUpdated (asserted e events b) events (refused_update (duplicate e.id)) after) (sym present) (refl, same)
+    subst (λ (b : Bool). IsUpdated (asserted e events b) events (refused_update (Duplicate e.id)) after) (sym present) (refl, same)
 
 pub IsUpdated-asserted : (e : PlainEvent) (events after : List PlainEvent) → has_id e.id events ≡ false → after ≡ with_event e events
     → IsUpdated (update_of events (asserting e)) events answer_ok after
@@ -82,10 +84,10 @@ IsUpdated-wanting e events after absent same =
     subst (λ (b : Bool). IsUpdated (asserted e events b) events refused_memory after) (sym absent) (inr (refl, same))
 
 pub IsUpdated-unknown : (id : List ℕ) (events after : List PlainEvent) → has_id id events ≡ false → after ≡ events
-    → IsUpdated (update_of events (retracting id)) events (refused_update (unknown id)) after
+    → IsUpdated (update_of events (retracting id)) events (refused_update (Unknown id)) after
 unfolding update_of
 IsUpdated-unknown id events after absent same =
-    subst (λ (b : Bool). IsUpdated (retracted id events b) events (refused_update (unknown id)) after) (sym absent) (refl, same)
+    subst (λ (b : Bool). IsUpdated (retracted id events b) events (refused_update (Unknown id)) after) (sym absent) (refl, same)
 
 pub IsUpdated-retracted : (id : List ℕ) (events after : List PlainEvent) → has_id id events ≡ true → after ≡ without_event id events
     → IsUpdated (update_of events (retracting id)) events answer_ok after
@@ -107,12 +109,12 @@ same_reply session {answer} {told} {after} {left} same_answer same_list =
     ∙ ap (λ (l : List PlainEvent). replying (reply_text session answer) (record { events = l })) (sym same_list)
 
 -- what an update's answer says of the reply
-outcome_reply : (outcome : Result (List PlainEvent) UpdateRefusal) (before : List PlainEvent) (answer : PlainAnswer) (after : List PlainEvent) → IsUpdated outcome before answer after
+outcome_reply : (outcome : Result (List PlainEvent) Cut) (before : List PlainEvent) (answer : PlainAnswer) (after : List PlainEvent) → IsUpdated outcome before answer after
     → ((session : Option ℕ) → update_reply session (record { events = before }) outcome ≡ replying (reply_text session answer) (record { events = after }))
     ⊎ (IsTrue (update_may_want_memory outcome) × (answer ≡ refused_memory) × (after ≡ before))
 outcome_reply (Ok events) before answer after (inl done) = inl (λ session. same_reply session done.0 done.1)
 outcome_reply (Ok events) before answer after (inr wanting) = inr (refl, wanting.0, wanting.1)
-outcome_reply (Err refusal) before answer after told = inl (λ session. same_reply session told.0 told.1)
+outcome_reply (Err cut) before answer after told = inl (λ session. same_reply session told.0 told.1)
 
 -- the answer to an update answers its command
 pub CommandStep-assert : (theory : Theory) (id : List ℕ) (t : ℤ) (term : Ground) (before after : State) (answer : PlainAnswer)
@@ -122,7 +124,7 @@ unfolding command_reply command_may_want_memory
 CommandStep-assert theory id t term before after answer updated =
     by_reply (outcome_reply (update_of before.events (asserting (record { id = id; rank = t; term = term }))) before.events answer after.events updated)
   where
-    outcome : Result (List PlainEvent) UpdateRefusal
+    outcome : Result (List PlainEvent) Cut
     outcome = update_of before.events (asserting (record { id = id; rank = t; term = term }))
 
     by_reply : ((session : Option ℕ) → update_reply session before outcome ≡ replying (reply_text session answer) after)
@@ -136,7 +138,7 @@ pub CommandStep-retract : (theory : Theory) (id : List ℕ) (before after : Stat
 unfolding command_reply command_may_want_memory
 CommandStep-retract theory id before after answer updated = by_reply (outcome_reply (update_of before.events (retracting id)) before.events answer after.events updated)
   where
-    outcome : Result (List PlainEvent) UpdateRefusal
+    outcome : Result (List PlainEvent) Cut
     outcome = update_of before.events (retracting id)
 
     by_reply : ((session : Option ℕ) → update_reply session before outcome ≡ replying (reply_text session answer) after)

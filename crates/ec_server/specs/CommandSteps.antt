@@ -2,7 +2,7 @@
 use Rattle.std.specs.Prelude.{◌≡◌, ◌⊎◌, ℕ, Bool, true, false, List, [], Option, Some, None, Result, Ok, Err, IsTrue}
 use Rattle.ec_terms.specs.declared.theory.Theory.{Theory}
 use Rattle.ec_axioms.specs.Calculus.{PlainEvent}
-use Rattle.ec_axioms.specs.Changes.{UpdateRefusal}
+use Rattle.ec_axioms.specs.declared.event.Cut.{Cut}
 use Rattle.ec_axioms.specs.Commands.{PlainCommand}
 use Rattle.ec_axioms.specs.Answers.{PlainAnswer, answer_ok, refused_memory, refused_update, reply_text}
 use Rattle.ec_axioms.specs.Replies.{State, command_reply, command_may_want_memory}
@@ -12,9 +12,9 @@ use Rattle.ec_server.specs.declared.handled.Handled.TheVariants.{Go, Bye, WriteF
 
 -- the answer to an update and the list after it: `ok` and the list that the update leaves, or, where memory was wanting, that
 -- answer and the list as it was; the refusal of the update, and the list as it was
-abbrev pub IsUpdated : Result (List PlainEvent) UpdateRefusal → List PlainEvent → PlainAnswer → List PlainEvent → Type 0
+abbrev pub IsUpdated : Result (List PlainEvent) Cut → List PlainEvent → PlainAnswer → List PlainEvent → Type 0
 IsUpdated (Ok events) before answer after = ((answer ≡ answer_ok) × (after ≡ events)) ⊎ ((answer ≡ refused_memory) × (after ≡ before))
-IsUpdated (Err refusal) before answer after = (answer ≡ refused_update refusal) × (after ≡ before)
+IsUpdated (Err cut) before answer after = (answer ≡ refused_update cut) × (after ≡ before)
 
 -- the bytes that answer a line of a session, none where there is no answer
 abbrev pub answer_line : Option ℕ → Option PlainAnswer → List ℕ

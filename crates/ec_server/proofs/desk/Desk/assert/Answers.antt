@@ -2,7 +2,8 @@
 use Rattle.std.proofs.Common.{true, false, map, List, IsTrue, refl, sym, ap, subst}
 use Rattle.ec_terms.specs.Term.{ground_of}
 use Rattle.ec_axioms.specs.Calculus.{PlainEvent}
-use Rattle.ec_axioms.specs.Changes.{asserting, duplicate, is_history, update_of}
+use Rattle.ec_axioms.specs.declared.event.Cut.TheVariants.{Duplicate}
+use Rattle.ec_axioms.specs.Changes.{asserting, is_history, update_of}
 use Rattle.ec_axioms.specs.Answers.{refused_update}
 use Rattle.ec_axioms.specs.Events.{event_of}
 use Rattle.ec_axioms.proofs.Histories.{is_history-with_event}
@@ -20,7 +21,7 @@ returns-then-is_present-clause-updated g c =
     let e : PlainEvent = record { id = c.args.id; rank = rank c.args.at; term = ground_of c.args.event.now } in
     let events = map (event_of rank) c.self.inside.events.items in
     let present = has_id-found rank c.args.id c.self.inside.events.items c.deref.result.now c.is_present.result true c.deref.ensures.value c.is_present.ensures c.if-is_present.true in
-    subst (λ (d : DeskState). IsUpdated (update_of d.state.events (asserting e)) d.state.events (refused_update (duplicate c.args.id)) d.state.events)
+    subst (λ (d : DeskState). IsUpdated (update_of d.state.events (asserting e)) d.state.events (refused_update (Duplicate c.args.id)) d.state.events)
     c.self.view_is (IsUpdated-duplicate e events events present refl)
 
 pub invariant_of-self : goal.invariant_of-self

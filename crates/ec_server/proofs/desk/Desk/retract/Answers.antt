@@ -1,7 +1,8 @@
 -- The identity is refused as unknown, or its event is taken out.
 use Rattle.std.proofs.Common.{◌≡◌, true, false, map, List, IsTrue, refl, sym, ap, ◌∙◌, subst}
 use Rattle.ec_axioms.specs.Calculus.{PlainEvent}
-use Rattle.ec_axioms.specs.Changes.{is_history, retracting, unknown, update_of, without_event}
+use Rattle.ec_axioms.specs.declared.event.Cut.TheVariants.{Unknown}
+use Rattle.ec_axioms.specs.Changes.{is_history, retracting, update_of, without_event}
 use Rattle.ec_axioms.specs.Answers.{answer_ok, refused_update}
 use Rattle.ec_axioms.specs.Events.{event_of}
 use Rattle.ec_axioms.proofs.Histories.{is_history-without_event}
@@ -15,7 +16,7 @@ returns-then-not-is_present-clause-updated g c =
     let rank = g.T.Moment.rank in
     let events = map (event_of rank) c.self.inside.events.items in
     let absent = has_id-found rank c.args.id c.self.inside.events.items c.deref.result.now c.is_present.result false c.deref.ensures.value c.is_present.ensures c.if-not-is_present.true in
-    subst (λ (d : DeskState). IsUpdated (update_of d.state.events (retracting c.args.id)) d.state.events (refused_update (unknown c.args.id)) d.state.events)
+    subst (λ (d : DeskState). IsUpdated (update_of d.state.events (retracting c.args.id)) d.state.events (refused_update (Unknown c.args.id)) d.state.events)
     c.self.view_is (IsUpdated-unknown c.args.id events events absent refl)
 
 pub invariant_of-self : goal.invariant_of-self
