@@ -1,0 +1,206 @@
+ghost use Rattle.std.specs.Prelude.{◌≡◌, ◌+◌, ◌-◌, ◌<◌, ◌≤◌, ◌++◌, ◌∷◌, [], Bool, true, false, Some, OnOk, OnErr, IsTrue, ◌↔◌, length, take, drop, slice_get, slice_set, vec_len};
+ghost use Rattle.std.specs.Fn.{ComputesKey};
+ghost use Rattle.std.specs.List.{insert, remove, splice};
+ghost use Rattle.std.specs.List.Sorted.{IsPartitionedBy, IsPartitionPoint};
+ghost use Rattle.std.specs.Vec.{vec_capacity};
+
+use ec_rows::Copied;
+use ec_terms::NoMemory;
+use std::alloc::Global;
+use std::marker::Model;
+
+/// A list whose calls take no memory once there is room. Contracts see it as the list of its members, and
+/// how many further members it takes without memory, wherever they are put.
+#[derive(Drop)]
+pub struct Blocks<X> {
+    items: Vec<X>,
+}
+
+impl<X> Model for Blocks<X> {
+    ghost use Rattle.std.specs.Prelude.{◌-◌, vec_len};
+    ghost use Rattle.std.specs.Vec.{vec_capacity};
+    ghost use Rattle.ec_rows.specs.Ordered.{Reserved};
+
+    ghost Value = { Reserved X };
+
+    ghost view = { λ blocks. record { items = blocks.items.items; spare = vec_capacity blocks.items - vec_len blocks.items } };
+}
+
+impl<X: Copied + Drop> Blocks<X> {
+    /// The list of no members. It takes no memory.
+    pub fn new(alloc: Global) -> Blocks<X>
+        ensures { result.items ≡ [] }
+    {
+        Blocks {
+            items: Vec::new(alloc),
+        }
+    }
+
+    /// How many members there are.
+    pub fn len(&self) -> usize
+        ensures { result ≡ length self.now.items }
+    {
+        self.items.len()
+    }
+
+    /// Whether there are no members.
+    pub fn is_empty(&self) -> bool
+        ensures { IsTrue result ↔ (self.now.items ≡ []) }
+    {
+        self.len() == 0
+    }
+
+    /// The member at a place, from 0.
+    pub fn get(&self, i: usize) -> &X
+        requires { i < length self.now.items }
+        ensures { slice_get self.now.items i ≡ Some result.now }
+    {
+        &self.items[i]
+    }
+
+    /// The members from a place on that lie together in memory.
+    pub fn run(&self, i: usize) -> &[X]
+        requires { i < length self.now.items }
+        ensures some { 1 ≤ length result.now }
+        ensures run { result.now ≡ take (length result.now) (drop i self.now.items) }
+    {
+        &self.items[i..]
+    }
+
+    /// The place where the members that pass a test end, if no member that passes comes after one that does
+    /// not.
+    pub fn partition_point<F: Fn(&X) -> bool>(&self, pred: F) -> usize
+        requires { F.IsAlwaysCallable pred }
+        ensures bound { result ≤ length self.now.items }
+        ensures partitioned { (p : X → Bool) → ComputesKey F.FnMut p pred → IsPartitionedBy p self.now.items → IsPartitionPoint (λ x. p x ≡ true) (λ x. p x ≡ false) self.now.items result }
+    {
+        self.items.partition_point(pred)
+    }
+
+    /// The same, where the place is likely to be `near`, which is looked at first. It may be any number.
+    pub fn partition_near<F: Fn(&X) -> bool>(&self, near: usize, pred: F) -> usize
+        requires { F.IsAlwaysCallable pred }
+        ensures bound { result ≤ length self.now.items }
+        ensures partitioned { (p : X → Bool) → ComputesKey F.FnMut p pred → IsPartitionedBy p self.now.items → IsPartitionPoint (λ x. p x ≡ true) (λ x. p x ≡ false) self.now.items result }
+    {
+        let _ = near;
+        self.partition_point(pred)
+    }
+
+    /// Puts a member in place of the one at a place.
+    pub fn set(&mut self, i: usize, x: X)
+        requires { i < length self.old.items }
+        ensures items { self.new.items ≡ slice_set self.old.items i x }
+        ensures spare { self.old.spare ≤ self.new.spare }
+    {
+        self.items[i] = x;
+    }
+
+    /// Inserts a member at a place, where there is room for one. It takes no memory.
+    pub fn insert(&mut self, i: usize, x: X)
+        requires within { i ≤ length self.old.items }
+        requires room { 1 ≤ self.old.spare }
+        ensures items { self.new.items ≡ insert self.old.items i x }
+        ensures spare { self.old.spare ≤ self.new.spare + 1 }
+    {
+        match self.items.insert(i, x) {
+            Ok(()) => {}
+            Err(_) => unreachable!(),
+        }
+    }
+
+    /// Takes out the member at a place.
+    pub fn remove(&mut self, i: usize) -> X
+        requires { i < length self.old.items }
+        ensures member { slice_get self.old.items i ≡ Some result }
+        ensures items { self.new.items ≡ remove self.old.items i }
+        ensures spare { self.old.spare ≤ self.new.spare }
+    {
+        self.items.remove(i)
+    }
+
+    /// Puts copies of the members `with` in place of those from one place up to another. It takes no memory,
+    /// and room only for as many members as the list grows by.
+    pub fn splice(&mut self, from: usize, to: usize, with: &[X])
+        requires ordered { from ≤ to }
+        requires within { to ≤ length self.old.items }
+        requires room { length with.now - (to - from) ≤ self.old.spare }
+        ensures items { self.new.items ≡ splice self.old.items from to with.now }
+        ensures spare { self.old.spare ≤ self.new.spare + (length with.now - (to - from)) }
+    {
+        let both = (to - from).min(with.len());
+        self.overwrite(from, from + both, with);
+        self.remove_all(from + both, to);
+        self.insert_all(from + both, &with[both..]);
+    }
+
+    /// Puts copies of the first of the members `with` in place of those from one place up to another.
+    fn overwrite(&mut self, from: usize, to: usize, with: &[X])
+        requires ordered { from ≤ to }
+        requires within { to ≤ length self.old.items }
+        requires enough { to - from ≤ length with.now }
+        ensures items { self.new.items ≡ splice self.old.items from to (take (to - from) with.now) }
+        ensures len { length self.new.items ≡ length self.old.items }
+        ensures spare { self.old.spare ≤ self.new.spare }
+    {
+        for place in from..to {
+            self.set(place, with[place - from].copied());
+        }
+    }
+
+    /// Takes out the members from one place up to another.
+    fn remove_all(&mut self, from: usize, to: usize)
+        requires ordered { from ≤ to }
+        requires within { to ≤ length self.old.items }
+        ensures items { self.new.items ≡ splice self.old.items from to [] }
+        ensures len { length self.new.items + (to - from) ≡ length self.old.items }
+        ensures spare { self.old.spare ≤ self.new.spare }
+    {
+        for _place in from..to {
+            self.remove(from);
+        }
+    }
+
+    /// Inserts copies of members at a place.
+    fn insert_all(&mut self, from: usize, with: &[X])
+        requires within { from ≤ length self.old.items }
+        requires room { length with.now ≤ self.old.spare }
+        ensures items { self.new.items ≡ splice self.old.items from from with.now }
+        ensures spare { self.old.spare ≤ self.new.spare + length with.now }
+    {
+        let behind = self.len() - from;
+        for x in with {
+            self.insert(self.len() - behind, x.copied());
+        }
+    }
+
+    /// Adds a member at the end. It needs no room. `Err`: memory ran out, and all is as it was.
+    pub fn push(&mut self, x: X) -> Result<(), NoMemory>
+        ensures ok { OnOk result (self.new.items ≡ self.old.items ++ x ∷ []) }
+        ensures err { OnErr result (self.new.items ≡ self.old.items) }
+        ensures spare { self.old.spare ≤ self.new.spare + 1 }
+        ensures same_spare { OnErr result (self.old.spare ≤ self.new.spare) }
+    {
+        self.items.push(x)?;
+        Ok(())
+    }
+
+    /// Makes room for `n` further members, wherever they are put. `Err`: memory ran out, and all is as it
+    /// was.
+    pub fn reserve(&mut self, n: usize) -> Result<(), NoMemory>
+        ensures same { self.new.items ≡ self.old.items }
+        ensures ok { OnOk result (n ≤ self.new.spare) }
+        ensures spare { self.old.spare ≤ self.new.spare }
+    {
+        self.items.reserve(n)?;
+        Ok(())
+    }
+
+    /// Takes out all members, and keeps the room.
+    pub fn clear(&mut self)
+        ensures items { self.new.items ≡ [] }
+        ensures spare { self.old.spare ≤ self.new.spare }
+    {
+        self.items.clear();
+    }
+}
