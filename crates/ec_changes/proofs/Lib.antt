@@ -1,0 +1,6 @@
+pub mod Activity
+pub mod Quiet
+pub mod KeptEvents
+pub mod Past
+pub mod Tallies
+pub mod TurnAccounts

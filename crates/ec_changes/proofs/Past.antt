@@ -1,0 +1,179 @@
+-- Before the first event that stands in one list alone, the two lists have the same events, and so all else is the same.
+use Rattle.std.proofs.Common.{◌≡◌, ℤ, ◌≤ℤ◌, ◌<ℤ◌, Bool, true, not, ◌&&◌, ◌||◌, List, [], ◌∷◌, map, ◌++◌, IsTrue, sym, ap, ap₂, subst, ◌∙◌, inl, inr, ⊎_elim, arith}
+use Rattle.std.specs.Prelude.{int_lt, int_le}
+use Rattle.std.proofs.lemmas.Bool.{cases_Bool, false≢true, not_from_false}
+use Rattle.std.proofs.lemmas.Int.{ints}
+use Rattle.ec_terms.specs.declared.ground.Ground.{Ground}
+use Rattle.ec_terms.specs.declared.theory.Theory.{Theory}
+use Rattle.ec_terms.specs.Domain.{GroundEntry}
+use Rattle.ec_axioms.specs.Laws.{events_before, events_up_to}
+use Rattle.ec_axioms.specs.Timeline.{is_start}
+use Rattle.ec_axioms.specs.Calculus.{PlainEvent, instants_of, effects_at, is_initiated, has_break, is_current, timeline_by, timeline_of}
+use Rattle.ec_axioms.specs.Marks.{PlainMark, mark_at, marks_of, is_marked}
+use Rattle.ec_axioms.specs.Changes.{is_history, has_event, kept_events, events_only_in}
+use Rattle.ec_axioms.proofs.Effects.{filter-filter_wider, is_initiated-same, has_break-same}
+use Rattle.ec_axioms.proofs.Rounds.{is_current-past, effects_at-past, is_current-equation}
+use Rattle.ec_axioms.proofs.Ranks.{le_int_le, int_lt-not_after, int_lt-same, int_le-not_before}
+use Rattle.ec_axioms.proofs.Members.{IsMember, IsMember-filter, IsMember-from_filter, IsMember-from_map, IsPairwise, IsPairwise-filter, IsPairwise-map, IsPairwise-weaker, filter_all, filter_comm, list_all-member}
+use Rattle.ec_axioms.proofs.Instants.{IsPairwise-from_ascending, is_ascending-instants_of}
+use Rattle.ec_axioms.proofs.HistoryMarks.{instant-mark_at, AreAllMarked-mark_at}
+use Rattle.ec_changes.specs.QuietLaws.{PastStays, differ_from, marks_before}
+use Rattle.ec_changes.proofs.Activity.{is_active-each}
+use Rattle.ec_changes.proofs.KeptEvents.{kept_events-both, same_from_members}
+use Rattle.ec_changes.proofs.Quiet.{mark_at-same}
+
+-- a value at a member is a member of the values
+pub IsMember-map : {X Y : Type 0} (f : X → Y) (xs : List X) (x : X) → IsMember xs x → IsMember (map f xs) (f x)
+IsMember-map f [] x member = absurd member
+IsMember-map f (y ∷ ys) x (inl same) = inl (ap f same)
+IsMember-map f (y ∷ ys) x (inr later) = inr (IsMember-map f ys x later)
+
+-- a member of either of two lists is one of both joined
+IsMember-append_left : {X : Type 0} (xs ys : List X) (x : X) → IsMember xs x → IsMember (xs ++ ys) x
+IsMember-append_left [] ys x member = absurd member
+IsMember-append_left (z ∷ xs) ys x (inl same) = inl same
+IsMember-append_left (z ∷ xs) ys x (inr later) = inr (IsMember-append_left xs ys x later)
+
+IsMember-append_right : {X : Type 0} (xs ys : List X) (x : X) → IsMember ys x → IsMember (xs ++ ys) x
+IsMember-append_right [] ys x member = member
+IsMember-append_right (z ∷ xs) ys x member = inr (IsMember-append_right xs ys x member)
+
+-- ---- events
+
+-- the events of a list before t stand in the other list too, where those that do not are at t or later
+kept_before : (these those : List PlainEvent) (t : ℤ) → ((e : PlainEvent) → IsMember (events_only_in these those) e → IsTrue (int_le t e.rank))
+    → events_before t (kept_events these those) ≡ events_before t these
+unfolding kept_events events_only_in
+kept_before these those t late =
+    filter_comm (λ (e : PlainEvent). int_lt e.rank t) (has_event those) these
+    ∙ filter_all (has_event those) (events_before t these)
+    (λ e member.
+    let kept = IsMember-from_filter (λ (f : PlainEvent). int_lt f.rank t) these e member in
+    ⊎_elim (λ there. there)
+    (λ absent.
+    let single = IsMember-filter (λ f. not (has_event those f)) these e kept.0 (not_from_false (has_event those e) absent) in
+    absurd (false≢true (sym (int_le-not_before e.rank t kept.1) ∙ late e single)))
+    (cases_Bool (has_event those e)))
+
+-- so both lists have the same events before t
+events_before-same : (old new : List PlainEvent) (t : ℤ) → IsTrue (is_history old) → IsTrue (is_history new) → differ_from t old new
+    → events_before t old ≡ events_before t new
+events_before-same old new t history_old history_new late =
+    sym (kept_before old new t (λ e member. list_all-member (λ (f : PlainEvent). int_le t f.rank) _ e late (IsMember-append_left (events_only_in old new) (events_only_in new old) e member)))
+    ∙ ap (events_before t) (kept_events-both old new history_old history_new)
+    ∙ kept_before new old t (λ e member. list_all-member (λ (f : PlainEvent). int_le t f.rank) _ e late (IsMember-append_right (events_only_in old new) (events_only_in new old) e member))
+
+-- and the same events up to each earlier time
+events_up_to-same : (old new : List PlainEvent) (s t : ℤ) → events_before t old ≡ events_before t new → s <ℤ t → events_up_to s old ≡ events_up_to s new
+events_up_to-same old new s t same earlier =
+    sym (filter-filter_wider (λ e. int_le e.rank s) (λ e. int_lt e.rank t) old (within s earlier))
+    ∙ ap (events_up_to s) same
+    ∙ filter-filter_wider (λ e. int_le e.rank s) (λ e. int_lt e.rank t) new (within s earlier)
+  where
+    within : (s : ℤ) → s <ℤ t → (e : PlainEvent) → int_le e.rank s ≡ true → int_lt e.rank t ≡ true
+    within s earlier e up = grind (arith, ints)
+
+-- ---- rows of marks
+
+-- a mark of a property is that at its instant, and has a count
+IsMember-from_marks_of : (theory : Theory) (events : List PlainEvent) (p : Ground) (mark : PlainMark) → IsMember (marks_of theory events p) mark
+    → (mark_at theory events p mark.instant ≡ mark) × IsTrue (is_marked mark)
+unfolding marks_of
+IsMember-from_marks_of theory events p mark member =
+    let kept = IsMember-from_filter is_marked (map (mark_at theory events p) (instants_of events)) mark member in
+    let found = IsMember-from_map (mark_at theory events p) (instants_of events) mark kept.0 in
+    let placed : found.0 ≡ mark.instant = sym (instant-mark_at theory events p found.0) ∙ ap (λ (m : PlainMark). m.instant) found.2 in
+    (ap (mark_at theory events p) (sym placed) ∙ found.2, kept.1)
+
+-- and each that has a count is one of them
+IsMember-marks_of : (theory : Theory) (events : List PlainEvent) (p : Ground) (t : ℤ) → IsTrue (is_marked (mark_at theory events p t))
+    → IsMember (marks_of theory events p) (mark_at theory events p t)
+unfolding marks_of
+IsMember-marks_of theory events p t some =
+    IsMember-filter is_marked (map (mark_at theory events p) (instants_of events)) (mark_at theory events p t)
+    (IsMember-map (mark_at theory events p) (instants_of events) t (AreAllMarked-mark_at theory events p t some)) some
+
+-- marks stand in the order of their instants
+abbrev is_earlier : PlainMark → PlainMark → Type 0
+is_earlier m n = IsTrue (int_lt m.instant n.instant)
+
+IsPairwise-marks_of : (theory : Theory) (events : List PlainEvent) (p : Ground) → IsTrue (is_history events) → IsPairwise is_earlier (marks_of theory events p)
+unfolding marks_of
+IsPairwise-marks_of theory events p history =
+    IsPairwise-filter is_earlier is_marked (map (mark_at theory events p) (instants_of events))
+    (IsPairwise-map is_earlier (mark_at theory events p) (instants_of events)
+    (IsPairwise-weaker (λ s t. IsTrue (int_lt s t)) _ (instants_of events) (IsPairwise-from_ascending (instants_of events) (is_ascending-instants_of events history))
+    (λ s t left right before.
+    subst (λ u. IsTrue (int_lt u (mark_at theory events p t).instant)) (sym (instant-mark_at theory events p s))
+    (subst (λ u. IsTrue (int_lt s u)) (sym (instant-mark_at theory events p t)) before))))
+
+-- rows agree before t where the marks at each instant before t do
+marks_before-same : (theory : Theory) (old new : List PlainEvent) (p : Ground) (t : ℤ) → IsTrue (is_history old) → IsTrue (is_history new)
+    → ((s : ℤ) → IsTrue (int_lt s t) → mark_at theory old p s ≡ mark_at theory new p s)
+    → marks_before t (marks_of theory old p) ≡ marks_before t (marks_of theory new p)
+marks_before-same theory old new p t history_old history_new same =
+    same_from_members is_earlier (λ m before. false≢true (sym (int_lt-same m.instant) ∙ before))
+    (λ m n before after. false≢true (sym (int_lt-not_after m.instant n.instant before) ∙ after))
+    (marks_before t (marks_of theory old p)) (marks_before t (marks_of theory new p))
+    (IsPairwise-filter is_earlier (λ m. int_lt m.instant t) (marks_of theory old p) (IsPairwise-marks_of theory old p history_old))
+    (IsPairwise-filter is_earlier (λ m. int_lt m.instant t) (marks_of theory new p) (IsPairwise-marks_of theory new p history_new))
+    (moved old new same)
+    (moved new old (λ s before. sym (same s before)))
+  where
+    moved : (these those : List PlainEvent) → ((s : ℤ) → IsTrue (int_lt s t) → mark_at theory these p s ≡ mark_at theory those p s) → (mark : PlainMark)
+        → IsMember (marks_before t (marks_of theory these p)) mark → IsMember (marks_before t (marks_of theory those p)) mark
+    moved these those agree mark member =
+        let kept = IsMember-from_filter (λ (m : PlainMark). int_lt m.instant t) (marks_of theory these p) mark member in
+        let own = IsMember-from_marks_of theory these p mark kept.0 in
+        let there : mark_at theory those p mark.instant ≡ mark = sym (agree mark.instant kept.1) ∙ own.0 in
+        IsMember-filter (λ (m : PlainMark). int_lt m.instant t) (marks_of theory those p) mark
+        (subst (IsMember (marks_of theory those p)) there
+        (IsMember-marks_of theory those p mark.instant (subst (λ (m : PlainMark). IsTrue (is_marked m)) (sym there) own.1))) kept.1
+
+-- ---- starts
+
+-- a start at s by what is initiated, broken and current there
+is_start-by : (theory : Theory) (events : List PlainEvent) (p : Ground) (s : ℤ)
+    → is_start (timeline_of theory events p) s
+    ≡ (is_initiated theory events (is_current theory events) p s && (has_break theory events (is_current theory events) p s || not (is_current theory events p s)))
+unfolding timeline_of timeline_by
+is_start-by theory events p s =
+    ap (λ current. is_initiated theory events (is_current theory events) p s && (has_break theory events (is_current theory events) p s || not current))
+    (sym (is_current-equation theory events p s))
+
+-- the law
+pub PastStays-law : PastStays
+PastStays-law theory old new t history_old history_new late = record {
+  currency = λ p s within. current p s within;
+  marks = λ p s before. mark p s before;
+  rows = λ p. marks_before-same theory old new p t history_old history_new (λ s before. mark p s (lt_from s before));
+  starts = λ p s before.
+      is_start-by theory old p s
+      ∙ start _ _ _ _ _ _ (is_initiated-same theory old new (is_current theory old) (is_current theory new) p s (effects s before))
+      (has_break-same theory old new (is_current theory old) (is_current theory new) p s (effects s before))
+      (current p s (le_from s before))
+      ∙ sym (is_start-by theory new p s);
+  activity = λ effect within. is_active-each (is_current theory old) (is_current theory new) effect (λ literal member. current literal.prop effect.event.rank within);
+}
+  where
+    same : events_before t old ≡ events_before t new
+    same = events_before-same old new t history_old history_new late
+
+    current : (p : Ground) (s : ℤ) → s ≤ℤ t → is_current theory old p s ≡ is_current theory new p s
+    current p s within = is_current-past theory old new t s p same (le_int_le s t within)
+
+    effects : (s : ℤ) → s <ℤ t → (wanted : GroundEntry → Bool)
+        → effects_at theory old (is_current theory old) wanted s ≡ effects_at theory new (is_current theory new) wanted s
+    effects s before wanted = effects_at-past theory old new s wanted (events_up_to-same old new s t same before)
+
+    mark : (p : Ground) (s : ℤ) → s <ℤ t → mark_at theory old p s ≡ mark_at theory new p s
+    mark p s before = sym (mark_at-same theory old new p s (effects s before))
+
+    lt_from : (s : ℤ) → IsTrue (int_lt s t) → s <ℤ t
+    lt_from s before = grind (arith, ints)
+
+    le_from : (s : ℤ) → s <ℤ t → s ≤ℤ t
+    le_from s before = omega (arith, ints)
+
+    start : (i j b e c d : Bool) → i ≡ j → b ≡ e → c ≡ d → (i && (b || not c)) ≡ (j && (e || not d))
+    start i j b e c d x y z = ap₂ (λ u v. u && v) x (ap₂ (λ u v. u || not v) y z)

@@ -1,0 +1,4 @@
+pub mod Differences
+pub mod QuietLaws
+pub mod Turns
+pub mod TurnLaws

@@ -1,0 +1,55 @@
+-- The laws of what stays the same between two lists of events, as statements.
+use Rattle.std.specs.Prelude.{◌≡◌, ℕ, ◌<◌, ◌||◌, ◌&&◌, not, ◌++◌, List, ℤ, pos, ◌+ℤ◌, ◌<ℤ◌, ◌≤ℤ◌, int_le, filter, int_lt, IsTrue}
+use Rattle.std.specs.List.{list_all}
+use Rattle.ec_terms.specs.declared.ground.Ground.{Ground}
+use Rattle.ec_terms.specs.declared.theory.Theory.{Theory}
+use Rattle.ec_axioms.specs.Timeline.{is_start}
+use Rattle.ec_axioms.specs.Calculus.{PlainEvent, Effect, is_active, is_initiated, has_break, is_current, timeline_of}
+use Rattle.ec_axioms.specs.Marks.{PlainMark, mark_at, marks_of}
+use Rattle.ec_axioms.specs.Changes.{is_history, events_only_in}
+use Rattle.ec_changes.specs.Differences.{differs, IsQuiet}
+
+-- Current at the next whole number: initiated now, or current now and not broken now.
+abbrev pub CurrencyGoesOn : Type 0
+CurrencyGoesOn =
+    (theory : Theory) (events : List PlainEvent) (p : Ground) (t : ℤ)
+    → let current = is_current theory events in
+    current p (t +ℤ pos 1) ≡ (is_initiated theory events current p t || (current p t && not (has_break theory events current p t)))
+
+-- A quiet instant has the same marks in both lists, and what differs at it differs at the next whole number.
+abbrev pub QuietInstantsPassOn : Type 0
+QuietInstantsPassOn =
+    (theory : Theory) (old new : List PlainEvent) (t : ℤ) → IsQuiet theory old new (λ p. differs theory old new p t) t
+    → (p : Ground) → (mark_at theory new p t ≡ mark_at theory old p t) × (differs theory old new p (t +ℤ pos 1) ≡ differs theory old new p t)
+
+-- Where n whole numbers from r on are quiet for what differs at r, marks there are the same in both lists, and what
+-- differs at r differs behind them.
+abbrev pub QuietStretchesPassOn : Type 0
+QuietStretchesPassOn =
+    (theory : Theory) (old new : List PlainEvent) (r : ℤ) (n : ℕ)
+    → ((k : ℕ) → k < n → IsQuiet theory old new (λ p. differs theory old new p r) (r +ℤ pos k))
+    → (p : Ground)
+    → ((k : ℕ) → k < n → mark_at theory new p (r +ℤ pos k) ≡ mark_at theory old p (r +ℤ pos k))
+    × (differs theory old new p (r +ℤ pos n) ≡ differs theory old new p r)
+
+-- the marks of a row before an instant
+abbrev pub marks_before : ℤ → List PlainMark → List PlainMark
+marks_before t marks = filter (λ mark. int_lt mark.instant t) marks
+
+-- each event that stands in one of the lists alone is at t or later
+abbrev pub differ_from : ℤ → List PlainEvent → List PlainEvent → Type 0
+differ_from t old new = IsTrue (list_all (λ e. int_le t e.rank) (events_only_in old new ++ events_only_in new old))
+
+-- what stays the same up to t
+pub record IsSameUpTo (theory : Theory) (old new : List PlainEvent) (t : ℤ) : Type 0 where
+  pub currency : (p : Ground) (s : ℤ) → s ≤ℤ t → is_current theory old p s ≡ is_current theory new p s
+  pub marks : (p : Ground) (s : ℤ) → s <ℤ t → mark_at theory old p s ≡ mark_at theory new p s
+  pub rows : (p : Ground) → marks_before t (marks_of theory old p) ≡ marks_before t (marks_of theory new p)
+  pub starts : (p : Ground) (s : ℤ) → s <ℤ t → is_start (timeline_of theory old p) s ≡ is_start (timeline_of theory new p) s
+  pub activity : (effect : Effect) → effect.event.rank ≤ℤ t → is_active (is_current theory old) effect ≡ is_active (is_current theory new) effect
+
+-- Before the first event that stands in one list alone everything is as it was.
+abbrev pub PastStays : Type 0
+PastStays =
+    (theory : Theory) (old new : List PlainEvent) (t : ℤ) → IsTrue (is_history old) → IsTrue (is_history new) → differ_from t old new
+    → IsSameUpTo theory old new t

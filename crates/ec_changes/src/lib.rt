@@ -1,0 +1,13 @@
+//! The laws of change: how the calculus of one list of events comes from that of another, at each whole number.
+//! There is no code here: each function's contract is a law over every theory and over any two lists.
+#![tactic(auto)]
+
+mod laws_quiet;
+mod laws_turns;
+
+pub use laws_quiet::{
+    currency_goes_on_law, past_stays_law, quiet_instants_pass_on_law, quiet_stretches_pass_on_law,
+};
+pub use laws_turns::{
+    effects_follow_turns_law, kept_is_of_both_law, marks_follow_turns_law, unseen_stays_law,
+};
