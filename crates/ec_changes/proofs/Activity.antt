@@ -1,5 +1,5 @@
 -- An entry is active alike under two currencies that agree on what it reads.
-use Rattle.std.proofs.Common.{◌≡◌, ℤ, Bool, ◌&&◌, List, [], ◌∷◌, filter, flat_map, IsTrue, IsFalse, refl, sym, ap, ap₂, ◌∙◌, inl, inr, ⊎_elim, arith}
+use Rattle.std.proofs.Common.{◌≡◌, ℤ, Bool, ◌&&◌, List, [], ◌∷◌, filter, IsTrue, IsFalse, refl, sym, ap, ap₂, ◌∙◌, inl, inr, arith}
 use Rattle.std.specs.Bool.{beq}
 use Rattle.std.specs.List.{list_all}
 use Rattle.std.specs.Ordering.{int_eq}
@@ -10,8 +10,9 @@ use Rattle.ec_terms.specs.Domain.{GroundLiteral, GroundEntry, entries_of}
 use Rattle.ec_terms.proofs.DomainLemmas.{term_eq-refl}
 use Rattle.ec_axioms.specs.Plain.{events_at}
 use Rattle.ec_axioms.specs.Calculus.{PlainEvent, Effect, Currency, effects_of, effects_at, agrees, is_active, is_current}
-use Rattle.ec_axioms.proofs.Members.{IsMember, IsMember-append_cases, IsMember-from_map, IsMember-from_filter, filter_agree, member-list_any}
+use Rattle.ec_axioms.proofs.Members.{IsMember, IsMember-from_map, IsMember-from_filter, filter_agree, member-list_any}
 use Rattle.ec_axioms.proofs.Ranks.{int_eq-is}
+use Rattle.ec_changes.proofs.JoinedMembers.{IsMember-from_flat_map}
 use Rattle.ec_changes.specs.Differences.{differs, entries_at, reads}
 
 -- two tests that are the same
@@ -25,15 +26,6 @@ unfolding differs
 differs-not theory old new p t same = grind arith
 
 -- ---- the entries at an instant
-
--- a member of what a function gives for each comes from one of them
-pub IsMember-from_flat_map : {X Y : Type 0} (f : X → List Y) (xs : List X) (y : Y) → IsMember (flat_map f xs) y
-    → (x : X) × IsMember xs x × IsMember (f x) y
-IsMember-from_flat_map f [] y member = absurd member
-IsMember-from_flat_map f (x ∷ xs) y member =
-    ⊎_elim (λ here. (x, inl refl, here))
-    (λ later. let found = IsMember-from_flat_map f xs y later in (found.0, inr found.1, found.2))
-    (IsMember-append_cases (f x) (flat_map f xs) y member)
 
 -- an entry of an event names the event
 pub event-effects_of : (theory : Theory) (e : PlainEvent) (effect : Effect) → IsMember (effects_of theory e) effect → effect.event ≡ e

@@ -1,5 +1,5 @@
 -- Before the first event that stands in one list alone, the two lists have the same events, and so all else is the same.
-use Rattle.std.proofs.Common.{◌≡◌, ℤ, ◌≤ℤ◌, ◌<ℤ◌, Bool, true, not, ◌&&◌, ◌||◌, List, [], ◌∷◌, map, ◌++◌, IsTrue, sym, ap, ap₂, subst, ◌∙◌, inl, inr, ⊎_elim, arith}
+use Rattle.std.proofs.Common.{◌≡◌, ℤ, ◌≤ℤ◌, ◌<ℤ◌, Bool, true, not, ◌&&◌, ◌||◌, List, map, IsTrue, sym, ap, ap₂, subst, ◌∙◌, ⊎_elim, arith}
 use Rattle.std.specs.Prelude.{int_lt, int_le}
 use Rattle.std.proofs.lemmas.Bool.{cases_Bool, false≢true, not_from_false}
 use Rattle.std.proofs.lemmas.Int.{ints}
@@ -17,26 +17,11 @@ use Rattle.ec_axioms.proofs.Ranks.{le_int_le, int_lt-not_after, int_lt-same, int
 use Rattle.ec_axioms.proofs.Members.{IsMember, IsMember-filter, IsMember-from_filter, IsMember-from_map, IsPairwise, IsPairwise-filter, IsPairwise-map, IsPairwise-weaker, filter_all, filter_comm, list_all-member}
 use Rattle.ec_axioms.proofs.Instants.{IsPairwise-from_ascending, is_ascending-instants_of}
 use Rattle.ec_axioms.proofs.HistoryMarks.{instant-mark_at, AreAllMarked-mark_at}
+use Rattle.ec_changes.proofs.JoinedMembers.{IsMember-map, IsMember-append_left, IsMember-append_right}
 use Rattle.ec_changes.specs.QuietLaws.{PastStays, differ_from, marks_before}
 use Rattle.ec_changes.proofs.Activity.{is_active-each}
 use Rattle.ec_changes.proofs.KeptEvents.{kept_events-both, same_from_members}
 use Rattle.ec_changes.proofs.Quiet.{mark_at-same}
-
--- a value at a member is a member of the values
-pub IsMember-map : {X Y : Type 0} (f : X → Y) (xs : List X) (x : X) → IsMember xs x → IsMember (map f xs) (f x)
-IsMember-map f [] x member = absurd member
-IsMember-map f (y ∷ ys) x (inl same) = inl (ap f same)
-IsMember-map f (y ∷ ys) x (inr later) = inr (IsMember-map f ys x later)
-
--- a member of either of two lists is one of both joined
-IsMember-append_left : {X : Type 0} (xs ys : List X) (x : X) → IsMember xs x → IsMember (xs ++ ys) x
-IsMember-append_left [] ys x member = absurd member
-IsMember-append_left (z ∷ xs) ys x (inl same) = inl same
-IsMember-append_left (z ∷ xs) ys x (inr later) = inr (IsMember-append_left xs ys x later)
-
-IsMember-append_right : {X : Type 0} (xs ys : List X) (x : X) → IsMember ys x → IsMember (xs ++ ys) x
-IsMember-append_right [] ys x member = member
-IsMember-append_right (z ∷ xs) ys x member = inr (IsMember-append_right xs ys x member)
 
 -- ---- events
 

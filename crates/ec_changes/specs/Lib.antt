@@ -2,3 +2,4 @@ pub mod Differences
 pub mod QuietLaws
 pub mod Turns
 pub mod TurnLaws
+pub mod LiveLaws

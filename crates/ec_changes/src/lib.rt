@@ -2,9 +2,14 @@
 //! There is no code here: each function's contract is a law over every theory and over any two lists.
 #![tactic(auto)]
 
+mod laws_live;
 mod laws_quiet;
 mod laws_turns;
 
+pub use laws_live::{
+    clashes_are_initiations_law, marks_are_small_law, not_live_is_gathered_law,
+    not_live_is_unknown_law, what_differs_is_live_law,
+};
 pub use laws_quiet::{
     currency_goes_on_law, past_stays_law, quiet_instants_pass_on_law, quiet_stretches_pass_on_law,
 };
