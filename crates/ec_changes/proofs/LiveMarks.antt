@@ -4,7 +4,7 @@ use Rattle.std.specs.Prelude.{int_lt, nat_lt}
 use Rattle.std.specs.Bool.{beq}
 use Rattle.std.specs.List.{list_any, sum_by}
 use Rattle.std.specs.Ordering.{int_eq}
-use Rattle.std.proofs.lemmas.Bool.{cases_Bool, and_parts, or_parts, false≢true}
+use Rattle.std.proofs.lemmas.Bool.{cases_Bool, and_parts, or_parts, or_left, or_right, false≢true}
 use Rattle.std.proofs.lemmas.List.{length-map}
 use Rattle.std.proofs.lemmas.List.Concat.{length-flat_map}
 use Rattle.std.proofs.lemmas.List.Filters.{length-filter_both, sum_by-filter_both}
@@ -60,15 +60,17 @@ is_initiating-by : (p q : Ground) (entry : GroundEntry) → IsTrue (is_initiatin
 unfolding is_initiating
 is_initiating-by p q entry initiating = ap (λ b. b && term_eq entry.head q) (and_parts _ (term_eq entry.head p) initiating).0
 
--- which is that property
-head-initiating : (p : Ground) (entry : GroundEntry) → IsTrue (is_initiating p entry) → entry.head ≡ p
-head-initiating p entry initiating = (term_eq-Decides entry.head p).0 (sym (is_initiating-by p p entry initiating) ∙ initiating)
+-- an entry that does something to a property has it for its head
+head-changing : (p : Ground) (entry : GroundEntry) → IsTrue (is_initiating p entry || is_terminating p entry) → entry.head ≡ p
+unfolding is_initiating is_terminating
+head-changing p entry changing =
+    let names : IsTrue (term_eq entry.head p) = grind arith in (term_eq-Decides entry.head p).0 names
 
 -- and it clashes with p where its head is exclusive to p
 is_clashing-by : (theory : Theory) (p q : Ground) (entry : GroundEntry) → IsTrue (is_initiating q entry) → is_clashing theory p entry ≡ are_exclusive theory p q
 unfolding is_clashing
 is_clashing-by theory p q entry initiating =
-    let head = head-initiating q entry initiating in
+    let head = head-changing q entry (or_left _ (is_terminating q entry) initiating) in
     ap (λ (r : Ground). is_initiating r entry && are_exclusive theory p r) head ∙ ap (λ b. b && are_exclusive theory p q) initiating
 
 -- the parts of a clash
@@ -87,7 +89,7 @@ module _ (theory : Theory) (events : List PlainEvent) (properties : List Ground)
       let parts = is_clashing-parts theory p entry clashing in
       ap length
       (filter-filter_wider (λ q. is_initiating q entry) (are_exclusive theory p) properties
-      (λ q initiating. subst (λ r. IsTrue (are_exclusive theory p r)) (head-initiating q entry initiating) parts.1)
+      (λ q initiating. subst (λ r. IsTrue (are_exclusive theory p r)) (head-changing q entry (or_left _ (is_terminating q entry) initiating)) parts.1)
       ∙ filter_agree (λ q. is_initiating q entry) (term_eq entry.head) properties (λ q member. is_initiating-by entry.head q entry parts.0))
       ∙ length-filter_once term_eq term_eq-Decides properties entry.head has.once (has.live entry.head live)
 
@@ -120,11 +122,6 @@ ClashesAreInitiations-law theory events properties p t has = clashes-neighbours 
 
 -- ---- a property that is not live
 
--- an entry that terminates a property has it for its head
-head-terminating : (p : Ground) (entry : GroundEntry) → IsTrue (is_terminating p entry) → entry.head ≡ p
-unfolding is_terminating
-head-terminating p entry terminating = (term_eq-Decides entry.head p).0 (and_parts _ (term_eq entry.head p) terminating).1
-
 -- a test that passes at no member
 list_any-never : {X : Type 0} (f : X → Bool) (xs : List X) → ((x : X) → f x ≡ false) → list_any f xs ≡ false
 list_any-never f [] never = refl
@@ -148,7 +145,7 @@ module _ (theory : Theory) (events : List PlainEvent) (p : Ground) (dead : IsFal
   -- it is never initiated
   never_initiated : (current : Currency) (t : ℤ) → IsFalse (is_initiated theory events current p t)
   unfolding has_effect
-  never_initiated current t = ap (λ effects. nat_lt 0 (length effects)) (no_effect current (is_initiating p) t (head-initiating p))
+  never_initiated current t = ap (λ effects. nat_lt 0 (length effects)) (no_effect current (is_initiating p) t (λ entry initiating. head-changing p entry (or_left _ (is_terminating p entry) initiating)))
 
   -- it is never current
   not_live-current : (t : ℤ) → IsFalse (is_current theory events p t)
@@ -174,8 +171,8 @@ module _ (theory : Theory) (events : List PlainEvent) (p : Ground) (dead : IsFal
   unfolding mark_at intervals_of broken_of
   not_live-unknown = record {
     never_current = not_live-current;
-    no_inits = λ t. ap length (no_effect (is_current theory events) (is_initiating p) t (head-initiating p));
-    no_terms = λ t. ap length (no_effect (is_current theory events) (is_terminating p) t (head-terminating p));
+    no_inits = λ t. ap length (no_effect (is_current theory events) (is_initiating p) t (λ entry initiating. head-changing p entry (or_left _ (is_terminating p entry) initiating)));
+    no_terms = λ t. ap length (no_effect (is_current theory events) (is_terminating p) t (λ entry terminating. head-changing p entry (or_right (is_initiating p entry) _ terminating)));
     no_interval = ap (intervals_from (timeline_of theory events p)) no_begin;
     none_broken = ap (broken_begins_from (timeline_of theory events p)) no_begin;
   }
