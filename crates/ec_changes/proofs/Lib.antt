@@ -6,3 +6,5 @@ pub mod Past
 pub mod Tallies
 pub mod TurnAccounts
 pub mod LiveMarks
+pub mod TermOrder
+pub mod LinkSteps

@@ -3,3 +3,4 @@ pub mod QuietLaws
 pub mod Turns
 pub mod TurnLaws
 pub mod LiveLaws
+pub mod LinkLaws

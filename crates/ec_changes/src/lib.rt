@@ -2,10 +2,12 @@
 //! There is no code here: each function's contract is a law over every theory and over any two lists.
 #![tactic(auto)]
 
+mod laws_links;
 mod laws_live;
 mod laws_quiet;
 mod laws_turns;
 
+pub use laws_links::{links_are_of_mentions_law, links_in_any_order_law, one_mention_more_law};
 pub use laws_live::{
     clashes_are_initiations_law, marks_are_small_law, not_live_is_gathered_law,
     not_live_is_unknown_law, what_differs_is_live_law,
