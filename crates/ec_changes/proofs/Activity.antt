@@ -60,15 +60,18 @@ pub is_active-each : (c d : Currency) (effect : Effect)
 unfolding is_active
 is_active-each c d effect same = agrees-each c d effect.event.rank effect.entry.literals same
 
+-- an entry reads the property of each of its literals
+pub reads-literal : (effect : Effect) (literal : GroundLiteral) → IsMember effect.entry.literals literal → IsTrue (reads literal.prop effect)
+unfolding reads
+reads-literal effect literal member =
+    member-list_any (λ (other : GroundLiteral). term_eq other.prop literal.prop) effect.entry.literals literal member (term_eq-refl literal.prop)
+
 -- an entry that reads no property of which the currencies differ is active in both, or in neither
 pub is_active-unread : (c d : Currency) (effect : Effect)
     → ((p : Ground) → IsTrue (reads p effect) → c p effect.event.rank ≡ d p effect.event.rank)
     → is_active c effect ≡ is_active d effect
-unfolding reads
 is_active-unread c d effect same =
-    is_active-each c d effect
-    (λ literal member. same literal.prop
-    (member-list_any (λ (other : GroundLiteral). term_eq other.prop literal.prop) effect.entry.literals literal member (term_eq-refl literal.prop)))
+    is_active-each c d effect (λ literal member. same literal.prop (reads-literal effect literal member))
 
 -- effects of entries that are active alike are the same
 pub effects_at-agree : (theory : Theory) (events : List PlainEvent) (c d : Currency) (wanted : GroundEntry → Bool) (t : ℤ)

@@ -8,3 +8,5 @@ pub mod TurnAccounts
 pub mod LiveMarks
 pub mod TermOrder
 pub mod LinkSteps
+pub mod KeptCounts
+pub mod SameList

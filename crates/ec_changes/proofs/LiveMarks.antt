@@ -1,5 +1,5 @@
 -- Marks by the properties that are live: clashes by neighbours, and what is known of a property that is not live.
-use Rattle.std.proofs.Common.{◌≡◌, ℕ, ◌≤◌, ℤ, Bool, false, not, ◌&&◌, ◌||◌, List, [], ◌∷◌, ◌++◌, length, map, filter, IsTrue, IsFalse, refl, sym, ap, ap₂, subst, ◌∙◌, inl, ⊎_elim, arith}
+use Rattle.std.proofs.Common.{◌≡◌, ℕ, ◌≤◌, ℤ, Bool, false, not, ◌&&◌, ◌||◌, List, [], ◌++◌, length, map, filter, IsTrue, IsFalse, refl, sym, ap, ap₂, subst, ◌∙◌, inl, ⊎_elim, arith}
 use Rattle.std.specs.Prelude.{int_lt, nat_lt}
 use Rattle.std.specs.Bool.{beq}
 use Rattle.std.specs.List.{list_any, sum_by}
@@ -26,7 +26,7 @@ use Rattle.ec_axioms.proofs.Members.{IsMember, IsMember-from_map, IsMember-from_
 use Rattle.ec_changes.specs.Differences.{differs, entries_at}
 use Rattle.ec_changes.specs.LiveLaws.{HasLive, neighbour_inits, ClashesAreInitiations, IsUnknown, NotLiveIsUnknown, NotLiveIsGathered, WhatDiffersIsLive, MarksAreSmall}
 use Rattle.ec_changes.proofs.JoinedMembers.{IsMember-from_flat_map, IsMember-flat_map, empty_from_members}
-use Rattle.ec_changes.proofs.Tallies.{sum_by-agree, length-le_sum_by, length-by_keys, length-filter_once}
+use Rattle.ec_changes.proofs.Tallies.{list_any-never, sum_by-agree, length-le_sum_by, length-by_keys, length-filter_once}
 
 -- ---- heads are live
 
@@ -121,11 +121,6 @@ pub ClashesAreInitiations-law : ClashesAreInitiations
 ClashesAreInitiations-law theory events properties p t has = clashes-neighbours theory events properties p t has
 
 -- ---- a property that is not live
-
--- a test that passes at no member
-list_any-never : {X : Type 0} (f : X → Bool) (xs : List X) → ((x : X) → f x ≡ false) → list_any f xs ≡ false
-list_any-never f [] never = refl
-list_any-never f (x ∷ xs) never = let rest = list_any-never f xs never in let here = never x in grind arith
 
 module _ (theory : Theory) (events : List PlainEvent) (p : Ground) (dead : IsFalse (is_live theory events p)) where
   -- nothing takes effect that has it for its head

@@ -128,7 +128,7 @@ mark_at-same theory old new p t same =
 
 module _ (theory : Theory) (old new : List PlainEvent) (t : ℤ) (quiet : IsQuiet theory old new (λ p. differs theory old new p t) t) where
   -- an entry at a quiet instant is active in both lists, or in neither
-  quiet-active : (effect : Effect) → IsMember (entries_at theory old t) effect
+  pub quiet-active : (effect : Effect) → IsMember (entries_at theory old t) effect
       → is_active (is_current theory old) effect ≡ is_active (is_current theory new) effect
   quiet-active effect member =
       is_active-unread (is_current theory old) (is_current theory new) effect
@@ -183,15 +183,15 @@ QuietInstantsPassOn-law theory old new t quiet p = (quiet-mark theory old new t 
 -- ---- quiet stretches
 
 -- n + 1 steps are n and one more
-add_step : (r : ℤ) (n : ℕ) → (r +ℤ pos n) +ℤ pos 1 ≡ r +ℤ pos (suc n)
+pub add_step : (r : ℤ) (n : ℕ) → (r +ℤ pos n) +ℤ pos 1 ≡ r +ℤ pos (suc n)
 add_step r n = omega (arith, ints)
 
 -- no step leads nowhere
-add_none : (r : ℤ) → r +ℤ pos zero ≡ r
+pub add_none : (r : ℤ) → r +ℤ pos zero ≡ r
 add_none r = omega (arith, ints)
 
 -- quiet for what differs at r is quiet for what differs where the same does
-IsQuiet-same : (theory : Theory) (old new : List PlainEvent) (r t : ℤ) → ((p : Ground) → differs theory old new p t ≡ differs theory old new p r)
+pub IsQuiet-same : (theory : Theory) (old new : List PlainEvent) (r t : ℤ) → ((p : Ground) → differs theory old new p t ≡ differs theory old new p r)
     → IsQuiet theory old new (λ p. differs theory old new p r) t → IsQuiet theory old new (λ p. differs theory old new p t) t
 IsQuiet-same theory old new r t same quiet = record {
   same_events = quiet.same_events;
@@ -200,7 +200,7 @@ IsQuiet-same theory old new r t same quiet = record {
 }
 
 -- what differs at r differs behind a quiet stretch
-stretch-differs : (theory : Theory) (old new : List PlainEvent) (r : ℤ) (n : ℕ)
+pub stretch-differs : (theory : Theory) (old new : List PlainEvent) (r : ℤ) (n : ℕ)
     → ((k : ℕ) → k < n → IsQuiet theory old new (λ p. differs theory old new p r) (r +ℤ pos k))
     → (p : Ground) → differs theory old new p (r +ℤ pos n) ≡ differs theory old new p r
 stretch-differs theory old new r zero quiet p = ap (differs theory old new p) (add_none r)

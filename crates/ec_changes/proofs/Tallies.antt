@@ -21,6 +21,11 @@ pub length-filter-flat_map : {X Y : Type 0} (p : Y → Bool) (f : X → List Y) 
     → length (filter p (flat_map f xs)) ≡ sum_by (λ x. length (filter p (f x))) xs
 length-filter-flat_map p f xs = ap length (filter-flat_map p f xs) ∙ length-flat_map (λ x. filter p (f x)) xs
 
+-- a test that passes at no member
+pub list_any-never : {X : Type 0} (f : X → Bool) (xs : List X) → ((x : X) → f x ≡ false) → list_any f xs ≡ false
+list_any-never f [] never = refl
+list_any-never f (x ∷ xs) never = let rest = list_any-never f xs never in let here = never x in grind arith
+
 -- ---- effects, event by event
 
 -- the active entries of an event that pass a test

@@ -18,7 +18,7 @@ abbrev pub IsBelow : Ground → Ground → Type 0
 IsBelow p q = term_cmp p q ≡ Less
 
 -- none is below itself
-IsBelow-itself : (p : Ground) → IsBelow p p → ⊥
+pub IsBelow-itself : (p : Ground) → IsBelow p p → ⊥
 IsBelow-itself p below = let same = tied_itself term_cmp-total p in let apart : Less ≡ Equal = sym below ∙ same in cc
 
 -- of two not both are below the other

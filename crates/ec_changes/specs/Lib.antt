@@ -4,3 +4,4 @@ pub mod Turns
 pub mod TurnLaws
 pub mod LiveLaws
 pub mod LinkLaws
+pub mod CountLaws

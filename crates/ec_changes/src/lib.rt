@@ -2,11 +2,16 @@
 //! There is no code here: each function's contract is a law over every theory and over any two lists.
 #![tactic(auto)]
 
+mod laws_counts;
 mod laws_links;
 mod laws_live;
 mod laws_quiet;
 mod laws_turns;
 
+pub use laws_counts::{
+    counts_are_sums_law, kept_counts_are_whole_law, kept_counts_go_on_law,
+    properties_in_any_list_law, quiet_counts_nothing_law, same_list_changes_nothing_law,
+};
 pub use laws_links::{links_are_of_mentions_law, links_in_any_order_law, one_mention_more_law};
 pub use laws_live::{
     clashes_are_initiations_law, marks_are_small_law, not_live_is_gathered_law,
