@@ -4,3 +4,4 @@ pub mod Shown
 pub mod Rules
 pub mod Limits
 pub mod NewNumbers
+pub mod EntryLists

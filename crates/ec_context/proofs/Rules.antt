@@ -1,8 +1,8 @@
 -- The entries of an event under rules: where it meets a rule, and one rule more.
-use Rattle.std.proofs.Common.{◌≡◌, ◌<◌, ◌+◌, ℕ, true, false, List, [], ◌∷◌, ◌++◌, length, take, get_or, Option, Some, None, option_map, refl, sym, ap, subst, ◌∙◌, arith}
+use Rattle.std.proofs.Common.{◌≡◌, ◌<◌, ◌+◌, ℕ, true, false, List, [], ◌∷◌, ◌++◌, length, take, drop, get_or, Option, Some, None, option_map, refl, sym, ap, subst, ◌∙◌, arith}
 use Rattle.std.specs.List.{list_all, cons_option}
 use Rattle.std.specs.Option.{option_to_list}
-use Rattle.std.proofs.lemmas.List.{append-nil, length-take-le, take_more}
+use Rattle.std.proofs.lemmas.List.{append-nil, length-take-le, take-append-drop, take_more}
 use Rattle.ec_terms.specs.declared.ground.Ground.{Ground}
 use Rattle.ec_terms.specs.declared.theory.Rule.{Rule}
 use Rattle.ec_terms.specs.Matching.{Values, binding_of, fits_some, test_holds}
@@ -47,15 +47,21 @@ cons_option-last : {X : Type 0} (o : Option X) → cons_option o [] ≡ option_t
 cons_option-last None = refl
 cons_option-last (Some x) = refl
 
+-- the entries under some rules and others
+pub entries_from-append : (number : ℕ) (rules others : List Rule) (event : Ground) →
+    entries_from number (rules ++ others) event ≡ entries_from number rules event ++ entries_from (number + length rules) others event
+unfolding entries_from
+entries_from-append number [] others event = ap (λ n. entries_from n others event) (omega arith)
+entries_from-append number (r ∷ rules) others event =
+    ap (cons_option (entry_of number r event)) (entries_from-append (number + 1) rules others event)
+    ∙ cons_option-append (entry_of number r event) (entries_from (number + 1) rules event) _
+    ∙ ap (λ n. entries_from number (r ∷ rules) event ++ entries_from n others event) (omega arith)
+
 entries_from-push : (number : ℕ) (rules : List Rule) (rule : Rule) (event : Ground) →
     entries_from number (rules ++ rule ∷ []) event ≡ entries_from number rules event ++ option_to_list (entry_of (number + length rules) rule event)
 unfolding entries_from
-entries_from-push number [] rule event =
-    cons_option-last (entry_of number rule event) ∙ ap (λ n. option_to_list (entry_of n rule event)) (omega arith)
-entries_from-push number (r ∷ rules) rule event =
-    ap (cons_option (entry_of number r event)) (entries_from-push (number + 1) rules rule event)
-    ∙ cons_option-append (entry_of number r event) (entries_from (number + 1) rules event) _
-    ∙ ap (λ n. entries_from number (r ∷ rules) event ++ option_to_list (entry_of n rule event)) (omega arith)
+entries_from-push number rules rule event =
+    entries_from-append number rules (rule ∷ []) event ∙ ap (λ es. entries_from number rules event ++ es) (cons_option-last (entry_of (number + length rules) rule event))
 
 pub entries_from-none : (number : ℕ) (event : Ground) → entries_from number [] event ≡ []
 unfolding entries_from
@@ -70,6 +76,11 @@ module _ (before after : List KeptProp) (kept : KeepsAll before after) (entries 
       ∙ entries_from-push 1 (take i rules) rule event
       ∙ ap (λ n. entries_from 1 (take i rules) event ++ option_to_list (entry_of n rule event))
       (let taken = length-take-le i rules (omega (arith, within)) in omega (arith, taken, numbered))
+
+  -- what is to come behind one more rule
+  pub entries-rest : entries_from 1 (take (i + 1) rules) event ++ entries_from (1 + length (take (i + 1) rules)) (drop (i + 1) rules) event ≡ entries_from 1 rules event
+  entries-rest =
+      sym (entries_from-append 1 (take (i + 1) rules) (drop (i + 1) rules) event) ∙ ap (λ rs. entries_from 1 rs event) (take-append-drop (i + 1) rules)
 
   -- an entry more
   pub shown_entries-met : (met : Option Entry) (entry : Entry) (more : List Entry) → met ≡ Some entry →

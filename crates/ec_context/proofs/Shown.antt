@@ -40,7 +40,7 @@ with_first-Some (Some a) (Some others) all is =
 
 -- ---- activity
 
-module _ (table : List KeptProp) (by_number : NumberCurrency) (by_term : Currency) (says : IsCurrencyOfTerms table by_number by_term) (t : ℤ) where
+module _ (table : List KeptProp) (by_number : NumberCurrency) (by_term : Currency) (t : ℤ) (says : IsCurrencyOfTerms table by_number by_term t) where
   literal_agrees-shown : (literal : EntryLiteral) (shown : GroundLiteral) → shown_literal table literal ≡ Some shown →
       literal_agrees by_number t literal ≡ agrees by_term t shown
   unfolding shown_literal agrees
@@ -51,7 +51,7 @@ module _ (table : List KeptProp) (by_number : NumberCurrency) (by_term : Currenc
       of None kept both = cc
       of (Some term) kept both =
           let same : record { positive = literal.positive; prop = term } ≡ shown = cc in
-          ap (λ c. beq c literal.positive) (says literal.prop.0 term t kept) ∙ ap (λ (l : GroundLiteral). beq (by_term l.prop t) l.positive) same
+          ap (λ c. beq c literal.positive) (says literal.prop.0 term kept) ∙ ap (λ (l : GroundLiteral). beq (by_term l.prop t) l.positive) same
 
   literals_agree-shown : (literals : List EntryLiteral) (shown : List GroundLiteral) → shown_literals table literals ≡ Some shown →
       list_all (literal_agrees by_number t) literals ≡ list_all (agrees by_term t) shown
@@ -81,8 +81,8 @@ shown_entry-literals table entry shown is = of (term_at entry.head.0 table) (sho
 -- the literals of an entry agree exactly where the entry that the table shows is active
 pub literals_agree-is_active : (table : List KeptProp) → EvaluatingIsActivity table
 unfolding literals_agree is_active
-literals_agree-is_active table by_number by_term says event entry shown is =
-    literals_agree-shown table by_number by_term says event.rank entry.literals shown.literals (shown_entry-literals table entry shown is)
+literals_agree-is_active table by_number by_term event says entry shown is =
+    literals_agree-shown table by_number by_term event.rank says entry.literals shown.literals (shown_entry-literals table entry shown is)
 
 -- ---- a table that keeps more
 

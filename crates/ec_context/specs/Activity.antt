@@ -22,13 +22,14 @@ literal_agrees current t literal = beq (current literal.prop.0 t) literal.positi
 unfoldable pub literals_agree : NumberCurrency → ℤ → List EntryLiteral → Bool
 literals_agree current t literals = list_all (literal_agrees current t) literals
 
--- the one says of each number what the other says of the term that the table keeps under it
-abbrev pub IsCurrencyOfTerms : List KeptProp → NumberCurrency → Currency → Type 0
-IsCurrencyOfTerms table by_number by_term = (id : ℕ) (term : Ground) (t : ℤ) → term_at id table ≡ Some term → by_number id t ≡ by_term term t
+-- at an instant the one says of each number what the other says of the term that the table keeps under it
+abbrev pub IsCurrencyOfTerms : List KeptProp → NumberCurrency → Currency → ℤ → Type 0
+IsCurrencyOfTerms table by_number by_term t = (id : ℕ) (term : Ground) → term_at id table ≡ Some term → by_number id t ≡ by_term term t
 
--- the literals of an entry agree exactly where the entry that the table shows is active for an event
+-- the literals of an entry agree exactly when the entry that the table shows is active for an event, where the two
+-- currencies say the same at the event's time
 abbrev pub EvaluatingIsActivity : List KeptProp → Type 0
 EvaluatingIsActivity table =
-    (by_number : NumberCurrency) (by_term : Currency) → IsCurrencyOfTerms table by_number by_term →
-    (event : PlainEvent) (entry : Entry) (ground_entry : GroundEntry) → shown_entry table entry ≡ Some ground_entry →
+    (by_number : NumberCurrency) (by_term : Currency) (event : PlainEvent) → IsCurrencyOfTerms table by_number by_term event.rank →
+    (entry : Entry) (ground_entry : GroundEntry) → shown_entry table entry ≡ Some ground_entry →
     literals_agree by_number event.rank entry.literals ≡ is_active by_term (record { event = event; entry = ground_entry })

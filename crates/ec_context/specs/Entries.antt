@@ -1,12 +1,19 @@
 -- The entries of an event as a table shows them: with the terms that it keeps under the numbers of their properties.
-use Rattle.std.specs.Prelude.{◌≡◌, ℕ, Bool, ◌||◌, ◌==◌, List, [], ◌∷◌, map, Option, Some, None, IsSome, IsTrue, option_map, option_and_then}
+use Rattle.std.specs.Prelude.{◌≡◌, ◌≤◌, ℕ, length, Bool, ◌||◌, ◌==◌, List, [], ◌∷◌, map, Option, Some, None, IsSome, IsTrue, option_map, option_and_then}
 use Rattle.std.specs.List.{All, list_any}
+use Rattle.std.specs.List.Sorted.{IsStrictlyIncreasing}
 use Rattle.ec_terms.specs.declared.theory.Rule.{Rule}
 use Rattle.ec_terms.specs.Matching.{Values, filled}
 use Rattle.ec_terms.specs.Domain.{GroundLiteral, GroundEntry, ground_literal_of}
 use Rattle.ec_props.specs.Table.{KeptProp, prop_at, term_at}
 use Rattle.ec_context.specs.declared.entry.Entry.{Entry}
 use Rattle.ec_context.specs.declared.entry.EntryLiteral.{EntryLiteral}
+use Rattle.ec_context.specs.declared.entry.TheConstants.{MOST_ENTRIES}
+
+-- the entries of one event: so many at most, by ascending numbers of their rules
+pub record IsEntryList (entries : List Entry) : Type 0 where
+  pub few : length entries ≤ MOST_ENTRIES
+  pub order : IsStrictlyIncreasing (map (λ (entry : Entry). entry.rule) entries)
 
 -- what stands in the options, where each of them has something
 unfoldable pub each_of : {A : Type 0} → List (Option A) → Option (List A)

@@ -2,16 +2,15 @@
 ghost use Rattle.std.specs.Prelude.{◌≡◌, ◌≤◌, ℕ, Some, IsTrue, IsSome, IfOk, OnErr, All, length, map, option_map};
 ghost use Rattle.std.specs.List.{list_any};
 ghost use Rattle.std.specs.Option.{option_to_list};
-ghost use Rattle.std.specs.List.Sorted.{IsStrictlyIncreasing};
 ghost use Rattle.ec_terms.specs.Binding.{fills, stands_in, values_of, IsSmall};
 ghost use Rattle.ec_terms.specs.Domain.{ground_literal_of, entry_of as entry_met, entries_of as all_entries};
 ghost use Rattle.ec_terms.specs.Matchable.{IsMatchable, IsMatchableRule};
 ghost use Rattle.ec_terms.specs.Term.{ground_of, names_are_names};
 ghost use Rattle.ec_check.specs.WellFormed.{IsWellFormed};
-ghost use Rattle.ec_context.specs.Entries.{entry_filled, shown_literal, shown_literals, shown_entry, shown_entries, IsKeptEntry, NamesAllNew, is_named, is_of};
+ghost use Rattle.ec_context.specs.Entries.{entry_filled, shown_literal, shown_literals, shown_entry, shown_entries, IsKeptEntry, IsEntryList, NamesAllNew, is_named, is_of};
 ghost use Rattle.ec_context.specs.Widened.{AddsOnly, AreUnmentioned, HasKept, IsWidened};
 
-use crate::entry::{Entry, EntryList, EntryLiteral, EntryLiterals};
+use crate::entry::{Entry, EntryList, EntryLiteral, EntryLiterals, MOST_LITERALS};
 use crate::keeping::{forget_each, keep};
 use ec_axioms::Event;
 use ec_check::Checked;
@@ -46,22 +45,23 @@ fn literal_of<'a>(
 
 /// The literals of a rule filled in.
 fn literals_of<'a>(
+    alloc: Global,
     rule: &'a Rule,
     binding: &Binding<'a>,
     props: &mut PropTable,
     added: &mut Vec<PropId>,
 ) -> Result<EntryLiterals, NoMemory>
     requires rule { IsMatchableRule rule.now }
-    requires few { length rule.now.literals ≤ 16 }
+    requires few { length rule.now.literals ≤ MOST_LITERALS }
     requires bound { (v : ℕ) → IsTrue (stands_in v rule.now.event) → IsSome (values_of binding.now v) }
     requires unmentioned { AreUnmentioned added.old.items props.old }
     ensures kept { HasKept props.old added.old.items props.new added.new.items }
     ensures shown { IfOk result (λ literals. shown_literals props.new literals ≡ Some (map (ground_literal_of (values_of binding.now)) rule.now.literals)) }
     ensures added { IfOk result (λ literals. AddsOnly (λ id. list_any (is_of id) literals) added.old.items added.new.items) }
 {
-    let mut literals = EntryLiterals::new();
+    let mut literals = EntryLiterals::new(alloc);
     for literal in rule.literals.as_slice() {
-        literals.push(literal_of(literal, binding, props, added)?);
+        literals.push(literal_of(literal, binding, props, added)?)?;
     }
     Ok(literals)
 }
@@ -69,6 +69,7 @@ fn literals_of<'a>(
 /// The entry of an event under the rule of a number, with the properties of its head and its literals filled in by
 /// a binding.
 fn entry_with<'a>(
+    alloc: Global,
     number: u16,
     rule: &'a Rule,
     binding: &Binding<'a>,
@@ -76,7 +77,7 @@ fn entry_with<'a>(
     added: &mut Vec<PropId>,
 ) -> Result<Entry, NoMemory>
     requires rule { IsMatchableRule rule.now }
-    requires few { length rule.now.literals ≤ 16 }
+    requires few { length rule.now.literals ≤ MOST_LITERALS }
     requires bound { (v : ℕ) → IsTrue (stands_in v rule.now.event) → IsSome (values_of binding.now v) }
     requires unmentioned { AreUnmentioned added.old.items props.old }
     ensures kept { HasKept props.old added.old.items props.new added.new.items }
@@ -84,7 +85,7 @@ fn entry_with<'a>(
     ensures added { IfOk result (λ entry. AddsOnly (λ id. is_named id entry) added.old.items added.new.items) }
 {
     let head = keep(props, added, &fill_ref(&rule.head, binding))?;
-    let literals = literals_of(rule, binding, props, added)?;
+    let literals = literals_of(alloc, rule, binding, props, added)?;
     Ok(Entry {
         rule: number,
         kind: rule.kind,
@@ -93,8 +94,9 @@ fn entry_with<'a>(
     })
 }
 
-/// The entry of an event under the rule of a number. `None` exactly where the event does not meet the rule.
+/// The entry of an event under the rule of a number. `None` exactly when the event does not meet the rule.
 fn entry_of<'a>(
+    alloc: Global,
     number: u16,
     rule: &'a Rule,
     event: &GroundRef<'a>,
@@ -102,7 +104,7 @@ fn entry_of<'a>(
     added: &mut Vec<PropId>,
 ) -> Result<Option<Entry>, NoMemory>
     requires rule { IsMatchableRule rule.now }
-    requires few { length rule.now.literals ≤ 16 }
+    requires few { length rule.now.literals ≤ MOST_LITERALS }
     requires named { IsTrue (names_are_names (ground_of event.now)) }
     requires unmentioned { AreUnmentioned added.old.items props.old }
     ensures kept { HasKept props.old added.old.items props.new added.new.items }
@@ -115,7 +117,7 @@ fn entry_of<'a>(
     if !tests_hold(rule, &binding) {
         return Ok(None);
     }
-    let entry = entry_with(number, rule, &binding, props, added)?;
+    let entry = entry_with(alloc, number, rule, &binding, props, added)?;
     Ok(Some(entry))
 }
 
@@ -135,9 +137,9 @@ fn gather<'a>(
     ensures shown { IfOk result (λ entries. shown_entries props.new entries ≡ Some (all_entries theory.now (ground_of event.now))) }
     ensures added { IfOk result (λ entries. AddsOnly (λ id. list_any (is_named id) entries) added.old.items added.new.items) }
 {
-    let mut entries = Sequence::new(alloc);
+    let mut entries = EntryList::new(alloc);
     for (i, rule) in theory.rules.as_slice().iter().enumerate() {
-        if let Some(entry) = entry_of((i + 1) as u16, rule, event, props, added)? {
+        if let Some(entry) = entry_of(alloc, (i + 1) as u16, rule, event, props, added)? {
             entries.push(entry)?;
         }
     }
@@ -145,8 +147,8 @@ fn gather<'a>(
 }
 
 /// The entries of an event by a theory, in the order of the rules' numbers. The properties of their heads and their
-/// literals are kept in the table from then on, and those that are new are mentioned 0 times. `Err` is for want of
-/// memory, and then the table is as it was.
+/// literals are kept in the table from then on, and those that are new are mentioned 0 times. `Err`: memory ran out,
+/// and the table is as it was.
 pub fn entries_of<T: Moment>(
     alloc: Global,
     checked: &Checked,
@@ -155,8 +157,7 @@ pub fn entries_of<T: Moment>(
 ) -> Result<EntryList, NoMemory>
     ensures entries { IfOk result (λ entries. shown_entries props.new entries ≡ Some (all_entries checked.now event.now.term)) }
     ensures kept { IfOk result (λ entries. All (IsKeptEntry props.new) entries) }
-    ensures order { IfOk result (λ entries. IsStrictlyIncreasing (map (λ entry. entry.rule) entries)) }
-    ensures few { IfOk result (λ entries. length entries ≤ 64) }
+    ensures list { IfOk result IsEntryList }
     ensures named { IfOk result (λ entries. NamesAllNew props.old props.new entries) }
     ensures widened { IsWidened props.old props.new }
     ensures err { OnErr result (props.new ≡ props.old) }

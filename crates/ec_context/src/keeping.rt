@@ -7,8 +7,8 @@ ghost use Rattle.ec_context.specs.Widened.{AddsOnly, AreUnmentioned, HasKept, wi
 use ec_props::PropTable;
 use ec_terms::{GroundRef, NoMemory, PropId};
 
-/// The number of a term, which is kept from then on. A number that is new is added to `added`. A refusal leaves the
-/// table as it was.
+/// The number of a term, which is kept from then on. A number that is new is added to `added`. `Err`: memory ran
+/// out, and the table is as it was.
 pub(crate) fn keep(
     props: &mut PropTable,
     added: &mut Vec<PropId>,

@@ -11,5 +11,5 @@ mod tests;
 
 pub use activity::evaluate;
 pub use entries::entries_of;
-pub use entry::{Entry, EntryList, EntryLiteral, EntryLiterals, MOST_LITERALS};
+pub use entry::{Entry, EntryList, EntryLiteral, EntryLiterals, MOST_ENTRIES, MOST_LITERALS};
 pub use laws::evaluating_is_activity_law;

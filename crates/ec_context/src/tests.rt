@@ -232,7 +232,7 @@ fn is_entry(rt: &impl Abort, props: &PropTable, entry: &Entry, wanted: &Wanted) 
     is_kept_as(rt, props, entry.head, head)
 }
 
-/// The entries of an event. Where memory is wanting, it sees that no property is kept, and tries again.
+/// The entries of an event. It sees that no property is kept where memory ran out.
 fn entries(
     rt: &impl Abort,
     alloc: Global,
@@ -245,7 +245,7 @@ fn entries(
         Ok(entries) => Ok(entries),
         Err(NoMemory) => {
             assert!(rt; props.len() == count);
-            entries_of(alloc, checked, event, props)
+            Err(NoMemory)
         }
     }
 }

@@ -1,12 +1,12 @@
 -- From no new numbers on: what is new is unmentioned, and without it the table is as it was.
-use Rattle.std.proofs.Common.{sym, subst, ◌∙◌, arith}
+use Rattle.std.proofs.Common.{[], sym, subst, ◌∙◌}
+use Rattle.std.proofs.lemmas.List.{append-nil}
 use Rattle.ec_context.proofs.Keepings.{AreUnmentioned-none, HasKept-first, IsWidened-kept, IsWidened-same, forgotten}
-use Rattle.std.specs.List.Sorted.{IsStrictlyIncreasing}
+use Rattle.ec_terms.specs.Domain.{entries_of}
 use Rattle.ec_terms.specs.Term.{ground_of}
-use Rattle.ec_terms.proofs.DomainLemmas.{entries_of-ascend}
 use Rattle.ec_check.specs.WellFormed.{IsWellFormed}
-use Rattle.ec_context.proofs.Limits.{few_entries}
-use Rattle.ec_context.proofs.Shown.{IsKeptEntry-shown, length-shown, rules-shown}
+use Rattle.ec_context.proofs.EntryLists.{IsEntryList-shown}
+use Rattle.ec_context.proofs.Shown.{IsKeptEntry-shown}
 use Rattle.ec_context.proofs.NewNumbers.{names_all_new}
 use Rattle.ec_context.proofs.entries.entries_of.Goals as goal
 
@@ -30,14 +30,10 @@ returns-clause-widened g c = IsWidened-same c.args.props.now c.forget_each.new.p
 pub returns-in-Ok-clause-kept : goal.returns-in-Ok-clause-kept
 returns-in-Ok-clause-kept g c = IsKeptEntry-shown c.gather.new.props c.in-Ok.entries _ c.in-Ok.ensures.shown
 
-pub returns-in-Ok-clause-order : goal.returns-in-Ok-clause-order
-returns-in-Ok-clause-order g c =
-    subst IsStrictlyIncreasing (sym (rules-shown c.gather.new.props c.in-Ok.entries _ c.in-Ok.ensures.shown)) (entries_of-ascend c.theory.result.now (ground_of c.borrow.result))
-
-pub returns-in-Ok-clause-few : goal.returns-in-Ok-clause-few
-returns-in-Ok-clause-few g c =
-    let same = length-shown c.gather.new.props c.in-Ok.entries _ c.in-Ok.ensures.shown in
-    let few = few_entries c.theory.result.now (ground_of c.borrow.result) (subst IsWellFormed (sym c.theory.ensures.theory) c.theory.ensures.well_formed) in omega (arith, same, few)
+pub returns-in-Ok-clause-list : goal.returns-in-Ok-clause-list
+returns-in-Ok-clause-list g c =
+    IsEntryList-shown c.theory.result.now (ground_of c.borrow.result) (subst IsWellFormed (sym c.theory.ensures.theory) c.theory.ensures.well_formed) c.gather.new.props
+    c.in-Ok.entries (entries_of c.theory.result.now (ground_of c.borrow.result)) [] c.in-Ok.ensures.shown (append-nil (entries_of c.theory.result.now (ground_of c.borrow.result)))
 
 pub returns-in-Ok-clause-named : goal.returns-in-Ok-clause-named
 returns-in-Ok-clause-named g c =

@@ -1,5 +1,5 @@
 -- Each rule gives its entry, and a well-formed theory has few rules with few literals.
-use Rattle.std.proofs.Common.{◌≡◌, ◌<◌, ◌+◌, length, take, get_or, Some, refl, sym, ap, subst, ◌∙◌, rules, arith}
+use Rattle.std.proofs.Common.{◌≡◌, ◌++◌, ◌∷◌, [], ◌<◌, ◌+◌, length, take, get_or, Some, refl, sym, ap, subst, ◌∙◌, rules, arith}
 use Rattle.std.specs.List.{All, list_any}
 use Rattle.ec_terms.specs.Domain.{entries_from}
 use Rattle.ec_terms.specs.Term.{ground_of}
@@ -7,7 +7,8 @@ use Rattle.ec_context.specs.Entries.{is_named, shown_entries}
 use Rattle.ec_context.proofs.NewNumbers.{AddsOnly-met, AddsOnly-not_met, AddsOnly-same}
 use Rattle.ec_context.proofs.Keepings.{HasKept-same, HasKept-then}
 use Rattle.ec_context.proofs.Limits.{HasFewLiterals, few_literals, few_rules}
-use Rattle.ec_context.proofs.Rules.{shown_entries-met, shown_entries-not_met}
+use Rattle.ec_context.proofs.EntryLists.{IsEntryList-shown}
+use Rattle.ec_context.proofs.Rules.{entries-rest, shown_entries-met, shown_entries-not_met}
 use Rattle.ec_context.proofs.Shown.{shown_entries-none}
 use Rattle.ec_context.proofs.entries.gather.Goals as goal
 use Rattle.ec_context.proofs.entries.gather.Goals.{in-Some+in_ok-push, in_default}
@@ -30,6 +31,19 @@ pub entry_of-requires-clause-few : goal.entry_of-requires-clause-few
 entry_of-requires-clause-few c =
     let few : All HasFewLiterals c.args.theory.now.rules = few_literals c.args.theory.now c.requires.well_formed in
     let here : HasFewLiterals c.rule-item.result = search rules in here
+
+pub push-requires : goal.push-requires
+push-requires c =
+    let theory = c.args.theory.now in
+    let event = ground_of c.args.event.now in
+    let within : c.loop-i.i < length theory.rules = subst (λ rs. c.loop-i.i < length rs) c.as_slice-rule-items.ensures c.loop-i-test.true in
+    let here : c.rule-item.result ≡ get_or theory.rules c.loop-i.i c.rule-item.result =
+    subst (λ rs. c.rule-item.result ≡ get_or rs c.loop-i.i c.rule-item.result) c.as_slice-rule-items.ensures c.rule-item.is in
+    let kept = c.in_ok-entry.ensures.kept.kept in
+    IsEntryList-shown theory event c.requires.well_formed c.entry_of.new.props (c.loop-i.entries ++ c.in-Some.entry ∷ []) _ _
+    (shown_entries-met c.loop-i.props c.entry_of.new.props kept c.loop-i.entries theory.rules c.loop-i.i c.rule-item.result event (c.loop-i.i + 1) within here refl
+    c.loop-i.invariant.shown c.in_ok-entry.field-0 c.in-Some.entry _ c.in-Some.is c.in_ok-entry.ensures.shown refl)
+    (entries-rest c.loop-i.props c.entry_of.new.props kept c.loop-i.entries theory.rules c.loop-i.i c.rule-item.result event (c.loop-i.i + 1) within here refl c.loop-i.invariant.shown)
 
 pub loop-i-preserved : goal.loop-i-preserved
 loop-i-preserved c =

@@ -36,7 +36,7 @@ loop-literal-preserved c = record {
       c.loop-literal.invariant.kept c.in_ok-literal_of.ensures.kept;
   shown = shown_literals-more c.loop-literal.props c.literal_of.new.props c.in_ok-literal_of.ensures.kept.kept c.loop-literal.literals c.push.new.self c.in_ok-literal_of.field-0
       (ground_literal_of (values_of c.args.binding.now)) c.as_slice-literal-items.result.now c.loop-literal.literal-index c.literal-item.result
-      c.loop-literal-test.true c.literal-item.is c.loop-literal.invariant.shown c.in_ok-literal_of.ensures.shown c.push.ensures;
+      c.loop-literal-test.true c.literal-item.is c.loop-literal.invariant.shown c.in_ok-literal_of.ensures.shown c.in_ok-push.ensures.ok;
   added = AddsOnly-literal c.args.added.now.items c.loop-literal.added.items c.literal_of.new.added.items c.loop-literal.literals c.push.new.self c.in_ok-literal_of.field-0
-      c.push.ensures c.loop-literal.invariant.added c.in_ok-literal_of.ensures.added;
+      c.in_ok-push.ensures.ok c.loop-literal.invariant.added c.in_ok-literal_of.ensures.added;
 }
