@@ -17,7 +17,8 @@ use Rattle.ec_terms.proofs.DomainLemmas.{term_eq-comm, term_eq-refl}
 use Rattle.ec_terms.proofs.OrderLemmas.{term_eq-Decides}
 use Rattle.ec_axioms.specs.Timeline.{Begin, before_all, begin_at, Interval}
 use Rattle.ec_axioms.specs.Calculus.{PlainEvent, Effect, Currency, is_active, is_current, intervals_of}
-use Rattle.ec_axioms.specs.Changes.{begin_eq, interval_eq, has_event, events_only_in, kept_effects, sees_change, has_other_intervals, Counts, change_counts, entry_count, work_between}
+use Rattle.ec_axioms.specs.Changes.{begin_eq, interval_eq, has_event, events_only_in, kept_effects, sees_change, has_other_intervals, change_counts, entry_count, work_between}
+use Rattle.ec_axioms.specs.declared.event.Seen.{Seen}
 use Rattle.ec_axioms.specs.Links.{initial_properties, event_mentions, mentions_of, is_live, live_properties}
 use Rattle.ec_axioms.proofs.Ranks.{int_eq-same}
 use Rattle.ec_axioms.proofs.Members.{IsMember, IsMember-filter, IsMember-from_filter, IsPairwise, IsPairwise-filter, IsPairwise-weaker, filter_none}
@@ -72,9 +73,9 @@ has_other_intervals-none theory events p = ap not (pointwise-itself interval_eq 
 
 -- counts by their four fields
 counts_same : (seen on off props : ℕ) → seen ≡ 0 → on ≡ 0 → off ≡ 0 → props ≡ 0
-    → let counts : Counts = record { seen = seen; on = on; off = off; props = props } in counts ≡ record { seen = 0; on = 0; off = 0; props = 0 }
+    → let counts : Seen = record { seen = seen; on = on; off = off; props = props } in counts ≡ record { seen = 0; on = 0; off = 0; props = 0 }
 counts_same seen on off props a b c d =
-    let made : ℕ → ℕ → ℕ → ℕ → Counts = λ w x y z. record { seen = w; on = x; off = y; props = z } in
+    let made : ℕ → ℕ → ℕ → ℕ → Seen = λ w x y z. record { seen = w; on = x; off = y; props = z } in
     ap (λ w. made w on off props) a ∙ ap (λ x. made 0 x off props) b ∙ ap (λ y. made 0 0 y props) c ∙ ap (made 0 0 0) d
 
 -- all counts are zero
@@ -104,7 +105,7 @@ SameListChangesNothing-law theory events = (change_counts-none theory events, wo
   where
     work : work_between theory events events ≡ 0
     work =
-        ap₂ (λ (counts : Counts) singles. counts.seen + entry_count theory (singles ++ singles) + length (singles ++ singles))
+        ap₂ (λ (counts : Seen) singles. counts.seen + entry_count theory (singles ++ singles) + length (singles ++ singles))
         (change_counts-none theory events) (events_only_in-none events)
 
 -- ---- properties whose intervals differ
