@@ -1,7 +1,8 @@
 -- Before the first event that stands in one list alone, the two lists have the same events, and so all else is the same.
-use Rattle.std.proofs.Common.{◌≡◌, ℤ, ◌≤ℤ◌, ◌<ℤ◌, Bool, true, not, ◌&&◌, ◌||◌, List, map, IsTrue, sym, ap, ap₂, subst, ◌∙◌, ⊎_elim, arith}
+use Rattle.std.proofs.Common.{◌≡◌, ℤ, ◌≤ℤ◌, ◌<ℤ◌, Bool, true, not, ◌&&◌, ◌||◌, List, map, IsTrue, sym, ap, ap₂, subst, ◌∙◌, ⊎_elim, arith, IsFalse, false, filter}
 use Rattle.std.specs.Prelude.{int_lt, int_le}
-use Rattle.std.proofs.lemmas.Bool.{cases_Bool, false≢true, not_from_false}
+use Rattle.std.specs.Ordering.{int_eq}
+use Rattle.std.proofs.lemmas.Bool.{false_from_ne_true, cases_Bool, false≢true, not_from_false}
 use Rattle.std.proofs.lemmas.Int.{ints}
 use Rattle.ec_terms.specs.declared.ground.Ground.{Ground}
 use Rattle.ec_terms.specs.declared.theory.Theory.{Theory}
@@ -18,35 +19,52 @@ use Rattle.ec_axioms.proofs.Members.{IsMember, IsMember-filter, IsMember-from_fi
 use Rattle.ec_axioms.proofs.Instants.{IsPairwise-from_ascending, is_ascending-instants_of}
 use Rattle.ec_axioms.proofs.HistoryMarks.{instant-mark_at, AreAllMarked-mark_at}
 use Rattle.ec_changes.proofs.JoinedMembers.{IsMember-map, IsMember-append_left, IsMember-append_right}
-use Rattle.ec_changes.specs.QuietLaws.{PastStays, differ_from, marks_before}
+use Rattle.ec_changes.specs.QuietLaws.{single_events, EventsStay, PastStays, differ_from, marks_before}
 use Rattle.ec_changes.proofs.Activity.{is_active-each}
 use Rattle.ec_changes.proofs.KeptEvents.{kept_events-both, same_from_members}
 use Rattle.ec_changes.proofs.Quiet.{mark_at-same}
 
 -- ---- events
 
--- the events of a list before t stand in the other list too, where those that do not are at t or later
-kept_before : (these those : List PlainEvent) (t : ℤ) → ((e : PlainEvent) → IsMember (events_only_in these those) e → IsTrue (int_le t e.rank))
-    → events_before t (kept_events these those) ≡ events_before t these
+-- the events of a list that pass a test stand in the other list too, where those that do not fail it
+kept_passing : (p : PlainEvent → Bool) (these those : List PlainEvent) → ((e : PlainEvent) → IsMember (events_only_in these those) e → IsFalse (p e))
+    → filter p (kept_events these those) ≡ filter p these
 unfolding kept_events events_only_in
-kept_before these those t late =
-    filter_comm (λ (e : PlainEvent). int_lt e.rank t) (has_event those) these
-    ∙ filter_all (has_event those) (events_before t these)
+kept_passing p these those fails =
+    filter_comm p (has_event those) these
+    ∙ filter_all (has_event those) (filter p these)
     (λ e member.
-    let kept = IsMember-from_filter (λ (f : PlainEvent). int_lt f.rank t) these e member in
+    let kept = IsMember-from_filter p these e member in
     ⊎_elim (λ there. there)
     (λ absent.
     let single = IsMember-filter (λ f. not (has_event those f)) these e kept.0 (not_from_false (has_event those e) absent) in
-    absurd (false≢true (sym (int_le-not_before e.rank t kept.1) ∙ late e single)))
+    absurd (false≢true (sym (fails e single) ∙ kept.1)))
     (cases_Bool (has_event those e)))
 
--- so both lists have the same events before t
+-- so where the events of one list alone fail a test, those that pass it are the same in both
+events-passing : (p : PlainEvent → Bool) (old new : List PlainEvent) → IsTrue (is_history old) → IsTrue (is_history new)
+    → ((e : PlainEvent) → IsMember (single_events old new) e → IsFalse (p e)) → filter p old ≡ filter p new
+events-passing p old new history_old history_new fails =
+    sym (kept_passing p old new (λ e member. fails e (IsMember-append_left (events_only_in old new) (events_only_in new old) e member)))
+    ∙ ap (filter p) (kept_events-both old new history_old history_new)
+    ∙ kept_passing p new old (λ e member. fails e (IsMember-append_right (events_only_in old new) (events_only_in new old) e member))
+
+-- the law
+pub EventsStay-law : EventsStay
+EventsStay-law old new t history_old history_new none =
+    events-passing (λ e. int_eq e.rank t) old new history_old history_new
+    (λ e member. false_from_ne_true (int_eq e.rank t)
+    (λ there. subst (λ events. IsMember events e) none (IsMember-filter (λ (f : PlainEvent). int_eq f.rank t) (single_events old new) e member there)))
+
+-- both lists have the same events before t
 events_before-same : (old new : List PlainEvent) (t : ℤ) → IsTrue (is_history old) → IsTrue (is_history new) → differ_from t old new
     → events_before t old ≡ events_before t new
 events_before-same old new t history_old history_new late =
-    sym (kept_before old new t (λ e member. list_all-member (λ (f : PlainEvent). int_le t f.rank) _ e late (IsMember-append_left (events_only_in old new) (events_only_in new old) e member)))
-    ∙ ap (events_before t) (kept_events-both old new history_old history_new)
-    ∙ kept_before new old t (λ e member. list_all-member (λ (f : PlainEvent). int_le t f.rank) _ e late (IsMember-append_right (events_only_in old new) (events_only_in new old) e member))
+    events-passing (λ e. int_lt e.rank t) old new history_old history_new
+    (λ e member. reached e.rank (list_all-member (λ (f : PlainEvent). int_le t f.rank) (single_events old new) e late member))
+  where
+    reached : (s : ℤ) → int_le t s ≡ true → int_lt s t ≡ false
+    reached s from = grind (arith, ints)
 
 -- and the same events up to each earlier time
 events_up_to-same : (old new : List PlainEvent) (s t : ℤ) → events_before t old ≡ events_before t new → s <ℤ t → events_up_to s old ≡ events_up_to s new

@@ -4,21 +4,21 @@ use Rattle.std.specs.Prelude.{int_lt, int_le}
 use Rattle.std.specs.Bool.{beq}
 use Rattle.std.specs.List.{list_any, list_all}
 use Rattle.std.specs.Ordering.{int_eq}
-use Rattle.std.proofs.lemmas.Bool.{cases_Bool, false≢true}
+use Rattle.std.proofs.lemmas.Bool.{cond-false, cases_Bool, false≢true}
 use Rattle.std.proofs.lemmas.Bool.Decides.{nat_tests}
 use Rattle.std.proofs.lemmas.Int.{ints}
 use Rattle.ec_terms.specs.declared.ground.Ground.{Ground}
 use Rattle.ec_terms.specs.declared.theory.Theory.{Theory}
-use Rattle.ec_terms.specs.Domain.{GroundEntry, is_initial}
+use Rattle.ec_terms.specs.Domain.{GroundEntry, is_initial, is_strong}
 use Rattle.ec_axioms.specs.Calculus.{PlainEvent, Effect, Currency, effects_at, is_active, has_effect, is_initiated, has_break, is_current, is_initiating, is_terminating, is_clashing}
-use Rattle.ec_axioms.specs.Marks.{PlainMark, mark_at, is_marked}
+use Rattle.ec_axioms.specs.Marks.{PlainMark, mark_at, is_marked, mark_initiates, mark_breaks}
 use Rattle.ec_axioms.proofs.Effects.{any_before, any_before-same, breaks_between, current_by, is_current_on-by, effects_at-events, effects_at-none, is_initiated-same, has_break-same}
 use Rattle.ec_axioms.proofs.Rounds.{is_current-equation}
 use Rattle.ec_axioms.proofs.Ranks.{int_lt-next}
 use Rattle.ec_axioms.proofs.LastInstant.{is_current-last}
 use Rattle.ec_axioms.proofs.Members.{IsMember, filter_none, list_any-false}
 use Rattle.ec_changes.specs.Differences.{differs, entries_at, reads, IsQuiet}
-use Rattle.ec_changes.specs.QuietLaws.{CurrencyGoesOn, QuietInstantsPassOn, QuietStretchesPassOn}
+use Rattle.ec_changes.specs.QuietLaws.{current_behind, CurrencyBehindMarks, CurrencyGoesOn, QuietInstantsPassOn, QuietStretchesPassOn}
 use Rattle.ec_changes.proofs.Activity.{differs-not, rank-entries_at, is_active-unread, effects_at-agree}
 
 -- ---- the next whole number
@@ -91,30 +91,24 @@ CurrencyGoesOn-law theory events p t =
     unchanged : (current initiated broken : Bool) → IsFalse initiated → IsFalse broken → current ≡ (initiated || (current && not broken))
     unchanged current initiated broken a b = grind arith
 
+-- what is initiated, current and broken, by a mark
+current_behind-mark : (strong current : Bool) (mark : PlainMark)
+    → (mark_initiates mark || (current && not (mark_breaks strong mark))) ≡ current_behind current mark
+current_behind-mark strong current mark = grind (arith, nat_tests)
+
+-- the law
+pub CurrencyBehindMarks-law : CurrencyBehindMarks
+unfolding mark_at has_break has_effect
+CurrencyBehindMarks-law theory events p t =
+    CurrencyGoesOn-law theory events p t ∙ current_behind-mark (is_strong theory p) (is_current theory events p t) (mark_at theory events p t)
+
 -- ---- quiet instants
 
--- a property without a mark is not initiated and has no break
-not_marked-initiated : (theory : Theory) (events : List PlainEvent) (p : Ground) (t : ℤ) → IsFalse (is_marked (mark_at theory events p t))
-    → IsFalse (is_initiated theory events (is_current theory events) p t)
-unfolding mark_at has_effect
-not_marked-initiated theory events p t none = grind (arith, nat_tests)
-
-not_marked-broken : (theory : Theory) (events : List PlainEvent) (p : Ground) (t : ℤ) → IsFalse (is_marked (mark_at theory events p t))
-    → IsFalse (has_break theory events (is_current theory events) p t)
-unfolding mark_at has_break has_effect
-not_marked-broken theory events p t none = grind (arith, nat_tests)
-
--- so its currency goes on
+-- a property without a mark keeps its currency
 not_marked-current : (theory : Theory) (events : List PlainEvent) (p : Ground) (t : ℤ) → IsFalse (is_marked (mark_at theory events p t))
     → is_current theory events p (t +ℤ pos 1) ≡ is_current theory events p t
 not_marked-current theory events p t none =
-    let step = CurrencyGoesOn-law theory events p t in
-    let initiated = not_marked-initiated theory events p t none in
-    let broken = not_marked-broken theory events p t none in
-    step ∙ goes_on (is_current theory events p t) _ _ initiated broken
-  where
-    goes_on : (current initiated broken : Bool) → IsFalse initiated → IsFalse broken → (initiated || (current && not broken)) ≡ current
-    goes_on current initiated broken a b = grind arith
+    CurrencyBehindMarks-law theory events p t ∙ cond-false (is_marked (mark_at theory events p t)) _ _ none
 
 -- effects that are the same give the same mark
 pub mark_at-same : (theory : Theory) (old new : List PlainEvent) (p : Ground) (t : ℤ)
@@ -162,16 +156,11 @@ module _ (theory : Theory) (old new : List PlainEvent) (t : ℤ) (quiet : IsQuie
       (not_marked-current theory new p t (subst (λ (mark : PlainMark). IsFalse (is_marked mark)) (sym (quiet-mark p)) none)))
       (λ same.
       let now = differs-not theory old new p t same in
-      let initiated = is_initiated-same theory old new (is_current theory old) (is_current theory new) p t quiet-effects in
-      let broken = has_break-same theory old new (is_current theory old) (is_current theory new) p t quiet-effects in
       let next : is_current theory old p (t +ℤ pos 1) ≡ is_current theory new p (t +ℤ pos 1) =
-      CurrencyGoesOn-law theory old p t ∙ next_same _ _ _ _ _ _ initiated now broken ∙ sym (CurrencyGoesOn-law theory new p t) in
+      CurrencyBehindMarks-law theory old p t ∙ ap₂ current_behind now (sym (quiet-mark p)) ∙ sym (CurrencyBehindMarks-law theory new p t) in
       ap₂ (λ x y. not (beq x y)) next refl ∙ not_beq _ ∙ sym (ap₂ (λ x y. not (beq x y)) now refl ∙ not_beq _))
       (cases_Bool (differs theory old new p t))
     where
-      next_same : (i j c d b e : Bool) → i ≡ j → c ≡ d → b ≡ e → (i || (c && not b)) ≡ (j || (d && not e))
-      next_same i j c d b e x y z = ap₂ (λ u v. u || v) x (ap₂ (λ u v. u && not v) y z)
-
       not_beq : (b : Bool) → not (beq b b) ≡ false
       not_beq true = refl
       not_beq false = refl

@@ -1,5 +1,5 @@
 -- The account of an instant: what takes effect in the new list, what took effect in the old one, and what turned between.
-use Rattle.std.proofs.Common.{◌≡◌, ℕ, ◌+◌, ℤ, Bool, false, not, ◌&&◌, List, [], ◌∷◌, length, filter, refl, sym, ap, ap₂, ◌∙◌, arith}
+use Rattle.std.proofs.Common.{◌≡◌, ℕ, ◌+◌, ℤ, Bool, false, not, ◌&&◌, List, [], ◌∷◌, length, filter, refl, sym, ap, ap₂, subst, ◌∙◌, arith, IsTrue}
 use Rattle.std.specs.List.{sum_by}
 use Rattle.std.specs.Bool.{beq}
 use Rattle.std.specs.Ordering.{int_eq}
@@ -10,10 +10,13 @@ use Rattle.ec_axioms.specs.Plain.{events_at}
 use Rattle.ec_axioms.specs.Calculus.{PlainEvent, Currency, is_active, effects_at, is_current, is_initiating, is_terminating, is_clashing}
 use Rattle.ec_axioms.specs.Marks.{mark_at}
 use Rattle.ec_axioms.specs.Changes.{has_event, kept_events, events_only_in, sees_change}
-use Rattle.ec_axioms.proofs.Members.{filter_comm, list_any-false}
+use Rattle.ec_axioms.proofs.Members.{filter_comm, list_any-false, list_any-member, member-list_any}
+use Rattle.ec_changes.specs.Differences.{differs, reads}
 use Rattle.ec_changes.specs.Turns.{kept_entries_at, gained, lost}
-use Rattle.ec_changes.specs.TurnLaws.{UnseenStays, EffectsFollowTurns, MarksFollowTurns}
-use Rattle.ec_changes.proofs.Activity.{is_active-each}
+use Rattle.ec_terms.specs.Term.{term_eq}
+use Rattle.ec_terms.proofs.OrderLemmas.{term_eq-Decides}
+use Rattle.ec_changes.specs.TurnLaws.{SeeingIsReading, UnseenStays, EffectsFollowTurns, MarksFollowTurns}
+use Rattle.ec_changes.proofs.Activity.{is_active-each, reads-literal}
 use Rattle.ec_changes.proofs.KeptEvents.{kept_events-both}
 use Rattle.ec_changes.proofs.Tallies.{effects_of_event, length-effects_at}
 
@@ -31,6 +34,20 @@ UnseenStays-law theory old new effect unseen =
   where
     same : (a b : Bool) → not (beq a b) ≡ false → a ≡ b
     same a b equal = grind arith
+
+-- the law
+pub SeeingIsReading-law : SeeingIsReading
+unfolding sees_change differs reads
+SeeingIsReading-law theory old new effect = (
+  λ seen. let found = list_any-member changed effect.entry.literals seen in (found.0.prop, found.2, reads-literal effect found.0 found.1),
+  λ known.
+      let found = list_any-member (λ (literal : GroundLiteral). term_eq literal.prop known.0) effect.entry.literals known.2 in
+      let same : found.0.prop ≡ known.0 = (term_eq-Decides found.0.prop known.0).0 found.2 in
+      member-list_any changed effect.entry.literals found.0 found.1 (subst (λ p. IsTrue (differs theory old new p effect.event.rank)) (sym same) known.1),
+)
+  where
+    changed : GroundLiteral → Bool
+    changed literal = not (beq (is_current theory old literal.prop effect.event.rank) (is_current theory new literal.prop effect.event.rank))
 
 -- ---- accounts
 

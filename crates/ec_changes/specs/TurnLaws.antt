@@ -1,22 +1,29 @@
 -- The laws of what turned between two lists of events, as statements.
-use Rattle.std.specs.Prelude.{◌≡◌, ◌+◌, Bool, List, ℤ, length, IsTrue, IsFalse}
+use Rattle.std.specs.Prelude.{◌≡◌, ◌↔◌, ◌+◌, Bool, List, ℤ, length, IsTrue, IsFalse}
 use Rattle.ec_terms.specs.declared.ground.Ground.{Ground}
 use Rattle.ec_terms.specs.declared.theory.Theory.{Theory}
 use Rattle.ec_terms.specs.Domain.{GroundEntry}
 use Rattle.ec_axioms.specs.Calculus.{PlainEvent, Effect, is_active, effects_at, is_current, is_initiating, is_terminating, is_clashing}
 use Rattle.ec_axioms.specs.Marks.{mark_at}
-use Rattle.ec_axioms.specs.Changes.{is_history, kept_events, sees_change}
-use Rattle.ec_changes.specs.Turns.{gained, lost}
+use Rattle.ec_axioms.specs.Changes.{is_history, kept_events}
+use Rattle.ec_changes.specs.Differences.{differs, reads}
+use Rattle.ec_changes.specs.Turns.{sees, gained, lost}
 
 -- What stands in both of two histories is one list, whichever of the two it is taken from.
 abbrev pub KeptIsOfBoth : Type 0
 KeptIsOfBoth =
     (old new : List PlainEvent) → IsTrue (is_history old) → IsTrue (is_history new) → kept_events old new ≡ kept_events new old
 
+-- An entry sees a change exactly when it reads a property that differs at its time.
+abbrev pub SeeingIsReading : Type 0
+SeeingIsReading =
+    (theory : Theory) (old new : List PlainEvent) (effect : Effect)
+    → IsTrue (sees theory old new effect) ↔ ((p : Ground) × IsTrue (differs theory old new p effect.event.rank) × IsTrue (reads p effect))
+
 -- An entry that sees no change is active in both lists, or in neither.
 abbrev pub UnseenStays : Type 0
 UnseenStays =
-    (theory : Theory) (old new : List PlainEvent) (effect : Effect) → IsFalse (sees_change (is_current theory old) (is_current theory new) effect)
+    (theory : Theory) (old new : List PlainEvent) (effect : Effect) → IsFalse (sees theory old new effect)
     → is_active (is_current theory old) effect ≡ is_active (is_current theory new) effect
 
 -- What takes effect at an instant in the new list is what took effect there in the old one, with what was gained and

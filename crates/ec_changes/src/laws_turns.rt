@@ -1,10 +1,15 @@
 //! What turned between two histories, each law the contract of a function: how the effects and the marks at an instant
 //! follow from those of the old list and the entries that came to act there or ceased to.
-ghost use Rattle.ec_changes.specs.TurnLaws.{EffectsFollowTurns, KeptIsOfBoth, MarksFollowTurns, UnseenStays};
+ghost use Rattle.ec_changes.specs.TurnLaws.{EffectsFollowTurns, KeptIsOfBoth, MarksFollowTurns, SeeingIsReading, UnseenStays};
 
 /// The events that stand in both of two histories are one list, in one order, whichever of the two they are taken from.
 pub fn kept_is_of_both_law()
     ensures { KeptIsOfBoth }
+{}
+
+/// An entry sees a change exactly when it has a literal on a property whose currency differs at its time.
+pub fn seeing_is_reading_law()
+    ensures { SeeingIsReading }
 {}
 
 /// An entry turns only where it sees a change: if no property that it reads has another currency at its time, it is

@@ -18,8 +18,8 @@ pub use laws_live::{
     not_live_is_unknown_law, what_differs_is_live_law,
 };
 pub use laws_quiet::{
-    currency_goes_on_law, past_stays_law, quiet_instants_pass_on_law, quiet_stretches_pass_on_law,
+    currency_behind_marks_law, currency_goes_on_law, events_stay_law, past_stays_law, quiet_instants_pass_on_law, quiet_stretches_pass_on_law,
 };
 pub use laws_turns::{
-    effects_follow_turns_law, kept_is_of_both_law, marks_follow_turns_law, unseen_stays_law,
+    effects_follow_turns_law, kept_is_of_both_law, marks_follow_turns_law, seeing_is_reading_law, unseen_stays_law,
 };
