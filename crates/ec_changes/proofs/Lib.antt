@@ -10,3 +10,5 @@ pub mod TermOrder
 pub mod LinkSteps
 pub mod KeptCounts
 pub mod SameList
+pub mod TwoTimelines
+pub mod Inert

@@ -14,7 +14,7 @@ use Rattle.ec_axioms.specs.Marks.{PlainMark, mark_at, marks_of, is_marked}
 use Rattle.ec_axioms.specs.Changes.{is_history, has_event, kept_events, events_only_in}
 use Rattle.ec_axioms.proofs.Effects.{filter-filter_wider, is_initiated-same, has_break-same}
 use Rattle.ec_axioms.proofs.Rounds.{is_current-past, effects_at-past, is_current-equation}
-use Rattle.ec_axioms.proofs.Ranks.{le_int_le, int_lt-not_after, int_lt-same, int_le-not_before}
+use Rattle.ec_axioms.proofs.Ranks.{le_int_le, int_lt-not_after, int_lt-same}
 use Rattle.ec_axioms.proofs.Members.{IsMember, IsMember-filter, IsMember-from_filter, IsMember-from_map, IsPairwise, IsPairwise-filter, IsPairwise-map, IsPairwise-weaker, filter_all, filter_comm, list_all-member}
 use Rattle.ec_axioms.proofs.Instants.{IsPairwise-from_ascending, is_ascending-instants_of}
 use Rattle.ec_axioms.proofs.HistoryMarks.{instant-mark_at, AreAllMarked-mark_at}

@@ -12,7 +12,7 @@ use Rattle.ec_terms.specs.declared.theory.Theory.{Theory}
 use Rattle.ec_terms.specs.Domain.{GroundEntry, is_initial, is_strong}
 use Rattle.ec_axioms.specs.Calculus.{PlainEvent, Effect, Currency, effects_at, is_active, has_effect, is_initiated, has_break, is_current, is_initiating, is_terminating, is_clashing}
 use Rattle.ec_axioms.specs.Marks.{PlainMark, mark_at, is_marked, mark_initiates, mark_breaks}
-use Rattle.ec_axioms.proofs.Effects.{any_before, any_before-same, breaks_between, current_by, is_current_on-by, effects_at-events, effects_at-none, is_initiated-same, has_break-same}
+use Rattle.ec_axioms.proofs.Effects.{any_before, any_before-same, breaks_between, current_by, is_current_on-by, effects_at-events, effects_at-none}
 use Rattle.ec_axioms.proofs.Rounds.{is_current-equation}
 use Rattle.ec_axioms.proofs.Ranks.{int_lt-next}
 use Rattle.ec_axioms.proofs.LastInstant.{is_current-last}

@@ -5,3 +5,4 @@ pub mod TurnLaws
 pub mod LiveLaws
 pub mod LinkLaws
 pub mod CountLaws
+pub mod IntervalLaws

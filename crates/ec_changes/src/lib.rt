@@ -3,6 +3,7 @@
 #![tactic(auto)]
 
 mod laws_counts;
+mod laws_inert;
 mod laws_links;
 mod laws_live;
 mod laws_quiet;
@@ -12,14 +13,17 @@ pub use laws_counts::{
     counts_are_sums_law, kept_counts_are_whole_law, kept_counts_go_on_law,
     properties_in_any_list_law, quiet_counts_nothing_law, same_list_changes_nothing_law,
 };
+pub use laws_inert::inert_changes_keep_intervals_law;
 pub use laws_links::{links_are_of_mentions_law, links_in_any_order_law, one_mention_more_law};
 pub use laws_live::{
     clashes_are_initiations_law, marks_are_small_law, not_live_is_gathered_law,
     not_live_is_unknown_law, what_differs_is_live_law,
 };
 pub use laws_quiet::{
-    currency_behind_marks_law, currency_goes_on_law, events_stay_law, past_stays_law, quiet_instants_pass_on_law, quiet_stretches_pass_on_law,
+    currency_behind_marks_law, currency_goes_on_law, events_stay_law, past_stays_law,
+    quiet_instants_pass_on_law, quiet_stretches_pass_on_law,
 };
 pub use laws_turns::{
-    effects_follow_turns_law, kept_is_of_both_law, marks_follow_turns_law, seeing_is_reading_law, unseen_stays_law,
+    effects_follow_turns_law, kept_is_of_both_law, marks_follow_turns_law, seeing_is_reading_law,
+    unseen_stays_law,
 };
