@@ -1,8 +1,8 @@
 -- Changes that leave the intervals: the timelines of both lists agree wherever the property is current or initiated.
-use Rattle.std.proofs.Common.{◌≡◌, ◌⊎◌, ℤ, pos, ◌+ℤ◌, Bool, true, false, List, [], ◌∷◌, IsTrue, refl, sym, ap, ap₂, ◌∙◌, inl, inr, ⊎_elim, arith}
+use Rattle.std.proofs.Common.{◌≡◌, ◌⊎◌, ℤ, pos, ◌+ℤ◌, Bool, true, false, List, [], ◌∷◌, IsTrue, refl, sym, ap, ap₂, ◌∙◌, inl, inr, ⊎_elim, arith, ◌||◌}
 use Rattle.std.specs.Prelude.{int_lt, int_le}
 use Rattle.std.specs.List.{list_all}
-use Rattle.std.proofs.lemmas.Bool.{cases_Bool, and_parts, and_from, false≢true}
+use Rattle.std.proofs.lemmas.Bool.{or_left, or_right, cases_Bool, and_parts, and_from, false≢true}
 use Rattle.std.proofs.lemmas.Bool.Decides.{nat_tests}
 use Rattle.std.proofs.lemmas.Int.{ints}
 use Rattle.ec_terms.specs.declared.ground.Ground.{Ground}
@@ -60,13 +60,9 @@ is_current-before_all theory events p a all =
 
 -- ---- timelines by marks
 
--- a mark that initiates has a count
-marked-initiates : (mark : PlainMark) → IsTrue (mark_initiates mark) → IsTrue (is_marked mark)
-marked-initiates mark initiates = grind (arith, nat_tests)
-
--- and so has one that breaks
-marked-breaks : (strong : Bool) (mark : PlainMark) → IsTrue (mark_breaks strong mark) → IsTrue (is_marked mark)
-marked-breaks strong mark breaks = grind (arith, nat_tests)
+-- a mark that initiates or breaks has a count
+marked-happens : (strong : Bool) (mark : PlainMark) → IsTrue (mark_initiates mark || mark_breaks strong mark) → IsTrue (is_marked mark)
+marked-happens strong mark happens = grind (arith, nat_tests)
 
 -- a mark that does not initiate leaves a property that is not current as it is
 current_behind-none : (mark : PlainMark) → mark.inits ≡ 0 → current_behind false mark ≡ false
@@ -136,8 +132,8 @@ lines-agree theory old new p history same inert = record {
       (λ initiated. false≢true (sym (not_initiates (mark_at theory old p t) here.no_inits_in_old) ∙ initiated)) alive)) (inert t);
   terminated = λ t current. ⊎_elim (λ marks. ap mark_terminates marks)
       (λ here. absurd (false≢true (sym here.not_in_old ∙ line-current theory old p t ∙ current))) (inert t);
-  has_initiated = λ t initiated. AreAllMarked-mark_at theory old p t (marked-initiates (mark_at theory old p t) initiated);
-  has_broken = λ t broken. AreAllMarked-mark_at theory old p t (marked-breaks (is_strong theory p) (mark_at theory old p t) broken);
+  has_initiated = λ t initiated. AreAllMarked-mark_at theory old p t (marked-happens (is_strong theory p) (mark_at theory old p t) (or_left _ _ initiated));
+  has_broken = λ t broken. AreAllMarked-mark_at theory old p t (marked-happens (is_strong theory p) (mark_at theory old p t) (or_right _ _ broken));
 }
 
 -- the law

@@ -12,3 +12,5 @@ pub mod KeptCounts
 pub mod SameList
 pub mod TwoTimelines
 pub mod Inert
+pub mod EventMentions
+pub mod LiveLists

@@ -23,7 +23,8 @@ use Rattle.ec_axioms.specs.Links.{initial_properties, event_mentions, mentions_o
 use Rattle.ec_axioms.proofs.Ranks.{int_eq-same}
 use Rattle.ec_axioms.proofs.Members.{IsMember, IsMember-filter, IsMember-from_filter, IsPairwise, IsPairwise-filter, IsPairwise-weaker, filter_none}
 use Rattle.ec_changes.specs.Turns.{turns_on, turns_off}
-use Rattle.ec_changes.specs.CountLaws.{NamesInitials, PropertiesInAnyList, SameListChangesNothing}
+use Rattle.ec_changes.specs.LiveLaws.{ListsInitials}
+use Rattle.ec_changes.specs.CountLaws.{PropertiesInAnyList, SameListChangesNothing}
 use Rattle.ec_changes.proofs.JoinedMembers.{IsMember-append_left, IsMember-append_right}
 use Rattle.ec_changes.proofs.KeptEvents.{has_event-member}
 use Rattle.ec_changes.proofs.LiveMarks.{not_live-unknown}
@@ -125,11 +126,11 @@ is_live-other_intervals theory old new p other =
     (cases_Bool (is_live theory old p))
 
 -- what is live in a list stands among its initial properties or its mentions
-IsMember-from_live : (theory : Theory) (events : List PlainEvent) (p : Ground) → NamesInitials theory → IsTrue (is_live theory events p)
+IsMember-from_live : (theory : Theory) (events : List PlainEvent) (p : Ground) → ListsInitials theory → IsTrue (is_live theory events p)
     → IsMember (initial_properties theory) p ⊎ IsMember (mentions_of theory events) p
 unfolding is_live
 IsMember-from_live theory events p names live =
-    ⊎_elim (λ initial. inl (IsMember-from_test (initial_properties theory) p (names p initial)))
+    ⊎_elim (λ initial. inl (IsMember-from_test (initial_properties theory) p (sym (names p) ∙ initial)))
     (λ mentioned. inr (IsMember-from_test (mentions_of theory events) p mentioned))
     (or_cases (is_initial theory p) (list_any (term_eq p) (mentions_of theory events)) live)
 

@@ -26,10 +26,13 @@ IsBelow-one_way : (p q : Ground) → IsBelow p q → IsBelow q p → ⊥
 IsBelow-one_way p q below above = IsBelow-itself p (term_cmp-total.trans p q p below above)
 
 -- the test of the order
-is_lt-below : (r : Ordering) → IsTrue (is_lt r) → r ≡ Less
-is_lt-below Less lt = refl
-is_lt-below Equal lt = absurd (false≢true lt)
-is_lt-below Greater lt = absurd (false≢true lt)
+below_from : (p q : Ground) → IsTrue (is_lt (term_cmp p q)) → IsBelow p q
+below_from p q below = by_order (term_cmp p q) below
+  where
+    by_order : (r : Ordering) → IsTrue (is_lt r) → r ≡ Less
+    by_order Less lt = refl
+    by_order Equal lt = absurd (false≢true lt)
+    by_order Greater lt = absurd (false≢true lt)
 
 -- a property that is not another, and not below it, is above it
 above_from : (p q : Ground) → IsFalse (term_eq p q) → IsFalse (is_lt (term_cmp p q)) → IsBelow q p
@@ -77,7 +80,7 @@ IsPairwise-with_property p (r ∷ properties) ascend =
     (λ different. cond_both (is_lt (term_cmp p r)) (p ∷ r ∷ properties) (r ∷ with_property p properties)
     (IsPairwise IsBelow)
     (λ below.
-    let first : IsBelow p r = is_lt-below (term_cmp p r) below in
+    let first : IsBelow p r = below_from p r below in
     (λ q. ⊎_elim (λ same. subst (IsBelow p) same first) (λ later. term_cmp-total.trans p r q first (ascend.0 q later)), ascend))
     (λ not_below. (
       λ q member. ⊎_elim (λ new. subst (IsBelow r) new (above_from p r different not_below)) (λ old. ascend.0 q old) (IsMember-from_with_property p properties q member),
@@ -138,7 +141,7 @@ length-filter-with_property test p (r ∷ properties) ascend =
     (λ different. cond_both (is_lt (term_cmp p r)) (p ∷ r ∷ properties) (r ∷ with_property p properties)
     (λ list. length (filter test list) ≡ length (filter test (r ∷ properties)) + cond (term_eq p r || list_any (term_eq p) properties) 0 (cond (test p) 1 0))
     (λ below.
-    let first : IsBelow p r = is_lt-below (term_cmp p r) below in
+    let first : IsBelow p r = below_from p r below in
     let absent = not_below_all p properties (λ q later. term_cmp-total.trans p r q first (ascend.0 q later)) in
     let nowhere : (term_eq p r || list_any (term_eq p) properties) ≡ false = grind arith in grind arith)
     (λ not_below. let rest = length-filter-with_property test p properties ascend.1 in grind arith))

@@ -5,10 +5,9 @@ use Rattle.std.specs.Ordering.{int_eq}
 use Rattle.ec_terms.specs.declared.ground.Ground.{Ground}
 use Rattle.ec_terms.specs.declared.theory.Theory.{Theory}
 use Rattle.ec_terms.specs.Term.{term_eq}
-use Rattle.ec_terms.specs.Domain.{is_initial}
 use Rattle.ec_axioms.specs.Calculus.{PlainEvent, Effect}
 use Rattle.ec_axioms.specs.Changes.{kept_events, kept_effects, change_counts, work_between, has_other_intervals}
-use Rattle.ec_axioms.specs.Links.{initial_properties}
+use Rattle.ec_changes.specs.LiveLaws.{ListsInitials}
 use Rattle.ec_changes.specs.Differences.{differs, entries_at, IsQuiet}
 use Rattle.ec_changes.specs.Turns.{turns_on, turns_off, sees, kept_count}
 
@@ -51,14 +50,10 @@ CountsAreSums =
     (theory : Theory) (old new : List PlainEvent) (instants : List ℤ) → IsDistinct int_eq instants
     → IsTrue (list_all (λ e. list_any (int_eq e.rank) instants) (kept_events old new)) → SumsOver theory old new instants
 
--- each property that is initial stands among the initial properties, as it does in a theory without variables in them
-abbrev pub NamesInitials : Theory → Type 0
-NamesInitials theory = (p : Ground) → IsTrue (is_initial theory p) → IsTrue (list_any (term_eq p) (initial_properties theory))
-
 -- The properties whose intervals differ may be counted in any list that has each of them and has none twice.
 abbrev pub PropertiesInAnyList : Type 0
 PropertiesInAnyList =
-    (theory : Theory) (old new : List PlainEvent) (properties : List Ground) → NamesInitials theory → IsDistinct term_eq properties
+    (theory : Theory) (old new : List PlainEvent) (properties : List Ground) → ListsInitials theory → IsDistinct term_eq properties
     → ((p : Ground) → IsTrue (has_other_intervals theory old new p) → IsTrue (list_any (term_eq p) properties))
     → (change_counts theory old new).props ≡ length (filter (has_other_intervals theory old new) properties)
 

@@ -1,12 +1,15 @@
 -- The laws of marks by the properties that are live, as statements.
-use Rattle.std.specs.Prelude.{◌≡◌, ℕ, ◌≤◌, ◌||◌, List, [], ℤ, length, filter, sum_by, IsTrue, IsFalse}
-use Rattle.std.specs.List.{list_any, IsDistinct}
+use Rattle.std.specs.Prelude.{Bool, true, false, ◌≡◌, ℕ, ◌≤◌, ◌||◌, List, [], ℤ, length, filter, sum_by, IsTrue, IsFalse}
+use Rattle.std.specs.List.{list_any, list_all, IsDistinct}
 use Rattle.ec_terms.specs.declared.ground.Ground.{Ground}
+use Rattle.ec_terms.specs.declared.pattern.PatArg.{PatArg}
+use Rattle.ec_terms.specs.declared.pattern.PatArg.TheVariants.{Var, Any, Fixed}
+use Rattle.ec_terms.specs.declared.theory.Initial.{Initial}
 use Rattle.ec_terms.specs.declared.theory.Theory.{Theory}
 use Rattle.ec_terms.specs.Term.{term_eq}
-use Rattle.ec_terms.specs.Domain.{are_exclusive}
+use Rattle.ec_terms.specs.Domain.{are_exclusive, is_initial}
 use Rattle.ec_axioms.specs.Calculus.{PlainEvent, is_current, intervals_of, broken_of}
-use Rattle.ec_axioms.specs.Links.{mentions_of, is_live}
+use Rattle.ec_axioms.specs.Links.{mentions_of, is_live, initial_properties, live_properties}
 use Rattle.ec_axioms.specs.Marks.{PlainMark, mark_at}
 use Rattle.ec_changes.specs.Differences.{differs}
 
@@ -60,3 +63,27 @@ pub record CountsAtMost (n : ℕ) (mark : PlainMark) : Type 0 where
 abbrev pub MarksAreSmall : Type 0
 MarksAreSmall =
     (theory : Theory) (events : List PlainEvent) (p : Ground) (t : ℤ) → CountsAtMost (length (mentions_of theory events)) (mark_at theory events p t)
+
+-- ---- initial properties
+
+-- a place of a pattern is a fixed argument
+abbrev pub is_fixed : PatArg → Bool
+is_fixed (Fixed a) = true
+is_fixed (Var v) = false
+is_fixed Any = false
+
+-- the properties that are initial are those that the theory lists
+abbrev pub ListsInitials : Theory → Type 0
+ListsInitials theory = (p : Ground) → is_initial theory p ≡ list_any (term_eq p) (initial_properties theory)
+
+-- A theory that declares initial properties without variables lists them.
+abbrev pub FixedInitialsAreListed : Type 0
+FixedInitialsAreListed =
+    (theory : Theory) → IsTrue (list_all (λ (initial : Initial). list_all is_fixed initial.prop.args) theory.initials) → ListsInitials theory
+
+-- There a property is live exactly when it stands among the live properties, which have none twice.
+abbrev pub LiveIsListed : Type 0
+LiveIsListed =
+    (theory : Theory) (events : List PlainEvent) → ListsInitials theory
+    → HasLive theory events (live_properties theory events)
+    × ((p : Ground) → is_live theory events p ≡ list_any (term_eq p) (live_properties theory events))

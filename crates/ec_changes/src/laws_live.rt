@@ -1,6 +1,6 @@
 //! What marks owe to the properties that are live, each law the contract of a function: clashes by the initiations of
 //! neighbours, what is known of a property that is not live, and how large a count can be.
-ghost use Rattle.ec_changes.specs.LiveLaws.{ClashesAreInitiations, MarksAreSmall, NotLiveIsGathered, NotLiveIsUnknown, WhatDiffersIsLive};
+ghost use Rattle.ec_changes.specs.LiveLaws.{ClashesAreInitiations, FixedInitialsAreListed, LiveIsListed, MarksAreSmall, NotLiveIsGathered, NotLiveIsUnknown, WhatDiffersIsLive};
 
 /// The clashes of a property at an instant are the initiations there of the properties that are exclusive to it, summed
 /// over any list that has each live property and none twice. So clashes need no count of their own: one initiation that
@@ -25,8 +25,18 @@ pub fn what_differs_is_live_law()
     ensures { WhatDiffersIsLive }
 {}
 
-/// Each count of a mark is at most the number of mentions of its list, so it fits 32 bits wherever the limit on mentions
-/// is kept.
+/// Each count of a mark is at most the number of mentions of its list, so a limit on mentions is one on counts.
 pub fn marks_are_small_law()
     ensures { MarksAreSmall }
+{}
+
+/// In a theory whose initial properties have no variables, the properties that are initial are those that it lists.
+pub fn fixed_initials_are_listed_law()
+    ensures { FixedInitialsAreListed }
+{}
+
+/// In such a theory a property is live exactly when it stands among the live properties in term order, and none stands
+/// there twice.
+pub fn live_is_listed_law()
+    ensures { LiveIsListed }
 {}

@@ -8,16 +8,21 @@ mod laws_links;
 mod laws_live;
 mod laws_quiet;
 mod laws_turns;
+pub mod worked_changes;
 
 pub use laws_counts::{
     counts_are_sums_law, kept_counts_are_whole_law, kept_counts_go_on_law,
     properties_in_any_list_law, quiet_counts_nothing_law, same_list_changes_nothing_law,
 };
 pub use laws_inert::inert_changes_keep_intervals_law;
-pub use laws_links::{links_are_of_mentions_law, links_in_any_order_law, one_mention_more_law};
+pub use laws_links::{
+    links_are_of_mentions_law, links_in_any_order_law, mentions_with_event_law,
+    mentions_without_event_law, one_mention_more_law,
+};
 pub use laws_live::{
-    clashes_are_initiations_law, marks_are_small_law, not_live_is_gathered_law,
-    not_live_is_unknown_law, what_differs_is_live_law,
+    clashes_are_initiations_law, fixed_initials_are_listed_law, live_is_listed_law,
+    marks_are_small_law, not_live_is_gathered_law, not_live_is_unknown_law,
+    what_differs_is_live_law,
 };
 pub use laws_quiet::{
     currency_behind_marks_law, currency_goes_on_law, events_stay_law, past_stays_law,

@@ -1,0 +1,19 @@
+-- Both sides compute to the same.
+use Rattle.std.proofs.Common.{refl}
+use Rattle.ec_terms.specs.Term.{arg_eq, arg_cmp, term_eq, term_cmp}
+use Rattle.ec_terms.specs.Matching.{value_of, is_value, place_fits, places_fit, fits, first_value, fits_some, filled}
+use Rattle.ec_terms.specs.Domain.{meets, entry_of, entries_from, both_fit, excludes, are_exclusive, is_strong, is_initial}
+use Rattle.ec_axioms.specs.Calculus.{instants_of, effects_of, agrees, is_active, effects_at, is_initiating, is_terminating, is_clashing, has_effect, has_break, timeline_by, timeline_of, round_current, is_current}
+use Rattle.ec_axioms.specs.Marks.{mark_at}
+use Rattle.ec_axioms.specs.Links.{mentions_of, live_properties, link_count}
+use Rattle.ec_axioms.specs.Changes.{event_eq, has_event, kept_events, events_only_in, kept_effects, sees_change}
+use Rattle.ec_axioms.specs.Examples.{lamp_rules, one_place, theory_a, three_pushes, four_pushes}
+use Rattle.ec_changes.specs.Differences.{differs}
+use Rattle.ec_changes.specs.Turns.{gained, lost, kept_count}
+use Rattle.ec_changes.specs.LiveLaws.{neighbour_inits}
+use Rattle.ec_changes.specs.LinkLaws.{links_of}
+use Rattle.ec_changes.proofs.worked_changes.late_push_differs_from_then_on.Goals as goal
+
+pub returns : goal.returns
+unfolding arg_eq arg_cmp term_eq term_cmp value_of is_value place_fits places_fit fits first_value fits_some filled meets entry_of entries_from both_fit excludes are_exclusive is_strong is_initial instants_of effects_of agrees is_active effects_at is_initiating is_terminating is_clashing has_effect has_break timeline_by timeline_of round_current is_current mark_at mentions_of live_properties link_count event_eq has_event kept_events events_only_in kept_effects sees_change differs gained lost kept_count neighbour_inits links_of lamp_rules one_place theory_a three_pushes four_pushes
+returns c = record { same_at_7 = refl; lit_behind_7 = refl; differs_at_8 = refl; differs_at_31 = refl; power_stays = refl; gained_at_7 = refl; lost_at_10 = refl; gained_at_10 = refl; seen_before_10 = refl; seen_before_11 = refl; seen_before_31 = refl }
