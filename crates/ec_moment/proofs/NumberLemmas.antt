@@ -10,6 +10,7 @@ use Rattle.std.proofs.lemmas.Str.Parse.{IsNumeralModel, numerals_by_value, tells
 use Rattle.std.specs.Int.{IsInRange}
 use Rattle.std.specs.Str.{all_ascii_digits}
 use Rattle.std.specs.Str.Parse.{AllDigits, digits_value, starts_with_minus}
+use Rattle.ec_moment.specs.declared.limits.TheConstants.{MOST_DIGITS}
 use Rattle.ec_moment.specs.Moment.{IsWordByte}
 use Rattle.ec_moment.specs.Number.{IsNumber, IsNumberByte, is_digit_run, is_number, number_text, number_value, signed_value, with_sign, without_minus}
 
@@ -17,8 +18,8 @@ use Rattle.ec_moment.specs.Number.{IsNumber, IsNumberByte, is_digit_run, is_numb
 pub digit_runs : IsNumeralModel (λ ds. all_ascii_digits ds ≡ true) (digits_value 10)
 digit_runs = numerals_by_value _ tells_all_ascii_digits
 
--- 1 to 20 digits are a run
-pub is_digit_run-from : (ds : List ℕ) → 0 < length ds → length ds ≤ 20 → AllDigits 10 ds → IsTrue (is_digit_run ds)
+-- few enough digits are a run
+pub is_digit_run-from : (ds : List ℕ) → 0 < length ds → length ds ≤ MOST_DIGITS → AllDigits 10 ds → IsTrue (is_digit_run ds)
 is_digit_run-from ds some few digits = let all = digit_runs.from ds digits in grind arith
 
 -- a run has digits alone
@@ -154,8 +155,8 @@ All-number_text (negsuc n) inside =
     let small : n < 2 ^ 63 = grind (arith, ints) in
     All-cons IsNumberByte 45 (decimal (suc n)) (inr refl) (All-number_bytes (decimal (suc n)) (is_digit_run-decimal (suc n) (omega arith)))
 
--- it has 1 to 20 bytes
-pub length-number_text : (z : ℤ) → IsNumber z → (1 ≤ length (number_text z)) × (length (number_text z) ≤ 20)
+-- it has a byte at least, and no more than a number has digits
+pub length-number_text : (z : ℤ) → IsNumber z → (1 ≤ length (number_text z)) × (length (number_text z) ≤ MOST_DIGITS)
 length-number_text (pos n) inside =
     let small : n < 2 ^ 63 = grind (arith, ints) in
     (decimal_nonempty n (omega arith), length-decimal-le 20 n (omega arith) (omega arith) (omega arith))

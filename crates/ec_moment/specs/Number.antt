@@ -4,6 +4,7 @@ use Rattle.std.specs.Fmt.{signed_decimal}
 use Rattle.std.specs.Int.{IsInRange}
 use Rattle.std.specs.Str.{all_ascii_digits}
 use Rattle.std.specs.Str.Parse.{digits_value, starts_with_minus}
+use Rattle.ec_moment.specs.declared.limits.TheConstants.{MOST_DIGITS}
 use Rattle.ec_moment.specs.Moment.{IsWithin}
 
 -- the least number, -9223372036854775808
@@ -28,7 +29,7 @@ without_minus bs = if starts_with_minus bs then drop 1 bs else bs
 
 -- 1 to 20 digits and nothing else
 abbrev pub is_digit_run : List ℕ → Bool
-is_digit_run ds = nat_le 1 (length ds) && nat_le (length ds) 20 && all_ascii_digits ds
+is_digit_run ds = nat_le 1 (length ds) && nat_le (length ds) MOST_DIGITS && all_ascii_digits ds
 
 -- n, or -n
 abbrev pub with_sign : Bool → ℕ → ℤ

@@ -3,6 +3,7 @@ ghost use Rattle.std.specs.Prelude.{◌≡◌, ℕ, ℤ, pos, negsuc, ◌≤◌,
 ghost use Rattle.ec_moment.specs.Moment.{IsWithin};
 ghost use Rattle.ec_moment.specs.Number.{IsNumber, IsNumberByte, number_text, number_value};
 
+use crate::limits::MOST_DIGITS;
 use crate::moment::Moment;
 
 /// The canonical text of a moment spells that moment and no other, whatever its kind: reading its text
@@ -15,11 +16,11 @@ pub fn read_back<T: Moment>(moment: T) -> Option<T>
     T::read(moment.text().as_bytes())
 }
 
-/// The canonical text of a number spells that number. It has 1 to 20 bytes, each a digit or `-`.
+/// The canonical text of a number spells that number. It has 1 to `MOST_DIGITS` bytes, each a digit or `-`.
 pub fn number_text_law()
     ensures spelling { (z : ℤ) → IsNumber z → number_value (number_text z) ≡ Some z }
     ensures nonempty { (z : ℤ) → IsNumber z → 1 ≤ length (number_text z) }
-    ensures short { (z : ℤ) → IsNumber z → length (number_text z) ≤ 20 }
+    ensures short { (z : ℤ) → IsNumber z → length (number_text z) ≤ MOST_DIGITS }
     ensures bytes { (z : ℤ) → IsNumber z → All IsNumberByte (number_text z) }
 {}
 

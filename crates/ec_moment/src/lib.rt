@@ -2,6 +2,7 @@
 #![tactic(auto)]
 
 mod laws;
+mod limits;
 mod moment;
 mod moment_text;
 mod number;
@@ -10,6 +11,7 @@ mod tests;
 mod tick;
 
 pub use laws::{number_edges_law, number_text_law, read_back};
+pub use limits::{LONGEST_MOMENT, MOST_DIGITS};
 pub use moment::Moment;
 pub use moment_text::MomentText;
 pub use number::read_number;

@@ -3,6 +3,7 @@ ghost use Rattle.std.specs.Prelude.{◌≡◌, ℕ, ℤ, ◌≤◌, ◌<ℤ◌, 
 ghost use Rattle.std.specs.Ordering.{MatchOrdering, int_cmp};
 ghost use Rattle.ec_moment.specs.Moment.{IsWithin, IsWordByte};
 
+use crate::limits::LONGEST_MOMENT;
 use crate::moment_text::MomentText;
 use std::cmp::Ordering;
 
@@ -40,13 +41,13 @@ pub trait Moment: Copy {
         ensures none { IfNone result (spelt bytes.now ≡ None) }
         ensures in_range { IfSome result (λ moment. IsWithin LEAST MOST (rank moment)) };
 
-    /// The canonical text of this moment, which is one of its spellings: 1 to 40 bytes that can stand
+    /// The canonical text of this moment, which is one of its spellings: 1 to `LONGEST_MOMENT` bytes that can stand
     /// in a word of a line.
     fn text(&self) -> MomentText
         ensures canonical { result ≡ canon (rank self.now) }
         ensures spelling { spelt result ≡ Some (rank self.now) }
         ensures nonempty { 1 ≤ length result }
-        ensures short { length result ≤ 40 }
+        ensures short { length result ≤ LONGEST_MOMENT }
         ensures word { All IsWordByte result }
         ensures in_range { IsWithin LEAST MOST (rank self.now) };
 

@@ -1,17 +1,15 @@
 //! The text of a moment.
-ghost use Rattle.std.specs.Prelude.{◌≡◌, ◌+◌, ◌≤◌, ◌++◌, ◌↔◌, [], length, IsTrue};
+ghost use Rattle.std.specs.Prelude.{◌≡◌, ◌+◌, ◌≤◌, ◌++◌, ◌↔◌, [], length, IsTrue, Some};
 
+use crate::limits::LONGEST_MOMENT;
 use arrayvec::ArrayString;
 use std::fmt;
 use std::marker::Model;
 
-/// The most bytes that the text of a moment has.
-const CAPACITY: usize = 40;
-
-/// The text of a moment: at most 40 bytes, kept in place. Contracts see it as the list of its bytes.
+/// The text of a moment: at most `LONGEST_MOMENT` bytes, kept in place. Contracts see it as the list of its bytes.
 #[derive(Drop)]
 pub struct MomentText {
-    text: ArrayString<CAPACITY>,
+    text: ArrayString<LONGEST_MOMENT>,
 }
 
 impl Model for MomentText {
@@ -34,7 +32,7 @@ impl MomentText {
 
     /// Adds `part` at the end.
     pub fn push_str(&mut self, part: &str)
-        requires { length self.old + length part.now ≤ 40 }
+        requires { length self.old + length part.now ≤ LONGEST_MOMENT }
         ensures { self.new ≡ self.old ++ part.now }
     {
         self.text.push_str(part);
@@ -43,7 +41,7 @@ impl MomentText {
     /// How many bytes the text has.
     pub fn len(&self) -> usize
         ensures value { result ≡ length self.now }
-        ensures fits { result ≤ 40 }
+        ensures fits { result ≤ LONGEST_MOMENT }
     {
         self.text.len()
     }
@@ -58,7 +56,7 @@ impl MomentText {
     /// The bytes of the text.
     pub fn as_bytes(&self) -> &[u8]
         ensures value { result.now ≡ self.now }
-        ensures fits { length result.now ≤ 40 }
+        ensures fits { length result.now ≤ LONGEST_MOMENT }
     {
         self.as_str().as_bytes()
     }
@@ -66,20 +64,26 @@ impl MomentText {
     /// The text.
     pub fn as_str(&self) -> &str
         ensures value { result.now ≡ self.now }
-        ensures fits { length result.now ≤ 40 }
+        ensures fits { length result.now ≤ LONGEST_MOMENT }
     {
         self.text.as_str()
     }
 }
 
+/// The empty text.
 impl Default for MomentText {
+    ghost is_default = { λ text. text ≡ [] };
+
     fn default() -> Self {
         MomentText::new()
     }
 }
 
+/// It is printed as it is.
 impl fmt::Display for MomentText {
+    ghost output = { λ text. Some text };
+
     fn fmt<W: fmt::Write>(&self, f: &mut fmt::Formatter<W>) -> fmt::Result {
-        f.write_str(self.as_str())
+        fmt::Display::fmt(&self.as_str(), f)
     }
 }

@@ -3,10 +3,9 @@ ghost use Rattle.std.specs.Prelude.{◌≡◌, ◌^◌, ◌≤◌, IfSome, IfNon
 ghost use Rattle.std.specs.Str.Parse.{digits_value, starts_with_minus};
 ghost use Rattle.ec_moment.specs.Number.{IsNumber, is_digit_run, number_value, with_sign, without_minus};
 
-/// The most digits that a number is written with.
-const MOST_DIGITS: usize = 20;
+use crate::limits::MOST_DIGITS;
 
-/// The value of 1 to 20 digits. `None` for any other bytes, and for a value of 2^64 and more.
+/// The value of 1 to `MOST_DIGITS` digits. `None` for any other bytes, and for a value of 2^64 and more.
 fn read_digits(digits: &[u8]) -> Option<u64>
     ensures value { IfSome result (λ n. n ≡ digits_value 10 digits.now) }
     ensures run { IfSome result (λ _. IsTrue (is_digit_run digits.now)) }

@@ -1,4 +1,4 @@
-ghost use Rattle.std.specs.Prelude.{◌≡◌, ℕ, ◌<◌, ◌≤◌, List, length, take, Option, IfOk, OnErr};
+ghost use Rattle.std.specs.Prelude.{◌≡◌, ℕ, ◌<◌, ◌≤◌, List, length, take, Option, IfOk, OnErr, Some, codes};
 ghost use Rattle.ec_outside.specs.Counts.{Rose, last_count};
 ghost use Rattle.ec_outside.specs.Streams.{Took, IsAtEnd};
 
@@ -10,8 +10,10 @@ use std::fmt;
 pub struct Failed;
 
 impl fmt::Display for Failed {
+    ghost output = { λ _. Some (codes "failed") };
+
     fn fmt<W: fmt::Write>(&self, f: &mut fmt::Formatter<W>) -> fmt::Result {
-        write!(f, "failed")
+        fmt::Display::fmt(&"failed", f)
     }
 }
 

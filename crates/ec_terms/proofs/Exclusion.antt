@@ -1,7 +1,8 @@
 -- Two patterns fit two terms under one binding exactly where matching the second goes on from the binding of the first.
-use Rattle.std.proofs.Common.{◌≡◌, ◌∷◌, [], ◌++◌, Bool, List, Option, Some, None, true, false, ◌&&◌, map, IsTrue, IsSome, IfSome, IfNone, is_some, ◌↔◌, refl, sym, ap₂, subst, ◌∙◌, ⊎_elim}
+use Rattle.std.proofs.Common.{◌≡◌, ◌∷◌, [], ◌++◌, Bool, List, Option, Some, None, true, false, ◌&&◌, map, IsTrue, IsSome, IfSome, IfNone, is_some, ◌↔◌, refl, sym, ap₂, subst, ◌∙◌, ◌⊎◌, ⊎_elim, inl, inr}
 use Rattle.std.specs.Cmp.Lexicographic.{pointwise}
-use Rattle.std.proofs.lemmas.Bool.{and_parts, and_from, cases_Bool, false_from_ne_true, both_ways}
+use Rattle.std.proofs.lemmas.Bool.{and_parts, and_from, cases_Bool, false_from_ne_true, both_ways, or_cases, or_left, or_right, not-true, not_from_false}
+use Rattle.std.proofs.lemmas.List.Folds.{Any-from_list_any, list_any-from_Any}
 use Rattle.ec_terms.specs.declared.ground.Arg.{Arg}
 use Rattle.ec_terms.specs.declared.ground.ArgRef.{ArgRef}
 use Rattle.ec_terms.specs.declared.ground.Ground.{Ground}
@@ -9,9 +10,13 @@ use Rattle.ec_terms.specs.declared.pattern.PatArg.{PatArg}
 use Rattle.ec_terms.specs.declared.pattern.Pattern.{Pattern}
 use Rattle.ec_terms.specs.contracts.ground.ArgRefPartialEq.TheImpl.{eq-value}
 use Rattle.ec_terms.specs.Binding.{Extends, stands_in, values_of}
-use Rattle.ec_terms.specs.Domain.{both_fit}
+use Rattle.ec_terms.specs.declared.theory.Exclusive.{Exclusive}
+use Rattle.ec_terms.specs.declared.theory.Theory.{Theory}
+use Rattle.ec_terms.specs.Domain.{both_fit, excludes, are_exclusive}
+use Rattle.ec_terms.specs.DomainLaws.{FitTogether, HaveBinding, OneExcludes}
 use Rattle.ec_terms.specs.Matching.{Values, binding_of, first_value, fits, fits_some, places_fit}
-use Rattle.ec_terms.specs.Term.{arg_of, arg_eq}
+use Rattle.ec_terms.specs.Term.{arg_of, arg_eq, term_eq}
+use Rattle.ec_terms.proofs.OrderLemmas.{term_eq-Decides}
 use Rattle.ec_terms.proofs.MatchingLemmas.{arg_ref_eq, first_value-absent, fits-at_first_value, fits-unique, fits_some-from_fits, place_fits-Extends}
 
 -- borrowed arguments are the same where the arguments that they show are
@@ -110,3 +115,44 @@ both_fit-given None start left right p q same first second more none =
 -- a test that holds exactly where there is a value fails where there is none
 pub false-from_none : {A : Type 0} (o : Option A) (b : Bool) → IsSome o ↔ IsTrue b → o ≡ None → b ≡ false
 false-from_none o b same none = false_from_ne_true b (λ yes. let there = same.1 yes in cc)
+
+-- ---- one binding for both
+
+-- the word for two patterns is what it says
+pub both_fit-FitTogether : (left right : Pattern) (p q : Ground) → FitTogether left right p q
+unfolding both_fit
+both_fit-FitTogether left right p q = (
+  (λ both. (let parts = and_parts _ _ both in (first_value (left.args ++ right.args) (p.args ++ q.args), parts.0, parts.1))),
+  (λ found. both_fit-from found.0 left right p q found.1 found.2),
+)
+
+-- a declaration that speaks of two properties has a binding for them, in one order or the other
+HaveBinding-from_excludes : (p q : Ground) (d : Exclusive) → excludes p q d ≡ true → HaveBinding d.left d.right p q ⊎ HaveBinding d.left d.right q p
+unfolding excludes
+HaveBinding-from_excludes p q d speaks =
+    ⊎_elim (λ here. inl ((both_fit-FitTogether d.left d.right p q).0 here)) (λ there. inr ((both_fit-FitTogether d.left d.right q p).0 there))
+    (or_cases _ _ speaks)
+
+-- and the other way
+excludes-from_HaveBinding : (p q : Ground) (d : Exclusive) → HaveBinding d.left d.right p q ⊎ HaveBinding d.left d.right q p → excludes p q d ≡ true
+unfolding excludes
+excludes-from_HaveBinding p q d found =
+    ⊎_elim (λ here. or_left _ _ ((both_fit-FitTogether d.left d.right p q).1 here)) (λ there. or_right _ _ ((both_fit-FitTogether d.left d.right q p).1 there))
+    found
+
+-- exclusive properties are those that the declarations' bindings make so
+pub are_exclusive-OneExcludes : (theory : Theory) (p q : Ground) → OneExcludes theory p q
+unfolding are_exclusive
+are_exclusive-OneExcludes theory p q = (
+  (λ yes.
+      (let parts = and_parts _ _ yes in
+      let any = Any-from_list_any (excludes p q) theory.exclusives parts.1 in (
+        (λ same. both_ways _ (not-true _ parts.0) ((term_eq-Decides p q).1 same)),
+        (any.0, any.1, any.2, any.3, HaveBinding-from_excludes p q any.1 any.4),
+      ))),
+  (λ found.
+      (let any = found.1 in
+      let differ = false_from_ne_true (term_eq p q) (λ same. found.0 ((term_eq-Decides p q).0 same)) in
+      and_from _ _ (not_from_false _ differ)
+      (list_any-from_Any (excludes p q) theory.exclusives (any.0, any.1, any.2, any.3, excludes-from_HaveBinding p q any.1 any.4)))),
+)

@@ -1,8 +1,8 @@
 -- Matching place by place finds the one binding that fits, where there is one.
-use Rattle.std.proofs.Common.{◌≡◌, ℕ, ◌+◌, ◌<◌, length, drop, get_or, add-one, map, zero, suc, ◌≤◌, IsTrue, IsSome, IfSome, IfNone, ◌↔◌, arith, Bool, true, false, ◌&&◌, ◌||◌, ◌==◌, if◌then◌else◌, List, [], ◌∷◌, Option, Some, None, refl, ap, sym, ◌∙◌, subst, inl, inr}
+use Rattle.std.proofs.Common.{◌≡◌, ℕ, ◌+◌, ◌<◌, length, drop, get_or, add-one, map, zero, suc, ◌≤◌, IsTrue, IsSome, IfSome, IfNone, ◌↔◌, arith, Bool, true, false, ◌&&◌, ◌||◌, ◌==◌, if◌then◌else◌, List, [], ◌∷◌, Option, Some, None, refl, ap, sym, ◌∙◌, subst, inl, inr, ⊎_elim}
 use Rattle.std.proofs.Math.Path.{fun_ext}
 use Rattle.std.specs.Option.{is_some}
-use Rattle.std.proofs.lemmas.Bool.{cases_Bool, and_parts, and_from, or_right, and_right}
+use Rattle.std.proofs.lemmas.Bool.{cases_Bool, and_cases, and_parts, and_from, or_right, and_right, eqb-false}
 use Rattle.std.proofs.lemmas.Bool.Decides.{Decides-eqb}
 use Rattle.std.specs.Str.{bytes_eq}
 use Rattle.std.specs.List.{list_all, list_any}
@@ -16,7 +16,7 @@ use Rattle.ec_terms.specs.declared.pattern.PatArg.TheVariants.{Var, Any, Fixed}
 use Rattle.ec_terms.specs.Term.{arg_of, arg_eq, is_argument, names_are_names}
 use Rattle.ec_terms.specs.declared.ground.Ground.{Ground}
 use Rattle.ec_terms.specs.declared.pattern.Pattern.{Pattern}
-use Rattle.ec_terms.specs.Matching.{Values, is_value, place_fits, places_fit, first_value, binding_of, fits, fits_some}
+use Rattle.ec_terms.specs.Matching.{Values, has_shape, is_value, place_fits, places_fit, first_value, binding_of, fits, fits_some}
 use Rattle.ec_terms.specs.MatchingLaws.{HasOneBinding, FitsByFirstPlaces}
 use Rattle.ec_terms.specs.Binding.{Extends, values_of, stands_at, stands_in, no_values, with_value, after_place}
 use Rattle.ec_terms.proofs.OrderLemmas.{arg_eq-Decides}
@@ -284,6 +284,11 @@ pub fits-other_length : (values : Values) (pattern : Pattern) (term : Ground) �
 unfolding fits
 fits-other_length values pattern term h = rw (places_fit-other_length values pattern.args term.args h) (and_right (bytes_eq pattern.name term.name) false refl)
 
+-- so one of another shape fits none
+pub fits-other_shape : (values : Values) (pattern : Pattern) (term : Ground) → has_shape pattern term ≡ false → fits values pattern term ≡ false
+fits-other_shape values pattern term other =
+    ⊎_elim (λ name. fits-other_name values pattern term name) (λ count. fits-other_length values pattern term (eqb-false _ _ count)) (and_cases _ _ other)
+
 -- nor does one whose places do not fit
 pub fits-other_args : (values : Values) (pattern : Pattern) (term : Ground) → places_fit values pattern.args term.args ≡ false → fits values pattern term ≡ false
 unfolding fits
@@ -400,6 +405,13 @@ matches-fits None start pattern term empty fit none = (
       let more : Extends (values_of start) (binding_of pattern term) = λ v a e. (let there : no_values v ≡ Some a = subst (λ (s : Values). s v ≡ Some a) empty e in cc) in
       let fails = none (binding_of pattern term) more in
       cc),
+)
+
+pub matches-other_shape : (pattern : Pattern) (term : Ground) → has_shape pattern term ≡ false → IsSome {T = List (Option Arg)} None ↔ IsTrue (fits_some pattern term)
+unfolding fits_some
+matches-other_shape pattern term other = (
+  (λ h. (let no : false ≡ true = h in cc)),
+  (λ h. (let fails = fits-other_shape (binding_of pattern term) pattern term other in cc)),
 )
 
 pub matches-binding : (o : Option (List (Option Arg))) (start : List (Option Arg)) (pattern : Pattern) (term : Ground) → values_of start ≡ no_values →

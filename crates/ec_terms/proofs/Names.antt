@@ -1,10 +1,11 @@
--- What follows for the bytes of a name: they are ASCII, and 1 to 64.
+-- What follows for the bytes of a name: they are ASCII, and few.
 use Rattle.std.proofs.Common.{◌≡◌, ℕ, ◌<◌, ◌≤◌, true, List, [], ◌∷◌, length, arith, zero, suc}
 use Rattle.std.specs.List.{list_all}
 use Rattle.std.specs.Str.{IsAscii, IsUtf8}
 use Rattle.std.proofs.lemmas.Str.{IsUtf8-from_ascii}
 use Rattle.std.proofs.lemmas.Bool.{leb-true, and_parts}
 use Rattle.std.proofs.lemmas.Bool.Decides.{nat_tests}
+use Rattle.ec_terms.specs.declared.limits.TheConstants.{LONGEST_NAME}
 use Rattle.ec_terms.specs.Spelling.{is_lower, is_upper, is_name_byte, begins_with, is_name}
 
 pub is_name_byte-lt : (b : ℕ) → is_name_byte b ≡ true → b < 128
@@ -24,7 +25,7 @@ pub is_name-lower : (bs : List ℕ) → is_name bs ≡ true → begins_with is_l
 unfolding is_name
 is_name-lower bs h = (and_parts _ _ (and_parts _ _ h).0).0
 
-pub is_name-short : (bs : List ℕ) → is_name bs ≡ true → length bs ≤ 64
+pub is_name-short : (bs : List ℕ) → is_name bs ≡ true → length bs ≤ LONGEST_NAME
 unfolding is_name
 is_name-short bs h = leb-true _ _ (and_parts _ _ h).1
 

@@ -8,6 +8,7 @@ use Rattle.std.proofs.Math.Seq.{get_or-append_seam, split_at}
 use Rattle.std.proofs.lemmas.List.{length-take-le, take_rest, get_or-drop, drop-drop, map-append}
 use Rattle.std.proofs.lemmas.List.Folds.{list_all-append}
 use Rattle.std.proofs.lemmas.List.Sums.{take_while-cons}
+use Rattle.ec_terms.specs.declared.limits.TheConstants.{MOST_ARGS}
 use Rattle.ec_terms.specs.declared.ground.Arg.{Arg}
 use Rattle.ec_terms.specs.declared.ground.ArgRef.{ArgRef}
 use Rattle.ec_terms.specs.Spelling.{begins_with}
@@ -117,9 +118,9 @@ mark_cases P none some (b ∷ bs) =
 
 -- ---- the arguments from a place on
 
--- the arguments that the pieces spell behind `count` others, at most 8 in all
+-- the arguments that the pieces spell behind `count` others, as few in all as a term has
 abbrev pub args_after : ℕ → List (List ℕ) → Option (List Arg)
-args_after count pieces = cond (nat_le (count + length pieces) 8) (args_value pieces) None
+args_after count pieces = cond (nat_le (count + length pieces) MOST_ARGS) (args_value pieces) None
 
 -- what stands inside is read behind the arguments `before`, which took `at` bytes
 abbrev pub args_inside : List Arg → ℕ → Option (List ℕ) → Option (List Arg × ℕ)
@@ -141,9 +142,9 @@ args_from-front bs = of (inside_of bs)
 
 -- the test of the number of arguments, with one argument more before and one piece less behind
 one_more : (before : List Arg) (a : Arg) (p : List ℕ) (ps : List (List ℕ)) →
-    nat_le (length before + length (p ∷ ps)) 8 ≡ nat_le (length (before ++ a ∷ []) + length ps) 8
+    nat_le (length before + length (p ∷ ps)) MOST_ARGS ≡ nat_le (length (before ++ a ∷ []) + length ps) MOST_ARGS
 one_more before a p ps =
-    ap (λ n. nat_le n 8) (let e = length-append before (a ∷ []) in omega arith)
+    ap (λ n. nat_le n MOST_ARGS) (let e = length-append before (a ∷ []) in omega arith)
 
 -- an argument and a `,`
 pub args_from-comma : (before : List Arg) (at : ℕ) (p r : List ℕ) (a : Arg) → list_all is_plain p ≡ true → arg_value p ≡ Some a →
@@ -168,27 +169,27 @@ args_from-comma before at p r a h e = ap (args_inside before at) (inside_of-comm
     read i = ap (option_and_then (λ b. option_map (λ rest. b ∷ rest) (args_value (pieces_of i)))) e
 
     after : (i : List ℕ) → args_after (length before) (pieces_of (p ++ 44 ∷ i))
-        ≡ cond (nat_le (length (before ++ a ∷ []) + length (pieces_of i)) 8) (option_map (λ rest. a ∷ rest) (args_value (pieces_of i))) None
+        ≡ cond (nat_le (length (before ++ a ∷ []) + length (pieces_of i)) MOST_ARGS) (option_map (λ rest. a ∷ rest) (args_value (pieces_of i))) None
     after i =
         ap (args_after (length before)) (pieces_of-comma p i h)
         ∙ ap (λ t. cond t (args_value (p ∷ pieces_of i)) None) (one_more before a p (pieces_of i))
-        ∙ ap (λ o. cond (nat_le (length (before ++ a ∷ []) + length (pieces_of i)) 8) o None) (read i)
+        ∙ ap (λ o. cond (nat_le (length (before ++ a ∷ []) + length (pieces_of i)) MOST_ARGS) o None) (read i)
 
     of : (o : Option (List ℕ)) → args_inside before at (option_map (λ i. p ++ 44 ∷ i) o) ≡ args_inside (before ++ a ∷ []) (at + length p + 1) o
     of None = refl
     of (Some i) =
         ap (option_map {U = List Arg × ℕ} (λ more. (before ++ more, at + length (p ++ 44 ∷ i) + 1))) (after i)
-        ∙ found i (nat_le (length (before ++ a ∷ []) + length (pieces_of i)) 8) (args_value (pieces_of i))
+        ∙ found i (nat_le (length (before ++ a ∷ []) + length (pieces_of i)) MOST_ARGS) (args_value (pieces_of i))
 
 -- an argument and a `)`
 pub args_from-close : (before : List Arg) (at : ℕ) (p r : List ℕ) (a : Arg) → list_all is_plain p ≡ true → arg_value p ≡ Some a →
-    length before < 8 → args_from before at (p ++ 41 ∷ r) ≡ Some (before ++ a ∷ [], at + length p + 1)
+    length before < MOST_ARGS → args_from before at (p ++ 41 ∷ r) ≡ Some (before ++ a ∷ [], at + length p + 1)
 unfolding args_value
 args_from-close before at p r a h e few =
     ap (args_inside before at) (inside_of-close p r h)
     ∙ ap (λ ps. option_map {U = List Arg × ℕ} (λ more. (before ++ more, at + length p + 1)) (args_after (length before) ps)) (pieces_of-plain p h)
     ∙ ap (λ o. option_map {U = List Arg × ℕ} (λ more. (before ++ more, at + length p + 1)) o)
-    (cond-true (nat_le (length before + 1) 8) (args_value (p ∷ [])) None (le-leb _ _ (omega arith)) ∙ ap (option_and_then (λ b. option_map (λ rest. b ∷ rest) (Some []))) e)
+    (cond-true (nat_le (length before + 1) MOST_ARGS) (args_value (p ∷ [])) None (le-leb _ _ (omega arith)) ∙ ap (option_and_then (λ b. option_map (λ rest. b ∷ rest) (Some []))) e)
 
 -- a piece that spells no argument
 pub args_from-no_arg : (before : List Arg) (at : ℕ) (p : List ℕ) (d : ℕ) (r : List ℕ) → list_all is_plain p ≡ true → is_mark d ≡ true →
@@ -208,7 +209,7 @@ args_from-no_arg before at p d r h k e =
     neither false = refl
 
     none_after : (ps : List (List ℕ)) → args_after (length before) (p ∷ ps) ≡ None
-    none_after ps = ap (λ o. cond (nat_le (length before + length (p ∷ ps)) 8) (option_and_then (λ b. option_map (λ rest. b ∷ rest) (args_value ps)) o) None) e ∙ neither (nat_le (length before + length (p ∷ ps)) 8)
+    none_after ps = ap (λ o. cond (nat_le (length before + length (p ∷ ps)) MOST_ARGS) (option_and_then (λ b. option_map (λ rest. b ∷ rest) (args_value ps)) o) None) e ∙ neither (nat_le (length before + length (p ∷ ps)) MOST_ARGS)
 
     of : (o : Option (List ℕ)) → args_inside before at (option_map (λ i. p ++ 44 ∷ i) o) ≡ None
     of None = refl
@@ -222,15 +223,15 @@ args_from-no_arg before at p d r h k e =
         ap (args_inside before at) (inside_of-close p r h)
         ∙ ap (λ o. option_map {U = List Arg × ℕ} (λ more. (before ++ more, at + length p + 1)) o) (ap (args_after (length before)) (pieces_of-plain p h) ∙ none_after [])
 
--- no argument has room behind 8
-pub args_from-full : (before : List Arg) (at : ℕ) (rest : List ℕ) → 8 ≤ length before → args_from before at rest ≡ None
+-- no argument has room behind as many as a term has
+pub args_from-full : (before : List Arg) (at : ℕ) (rest : List ℕ) → MOST_ARGS ≤ length before → args_from before at rest ≡ None
 args_from-full before at rest full = of (inside_of rest)
   where
     of : (o : Option (List ℕ)) → args_inside before at o ≡ None
     of None = refl
     of (Some i) =
         ap (option_map {U = List Arg × ℕ} (λ more. (before ++ more, at + length i + 1)))
-        (cond-false (nat_le (length before + length (pieces_of i)) 8) (args_value (pieces_of i)) None (lt-leb _ _ (let some = length-pieces_of i in omega arith)))
+        (cond-false (nat_le (length before + length (pieces_of i)) MOST_ARGS) (args_value (pieces_of i)) None (lt-leb _ _ (let some = length-pieces_of i in omega arith)))
 
 -- ---- the arguments, as the reader finds them
 
@@ -274,7 +275,7 @@ step_comma before at rest a n h within mark =
 
 -- an argument with a `)` behind it
 pub step_close : (before : List Arg) (at : ℕ) (rest : List ℕ) (a : Arg) (n : ℕ) → arg_front rest ≡ Some (a, n) → n < length rest → get_or rest n 0 ≡ 41 →
-    length before < 8 → args_from before at rest ≡ Some (before ++ a ∷ [], at + n + 1)
+    length before < MOST_ARGS → args_from before at rest ≡ Some (before ++ a ∷ [], at + n + 1)
 step_close before at rest a n h within mark few =
     let found = found_take rest a n h in
     let cut : rest ≡ take n rest ++ 41 ∷ drop (n + 1) rest = around n rest within ∙ ap (λ d. take n rest ++ d ∷ drop (n + 1) rest) mark in
@@ -351,7 +352,7 @@ read_comma bs before at a n so_far h within mark =
     ∙ ap (args_from (before ++ a ∷ []) (at + n + 1)) rest
 
 pub read_close : (bs : List ℕ) (before : List Arg) (at : ℕ) (a : Arg) (n : ℕ) → ReadSoFar bs before at → arg_at bs at ≡ Some (a, n) →
-    at + n < length bs → get_or bs (at + n) 0 ≡ 41 → length before < 8 → args_front bs ≡ Some (before ++ a ∷ [], at + n + 1)
+    at + n < length bs → get_or bs (at + n) 0 ≡ 41 → length before < MOST_ARGS → args_front bs ≡ Some (before ++ a ∷ [], at + n + 1)
 read_close bs before at a n so_far h within mark few =
     so_far
     ∙ step_close before at (drop at bs) a n (arg_at-is bs at ∙ h) (let l = length-drop at bs in omega arith) (get_or-drop at bs n 0 ∙ mark) few
@@ -366,7 +367,7 @@ pub read_other : (bs : List ℕ) (before : List Arg) (at : ℕ) (a : Arg) (n b :
 read_other bs before at a n b so_far h byte no_comma no_close_mark =
     so_far ∙ step_other before at (drop at bs) a n b (arg_at-is bs at ∙ h) (get_or-drop at bs n 0 ∙ byte) no_comma no_close_mark
 
-pub read_full : (bs : List ℕ) (before : List Arg) (at : ℕ) → ReadSoFar bs before at → 8 ≤ length before → args_front bs ≡ None
+pub read_full : (bs : List ℕ) (before : List Arg) (at : ℕ) → ReadSoFar bs before at → MOST_ARGS ≤ length before → args_front bs ≡ None
 read_full bs before at so_far full = so_far ∙ args_from-full before at (drop at bs) full
 
 -- ---- the arguments that the reader keeps

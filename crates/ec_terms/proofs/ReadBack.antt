@@ -6,6 +6,7 @@ use Rattle.std.proofs.Math.Seq.{drop-append_seam}
 use Rattle.std.proofs.lemmas.Bool.{cond-true, or_parts, and_parts}
 use Rattle.ec_moment.specs.Number.{number_text}
 use Rattle.ec_moment.proofs.NumberLemmas.{number_value-number_text, IsNumber-from_true}
+use Rattle.ec_terms.specs.declared.limits.TheConstants.{MOST_ARGS}
 use Rattle.ec_terms.specs.declared.ground.Arg.{Arg}
 use Rattle.ec_terms.specs.declared.ground.Arg.TheVariants.{Int, Word}
 use Rattle.ec_terms.specs.declared.ground.Ground.{Ground}
@@ -40,14 +41,14 @@ plain-arg_text a h k =
 
 -- the arguments between the parentheses are read back
 pub args_from-text : (before : List Arg) (at : ℕ) (a : Arg) (args : List Arg) (rest : List ℕ) →
-    list_all is_argument (a ∷ args) ≡ true → list_all has_size (a ∷ args) ≡ true → length before + length (a ∷ args) ≤ 8 →
+    list_all is_argument (a ∷ args) ≡ true → list_all has_size (a ∷ args) ≡ true → length before + length (a ∷ args) ≤ MOST_ARGS →
     args_from before at (join_with_byte 44 (map arg_text (a ∷ args)) ++ 41 ∷ rest)
     ≡ Some (before ++ a ∷ args, at + length (join_with_byte 44 (map arg_text (a ∷ args))) + 1)
 args_from-text before at a [] rest h k few =
     args_from-close before at (arg_text a) rest a (plain-arg_text a (and_parts _ _ h).0 (and_parts _ _ k).0) (arg_value-arg_text a (and_parts _ _ h).0 (and_parts _ _ k).0) (omega arith)
 args_from-text before at a (b ∷ args) rest h k few =
     let joined : List ℕ = join_with_byte 44 (map arg_text (b ∷ args)) in
-    let count : length (before ++ a ∷ []) + length (b ∷ args) ≤ 8 = omega (arith, length-append before (a ∷ [])) in
+    let count : length (before ++ a ∷ []) + length (b ∷ args) ≤ MOST_ARGS = omega (arith, length-append before (a ∷ [])) in
     let len : at + length (arg_text a) + 1 + length joined + 1 ≡ at + length (arg_text a ++ 44 ∷ joined) + 1 = omega (arith, length-append (arg_text a) (44 ∷ joined)) in
     ap (args_from before at) (append_assoc (arg_text a) (44 ∷ joined) (41 ∷ rest))
     ∙ args_from-comma before at (arg_text a) (joined ++ 41 ∷ rest) a (plain-arg_text a (and_parts _ _ h).0 (and_parts _ _ k).0) (arg_value-arg_text a (and_parts _ _ h).0 (and_parts _ _ k).0)
@@ -79,7 +80,7 @@ plain_back name rest h stops =
 
 -- a term with arguments
 args_back : (name : List ℕ) (a : Arg) (args : List Arg) (rest : List ℕ) → is_name name ≡ true →
-    list_all is_argument (a ∷ args) ≡ true → list_all has_size (a ∷ args) ≡ true → length (a ∷ args) ≤ 8 →
+    list_all is_argument (a ∷ args) ≡ true → list_all has_size (a ∷ args) ≡ true → length (a ∷ args) ≤ MOST_ARGS →
     term_front (name ++ (40 ∷ (join_with_byte 44 (map arg_text (a ∷ args)) ++ 41 ∷ rest)))
     ≡ Some (record { name = name; args = a ∷ args }, length name + 1 + (0 + length (join_with_byte 44 (map arg_text (a ∷ args))) + 1))
 args_back name a args rest h k l few =
@@ -91,7 +92,7 @@ args_back name a args rest h k l few =
 
 -- the text of a term with what stands behind it
 front_of : (name : List ℕ) (args : List Arg) (rest : List ℕ) → is_name name ≡ true →
-    list_all is_argument args ≡ true → list_all has_size args ≡ true → length args ≤ 8 → (0 < length args) ⊎ (goes_on rest ≡ false) →
+    list_all is_argument args ≡ true → list_all has_size args ≡ true → length args ≤ MOST_ARGS → (0 < length args) ⊎ (goes_on rest ≡ false) →
     term_front ((name ++ args_text args) ++ rest) ≡ Some (record { name = name; args = args }, length (name ++ args_text args))
 unfolding args_text
 front_of name [] rest h k l few (inl some) = absurd (omega arith)

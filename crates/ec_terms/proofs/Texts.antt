@@ -4,6 +4,7 @@ use Rattle.std.specs.List.{list_all, join_with_byte}
 use Rattle.std.specs.Str.{IsAscii}
 use Rattle.std.proofs.lemmas.List.{map-append, take_more}
 use Rattle.ec_moment.specs.Number.{number_text}
+use Rattle.ec_terms.specs.declared.limits.TheConstants.{MOST_ARGS}
 use Rattle.ec_terms.specs.declared.ground.Arg.{Arg}
 use Rattle.ec_terms.specs.declared.ground.Arg.TheVariants.{Int, Word}
 use Rattle.ec_terms.specs.declared.ground.ArgRef.{ArgRef}
@@ -133,6 +134,6 @@ has_size-int z h = is_number-true z (IsNumber-from_fits z h)
     IsNumber-from_fits (negsuc n) h = let small = h.sfits in grind (arith, ints)
 
 -- a term in hand
-pub IsTerm-from : (name : List ℕ) (args : List Arg) → names_are_names (record { name = name; args = args }) ≡ true → length args ≤ 8 → list_all has_size args ≡ true →
+pub IsTerm-from : (name : List ℕ) (args : List Arg) → names_are_names (record { name = name; args = args }) ≡ true → length args ≤ MOST_ARGS → list_all has_size args ≡ true →
     IsTerm (record { name = name; args = args })
 IsTerm-from name args h few k = record { names = h; few = few; sizes = k }

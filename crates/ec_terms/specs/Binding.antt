@@ -2,6 +2,7 @@
 use Rattle.std.specs.Prelude.{◌≡◌, ℕ, ◌≤◌, Bool, true, false, not, ◌&&◌, ◌==◌, nat_lt, if◌then◌else◌, List, length, Option, Some, None, IsTrue, is_some, option_map}
 use Rattle.std.specs.List.{slice_get, list_all, list_any}
 use Rattle.std.specs.Option.{option_flatten}
+use Rattle.ec_terms.specs.declared.limits.TheConstants.{MOST_ARGS, MOST_VARIABLES}
 use Rattle.ec_terms.specs.declared.ground.Arg.{Arg}
 use Rattle.ec_terms.specs.declared.pattern.PatArg.{PatArg}
 use Rattle.ec_terms.specs.declared.pattern.PatArg.TheVariants.{Var, Any, Fixed}
@@ -32,9 +33,9 @@ no_values v = None
 abbrev pub with_value : Values → ℕ → Arg → Values
 with_value values v a w = if v == w then Some a else values w
 
--- sixteen places, each without a value or with one that is a number or a name
+-- a place for each variable that a clause can have, each without a value or with one that is a number or a name
 pub record IsBinding (places : List (Option Arg)) : Type 0 where
-  pub count : length places ≡ 16
+  pub count : length places ≡ MOST_VARIABLES
   pub named : IsTrue (list_all is_named_value places)
 
 -- the second binding has each value that the first has
@@ -51,15 +52,15 @@ stands_at v (Fixed a) = false
 abbrev pub stands_in : ℕ → Pattern → Bool
 stands_in v pattern = list_any (stands_at v) pattern.args
 
--- a variable at the place is below 16
+-- a variable at the place is one that a binding has a place for
 abbrev pub is_small_place : PatArg → Bool
-is_small_place (Var v) = nat_lt v 16
+is_small_place (Var v) = nat_lt v MOST_VARIABLES
 is_small_place Any = true
 is_small_place (Fixed a) = true
 
--- at most 8 arguments, and variables below 16
+-- as few arguments as a term has, and variables that a binding has places for
 pub record IsSmall (pattern : Pattern) : Type 0 where
-  pub few : length pattern.args ≤ 8
+  pub few : length pattern.args ≤ MOST_ARGS
   pub variables : IsTrue (list_all is_small_place pattern.args)
 
 -- what a binding becomes where a place of a pattern meets an argument: a variable without a value takes it
@@ -78,7 +79,7 @@ is_open_place values (Fixed a) = false
 abbrev pub fills : Values → Pattern → Bool
 fills values pattern = not (list_any (is_open_place values) pattern.args)
 
--- a fixed argument, or a variable below 16 that has a value
+-- a fixed argument, or a variable that a binding has a place for and that has a value
 abbrev pub is_ready_place : Values → PatArg → Bool
 is_ready_place values p = is_small_place p && not (is_open_place values p)
 

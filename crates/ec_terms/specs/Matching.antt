@@ -1,5 +1,5 @@
 -- When a pattern fits a ground term, and what a pattern becomes under a binding of its variables.
-use Rattle.std.specs.Prelude.{ℕ, Bool, true, false, ◌&&◌, ◌==◌, not, if◌then◌else◌, List, [], ◌∷◌, Option, Some, None, filter_map, bytes_eq}
+use Rattle.std.specs.Prelude.{ℕ, Bool, true, false, ◌&&◌, ◌==◌, not, if◌then◌else◌, List, [], ◌∷◌, length, Option, Some, None, filter_map, bytes_eq}
 use Rattle.std.specs.Ordering.{is_lt, is_le}
 use Rattle.ec_terms.specs.declared.ground.Arg.{Arg}
 use Rattle.ec_terms.specs.declared.ground.Ground.{Ground}
@@ -25,6 +25,10 @@ value_of values (Fixed a) = Some a
 unfoldable pub is_value : Option Arg → Arg → Bool
 is_value None a = false
 is_value (Some b) a = arg_eq b a
+
+-- the pattern has the name of the term, and as many places as it has arguments
+abbrev pub has_shape : Pattern → Ground → Bool
+has_shape pattern term = bytes_eq pattern.name term.name && length pattern.args == length term.args
 
 -- one place fits: `_` fits anything, a fixed argument and a bound variable their own value
 unfoldable pub place_fits : Values → PatArg → Arg → Bool

@@ -1,6 +1,7 @@
 -- What spells a name and a variable, and the run of their bytes that stands at the front of a text.
 use Rattle.std.specs.Prelude.{ℕ, Bool, false, ◌&&◌, ◌||◌, ◌==◌, nat_le, List, [], ◌∷◌, length, take_while}
 use Rattle.std.specs.List.{list_all}
+use Rattle.ec_terms.specs.declared.limits.TheConstants.{LONGEST_NAME}
 
 -- a byte from a to z
 unfoldable pub is_lower : ℕ → Bool
@@ -21,9 +22,9 @@ begins_with test (b ∷ bytes) = test b
 
 -- the longest name or variable has this many bytes
 abbrev pub longest_name : ℕ
-longest_name = 64
+longest_name = LONGEST_NAME
 
--- a name: a lower case letter, then letters, digits and underscores, 64 bytes in all at the most
+-- a name: a lower case letter, then letters, digits and underscores, no more bytes in all than the longest name has
 unfoldable pub is_name : List ℕ → Bool
 is_name bytes = begins_with is_lower bytes && list_all is_name_byte bytes && nat_le (length bytes) longest_name
 

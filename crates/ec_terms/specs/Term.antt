@@ -7,6 +7,7 @@ use Rattle.std.specs.declared.cmp.Ordering.TheVariants.{Less, Greater}
 use Rattle.std.specs.Cmp.Lexicographic.{slice_cmp, pointwise}
 use Rattle.ec_moment.specs.Number.{number_text, number_value}
 use Rattle.ec_terms.specs.Pieces.{pieces_between}
+use Rattle.ec_terms.specs.declared.limits.TheConstants.{MOST_ARGS}
 use Rattle.ec_terms.specs.Spelling.{is_name, name_run, begins_with}
 use Rattle.ec_terms.specs.declared.ground.Arg.{Arg}
 use Rattle.ec_terms.specs.declared.ground.Arg.TheVariants.{Int, Word}
@@ -100,9 +101,9 @@ unfoldable pub args_value : List (List ℕ) → Option (List Arg)
 args_value [] = Some []
 args_value (piece ∷ pieces) = option_and_then (λ a. option_map (λ rest. a ∷ rest) (args_value pieces)) (arg_value piece)
 
--- the arguments between the parentheses, at most 8
+-- the arguments between the parentheses, as few as a term has
 unfoldable pub args_within : List ℕ → Option (List Arg)
-args_within inside = if nat_le (length (pieces_of inside)) 8 then args_value (pieces_of inside) else None
+args_within inside = if nat_le (length (pieces_of inside)) MOST_ARGS then args_value (pieces_of inside) else None
 
 -- what stands before the first `)`, or none where there is no `)`
 unfoldable pub inside_of : List ℕ → Option (List ℕ)

@@ -5,6 +5,7 @@ use Rattle.ec_moment.specs.Number.{is_number}
 use Rattle.ec_terms.specs.declared.ground.Arg.{Arg}
 use Rattle.ec_terms.specs.declared.ground.Arg.TheVariants.{Int, Word}
 use Rattle.ec_terms.specs.declared.ground.Ground.{Ground}
+use Rattle.ec_terms.specs.declared.limits.TheConstants.{MOST_ARGS}
 use Rattle.ec_terms.specs.Spelling.{is_name_byte, begins_with}
 use Rattle.ec_terms.specs.Term.{names_are_names, term_text, term_front, term_value}
 
@@ -16,7 +17,7 @@ has_size (Word w) = true
 -- what each term that a program holds is
 pub record IsTerm (g : Ground) : Type 0 where
   pub names : IsTrue (names_are_names g)
-  pub few : length g.args ≤ 8
+  pub few : length g.args ≤ MOST_ARGS
   pub sizes : IsTrue (list_all has_size g.args)
 
 -- the text goes on with a byte that a term before it would take up: a name byte or a `(`

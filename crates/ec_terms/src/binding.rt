@@ -3,17 +3,15 @@ ghost use Rattle.ec_terms.specs.Binding.{no_values, with_value, values_of};
 ghost use Rattle.ec_terms.specs.Term.{arg_of, is_argument};
 
 use crate::ground::ArgRef;
+use crate::limits::MOST_VARIABLES;
 use std::marker::Model;
 
-/// The most variables that a clause has.
-pub const MOST_VARIABLES: usize = 16;
-
-/// What the variables of a clause stand for: the variables 0 to 15, each with its value or without
+/// What the variables of a clause stand for: those below `MOST_VARIABLES`, each with its value or without
 /// one. Contracts see the list of the places, and `values_of` is the function from variables to
 /// values that it stands for. The bytes of each `Word` are a name.
 #[derive(Drop)]
 pub struct Binding<'a> {
-    places: [Option<ArgRef<'a>>; 16],
+    places: [Option<ArgRef<'a>>; MOST_VARIABLES],
 }
 
 impl<'a> Model for Binding<'a> {
@@ -33,7 +31,9 @@ impl<'a> Binding<'a> {
     pub fn new() -> Binding<'a>
         ensures { values_of result ≡ no_values }
     {
-        Binding { places: [None; 16] }
+        Binding {
+            places: [None; MOST_VARIABLES],
+        }
     }
 
     /// The same binding again.
@@ -47,7 +47,7 @@ impl<'a> Binding<'a> {
 
     /// The value of a variable, if it has one.
     pub fn get(&self, variable: u32) -> Option<ArgRef<'a>>
-        requires { variable < 16 }
+        requires { variable < MOST_VARIABLES }
         ensures value { option_map arg_of result ≡ values_of self.now variable }
         ensures named { IfSome result (λ arg. IsTrue (is_argument (arg_of arg))) }
     {
@@ -56,7 +56,7 @@ impl<'a> Binding<'a> {
 
     /// Gives a variable a value.
     pub fn set(&mut self, variable: u32, value: ArgRef<'a>)
-        requires place { variable < 16 }
+        requires place { variable < MOST_VARIABLES }
         requires named { IsTrue (is_argument (arg_of value)) }
         ensures { values_of self.new ≡ with_value (values_of self.old) variable (arg_of value.entry) }
     {

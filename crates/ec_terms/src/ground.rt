@@ -1,16 +1,14 @@
-ghost use Rattle.std.specs.Prelude.{◌≡◌, ◌<◌, ◌≤◌, [], ◌∷◌, ◌++◌, length, slice_get, map, Some, IsTrue, IfOk, OnOk, OnErr};
+ghost use Rattle.std.specs.Prelude.{◌≡◌, ◌<◌, ◌≤◌, [], ◌∷◌, ◌++◌, length, slice_get, map, Some, IsTrue, IfOk, OnOk, OnErr, pos};
 ghost use Rattle.std.specs.List.{list_all};
 ghost use Rattle.ec_terms.specs.Term.{arg_of, ground_of, is_argument, names_are_names};
 
+use crate::limits::MOST_ARGS;
 use crate::name::Name;
 use crate::no_memory::NoMemory;
 use arrayvec::ArrayVec;
 use smallvec::SmallVec;
 use std::alloc::Global;
 use std::marker::Model;
-
-/// The most arguments that a term has.
-pub const MOST_ARGS: usize = 8;
 
 /// An argument of a ground term: a whole number or a name.
 #[derive(Drop)]
@@ -19,24 +17,26 @@ pub enum Arg {
     Word(Name),
 }
 
-/// The arguments of a ground term, at most 8, kept in place.
+/// The arguments of a ground term, at most `MOST_ARGS`. Up to two are kept in place, as most terms
+/// have no more; others stand in memory of their own.
 #[derive(Drop)]
 pub struct Args {
-    items: SmallVec<Arg, 8>,
+    items: SmallVec<Arg, 2>,
 }
 
 impl Model for Args {
     ghost use Rattle.std.specs.Prelude.{List, length, ◌≤◌};
     ghost use Rattle.ec_terms.specs.declared.ground.Arg.{Arg};
+    ghost use Rattle.ec_terms.specs.declared.limits.TheConstants.{MOST_ARGS};
 
     ghost Value = { List Arg };
 
     ghost view = { λ a. a.items.items };
 
-    ghost invariant = { λ a. length a.items.items ≤ 8 };
+    ghost invariant = { λ a. length a.items.items ≤ MOST_ARGS };
 }
 
-/// A ground term: a name with 0 to 8 arguments. Events and properties are ground terms.
+/// A ground term: a name with 0 to `MOST_ARGS` arguments. Events and properties are ground terms.
 #[derive(Drop)]
 pub struct Ground {
     pub name: Name,
@@ -50,21 +50,22 @@ pub enum ArgRef<'a> {
     Word(&'a [u8]),
 }
 
-/// The arguments of a borrowed ground term, at most 8.
+/// The arguments of a borrowed ground term, at most `MOST_ARGS`.
 #[derive(Drop)]
 pub struct ArgRefs<'a> {
-    items: ArrayVec<ArgRef<'a>, 8>,
+    items: ArrayVec<ArgRef<'a>, MOST_ARGS>,
 }
 
 impl<'a> Model for ArgRefs<'a> {
     ghost use Rattle.std.specs.Prelude.{List, length, ◌≤◌};
     ghost use Rattle.ec_terms.specs.declared.ground.ArgRef.{ArgRef};
+    ghost use Rattle.ec_terms.specs.declared.limits.TheConstants.{MOST_ARGS};
 
     ghost Value = { List ArgRef };
 
     ghost view = { λ a. a.items.items };
 
-    ghost invariant = { λ a. length a.items.items ≤ 8 };
+    ghost invariant = { λ a. length a.items.items ≤ MOST_ARGS };
 }
 
 /// A ground term that borrows its names, as it stands in a line or in a `Ground`.
@@ -115,7 +116,7 @@ impl Args {
     /// How many arguments there are.
     pub fn len(&self) -> usize
         ensures count { result ≡ length self.now }
-        ensures few { result ≤ 8 }
+        ensures few { result ≤ MOST_ARGS }
     {
         self.items.len()
     }
@@ -131,7 +132,7 @@ impl Args {
     /// All arguments, in order.
     pub fn as_slice(&self) -> &[Arg]
         ensures items { result.now ≡ self.now }
-        ensures few { length self.now ≤ 8 }
+        ensures few { length self.now ≤ MOST_ARGS }
     {
         self.items.as_slice()
     }
@@ -139,7 +140,7 @@ impl Args {
     /// Adds an argument at the end. Only want of memory refuses it, and then the arguments are as
     /// they were and the new one is dropped.
     pub fn push(&mut self, arg: Arg) -> Result<(), NoMemory>
-        requires { length self.old < 8 }
+        requires { length self.old < MOST_ARGS }
         ensures ok { OnOk result (self.new ≡ self.old ++ arg ∷ []) }
         ensures err { OnErr result (self.new ≡ self.old) }
     {
@@ -228,6 +229,10 @@ impl<'a> GroundRef<'a> {
 
 /// The number 0, which fills the unused places of a list of arguments.
 impl Default for Arg {
+    ghost use Rattle.ec_terms.specs.declared.ground.Arg.TheVariants.{Int};
+
+    ghost is_default = { λ arg. arg ≡ Int (pos 0) };
+
     fn default() -> Self {
         Arg::Int(0)
     }
@@ -235,6 +240,10 @@ impl Default for Arg {
 
 /// The number 0, which fills the unused places of a list of arguments.
 impl Default for ArgRef<'_> {
+    ghost use Rattle.ec_terms.specs.declared.ground.Arg.TheVariants.{Int};
+
+    ghost is_default = { λ arg. arg_of arg ≡ Int (pos 0) };
+
     fn default() -> Self {
         ArgRef::Int(0)
     }
@@ -253,7 +262,7 @@ impl<'a> ArgRefs<'a> {
     /// How many arguments there are.
     pub fn len(&self) -> usize
         ensures count { result ≡ length self.now }
-        ensures few { result ≤ 8 }
+        ensures few { result ≤ MOST_ARGS }
     {
         self.items.len()
     }
@@ -269,14 +278,14 @@ impl<'a> ArgRefs<'a> {
     /// All arguments, in order.
     pub fn as_slice(&self) -> &[ArgRef<'a>]
         ensures items { result.now ≡ self.now }
-        ensures few { length self.now ≤ 8 }
+        ensures few { length self.now ≤ MOST_ARGS }
     {
         self.items.as_slice()
     }
 
     /// Adds an argument at the end.
     pub fn push(&mut self, arg: ArgRef<'a>)
-        requires { length self.old < 8 }
+        requires { length self.old < MOST_ARGS }
         ensures { self.new ≡ self.old ++ arg.entry ∷ [] }
     {
         self.items.push(arg);

@@ -6,6 +6,7 @@ ghost use Rattle.std.specs.Hash as fed;
 ghost use Rattle.std.specs.Cmp.Rules.{hashing};
 ghost use Rattle.std.proofs.Common.{rules};
 
+use crate::limits::LONGEST_NAME;
 use crate::spelling::is_name;
 use arrayvec::ArrayString;
 use std::cmp::Ordering;
@@ -14,10 +15,11 @@ use std::marker::Model;
 use std::{fmt, str};
 
 /// A name: an identity of an event, or the name of an event, a property or an argument.
-/// A lower case letter, then letters, digits and underscores; 1 to 64 bytes, kept in place.
+/// A lower case letter, then letters, digits and underscores; 1 to `LONGEST_NAME` bytes, kept in
+/// place.
 #[derive(Drop)]
 pub struct Name {
-    text: ArrayString<64>,
+    text: ArrayString<LONGEST_NAME>,
 }
 
 impl Model for Name {
@@ -64,7 +66,7 @@ impl Name {
     pub fn as_bytes(&self) -> &[u8]
         ensures bytes { result.now ≡ self.now }
         ensures name { IsTrue (is_name self.now) }
-        ensures short { length result.now ≤ 64 }
+        ensures short { length result.now ≤ LONGEST_NAME }
     {
         self.text.as_str().as_bytes()
     }

@@ -8,13 +8,14 @@ ghost use Rattle.ec_terms.specs.Spelling.{begins_with, is_name, name_run};
 ghost use Rattle.ec_terms.specs.Front.{name_front, digit_run, number_run, number_front, arg_front, args_front};
 ghost use Rattle.ec_terms.specs.Term.{arg_of, ground_of, is_argument, names_are_names, term_front};
 
-use crate::ground::{ArgRef, ArgRefs, GroundRef, MOST_ARGS};
+use crate::ground::{ArgRef, ArgRefs, GroundRef};
+use crate::limits::MOST_ARGS;
 use crate::spelling::{begins_lower, is_name_run, name_run_len};
 use ec_moment::read_number;
 
 /// Reads the name at the front, and says how many bytes it has. `None` where the longest run of name
-/// bytes at the front is no name: where it is empty, is over 64 bytes long or begins with no lower
-/// case letter.
+/// bytes at the front is no name: where it is empty, is longer than `LONGEST_NAME` or begins with no
+/// lower case letter.
 pub fn read_name(bytes: &[u8]) -> Option<(&[u8], usize)>
     ensures exact { MatchOption result (name_front bytes.now ≡ None) (λ r. name_front bytes.now ≡ Some (r.0.now, r.1)) }
     ensures name { IfSome result (λ r. IsTrue (is_name r.0.now)) }
@@ -53,8 +54,8 @@ fn number_run_len(bytes: &[u8]) -> usize
 }
 
 /// Reads the number at the front, and says how many bytes it has. `None` where the longest run of an
-/// optional `-` and digits at the front is no number: where it has no digit or over 20, or its value
-/// does not fit.
+/// optional `-` and digits at the front is no number: where it has no digit or more than a number has,
+/// or its value does not fit.
 pub fn read_int(bytes: &[u8]) -> Option<(i64, usize)>
     ensures exact { result ≡ number_front bytes.now }
     ensures within { IfSome result (λ r. r.1 ≤ length bytes.now) }
@@ -117,8 +118,8 @@ fn begins_open(bytes: &[u8]) -> bool
 }
 
 /// Reads the ground term at the front, and says how many bytes it has. Its name is the longest run of
-/// name bytes; where a `(` follows, the whole form is needed: 1 to 8 arguments with `,` between them
-/// and a `)`. `None` where no term stands there.
+/// name bytes; where a `(` follows, the whole form is needed: 1 to `MOST_ARGS` arguments with `,`
+/// between them and a `)`. `None` where no term stands there.
 pub fn read_ground(bytes: &[u8]) -> Option<(GroundRef<'_>, usize)>
     ensures exact { MatchOption result (term_front bytes.now ≡ None) (λ r. term_front bytes.now ≡ Some (ground_of r.0, r.1)) }
     ensures names { IfSome result (λ r. IsTrue (names_are_names (ground_of r.0))) }

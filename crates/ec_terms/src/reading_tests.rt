@@ -118,12 +118,13 @@ fn names_are_equal_and_ordered_by_bytes(rt: HostRuntime) {
     assert!(rt; Name::from_bytes(TOO_LONG).is_none());
 }
 
-/// The term `on(lamp,-3)`, built part by part.
+/// The term `on(lamp,-3,high)`, built part by part: more arguments than are kept in place.
 fn built(alloc: Global) -> Option<Ground> {
     let name = Name::from_bytes(b"on")?;
     let mut args = Args::new(alloc);
     args.push(Arg::Word(Name::from_bytes(b"lamp")?)).ok()?;
     args.push(Arg::Int(-3)).ok()?;
+    args.push(Arg::Word(Name::from_bytes(b"high")?)).ok()?;
     Some(Ground { name, args })
 }
 
@@ -132,8 +133,8 @@ fn terms_are_built_and_borrowed(rt: HostRuntime) {
     let Some(term) = built(rt.alloc()) else {
         panic!(rt; "no memory");
     };
-    assert!(rt; term.args.len() == 2);
-    assert!(rt; text(&term.borrow()).as_str() == "on(lamp,-3)");
+    assert!(rt; term.args.len() == 3);
+    assert!(rt; text(&term.borrow()).as_str() == "on(lamp,-3,high)");
     let mut args = ArgRefs::new();
     args.push(ArgRef::Word(b"lamp"));
     args.push(ArgRef::Int(-3));

@@ -1,4 +1,5 @@
-ghost use Rattle.std.specs.Prelude.{◌≡◌, ◌<◌, [], ◌∷◌, ◌++◌, length, slice_get, Some, OnOk, OnErr};
+ghost use Rattle.std.specs.Prelude.{◌≡◌, ◌<◌, [], ◌∷◌, ◌++◌, length, slice_get, Some, IfNone, OnOk, OnErr};
+ghost use Rattle.std.specs.Option.{option_to_list};
 
 use crate::no_memory::NoMemory;
 use std::alloc::Global;
@@ -60,5 +61,13 @@ impl<T: Drop> Sequence<T> {
     {
         self.items.push(item)?;
         Ok(())
+    }
+
+    /// Takes the last member out, and answers it. None is for the empty list. It takes no memory.
+    pub fn pop(&mut self) -> Option<T>
+        ensures last { self.old ≡ self.new ++ option_to_list result }
+        ensures none { IfNone result (self.old ≡ []) }
+    {
+        self.items.pop()
     }
 }

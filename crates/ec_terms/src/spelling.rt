@@ -5,8 +5,7 @@ ghost use Rattle.std.specs.Prelude.{◌≡◌, IsTrue, length};
 ghost use Rattle.std.specs.List.{list_all};
 ghost use Rattle.ec_terms.specs.Spelling.{is_lower, is_name_byte, is_name, name_run, begins_with};
 
-/// The most bytes that a name has.
-pub(crate) const LONGEST_NAME: usize = 64;
+use crate::limits::LONGEST_NAME;
 
 /// Whether a name or a variable may have this byte behind its first: a letter, a digit or `_`.
 pub(crate) fn is_name_byte(byte: u8) -> bool

@@ -5,16 +5,17 @@ ghost use Rattle.ec_terms.specs.Term.{arg_of, arg_text, ground_of, is_argument, 
 ghost use Rattle.ec_terms.specs.TextLaws.{IsTerm, has_size};
 
 use crate::ground::{ArgRef, GroundRef};
+use crate::limits::{LONGEST_NAME, LONGEST_TERM};
 use arrayvec::ArrayVec;
 use itoa::Buffer;
 use std::marker::Model;
 use std::{fmt, str};
 
-/// The text of a ground term: at most 592 bytes, all of them ASCII, kept in place. Contracts see it as
-/// the list of its bytes.
+/// The text of a ground term: at most `LONGEST_TERM` bytes, all of them ASCII, kept in place.
+/// Contracts see it as the list of its bytes.
 #[derive(Drop)]
 pub struct TermText {
-    bytes: ArrayVec<u8, 592>,
+    bytes: ArrayVec<u8, LONGEST_TERM>,
 }
 
 impl Model for TermText {
@@ -41,7 +42,7 @@ impl TermText {
     /// Adds one ASCII byte at the end.
     fn push(&mut self, byte: u8)
         requires ascii { byte < 128 }
-        requires room { length self.old < 592 }
+        requires room { length self.old < LONGEST_TERM }
         ensures { self.new ≡ self.old ++ byte ∷ [] }
     {
         self.bytes.push(byte);
@@ -50,7 +51,7 @@ impl TermText {
     /// Adds ASCII bytes at the end.
     fn push_bytes(&mut self, part: &[u8])
         requires ascii { IsAscii part.now }
-        requires room { length self.old + length part.now ≤ 592 }
+        requires room { length self.old + length part.now ≤ LONGEST_TERM }
         ensures { self.new ≡ self.old ++ part.now }
     {
         if self.bytes.try_extend_from_slice(part).is_err() {
@@ -61,10 +62,10 @@ impl TermText {
     /// Adds the text of an argument at the end.
     fn push_arg(&mut self, arg: &ArgRef<'_>)
         requires name { IsTrue (is_argument (arg_of arg.now)) }
-        requires room { length self.old + 64 ≤ 592 }
+        requires room { length self.old + LONGEST_NAME ≤ LONGEST_TERM }
         ensures text { self.new ≡ self.old ++ arg_text (arg_of arg.now) }
         ensures size { IsTrue (has_size (arg_of arg.now)) }
-        ensures short { length self.new ≤ length self.old + 64 }
+        ensures short { length self.new ≤ length self.old + LONGEST_NAME }
     {
         match *arg {
             ArgRef::Int(number) => {
@@ -78,7 +79,7 @@ impl TermText {
     /// How many bytes the text has.
     pub fn len(&self) -> usize
         ensures value { result ≡ length self.now }
-        ensures fits { result ≤ 592 }
+        ensures fits { result ≤ LONGEST_TERM }
     {
         self.bytes.len()
     }
@@ -93,7 +94,7 @@ impl TermText {
     /// The bytes of the text.
     pub fn as_bytes(&self) -> &[u8]
         ensures value { result.now ≡ self.now }
-        ensures fits { length result.now ≤ 592 }
+        ensures fits { length result.now ≤ LONGEST_TERM }
         ensures ascii { IsAscii self.now }
     {
         self.bytes.as_slice()
@@ -102,7 +103,7 @@ impl TermText {
     /// The text.
     pub fn as_str(&self) -> &str
         ensures value { result.now ≡ self.now }
-        ensures fits { length result.now ≤ 592 }
+        ensures fits { length result.now ≤ LONGEST_TERM }
     {
         match str::from_utf8(self.bytes.as_slice()) {
             Ok(text) => text,
@@ -130,7 +131,7 @@ impl fmt::Debug for TermText {
 pub fn text(term: &GroundRef<'_>) -> TermText
     requires { IsTrue (names_are_names (ground_of term.now)) }
     ensures exact { result ≡ term_text (ground_of term.now) }
-    ensures short { length result ≤ 585 }
+    ensures short { length result ≤ LONGEST_TERM }
     ensures term { IsTerm (ground_of term.now) }
     ensures spells { term_value result ≡ Some (ground_of term.now) }
 {

@@ -15,7 +15,7 @@ use std::test::Fail;
 fn term<'a>(rt: &impl Abort, name: &'a [u8], items: &[ArgRef<'a>]) -> GroundRef<'a> {
     let mut args = ArgRefs::new();
     for item in items {
-        assert!(rt; args.len() < 8);
+        assert!(rt; args.len() < MOST_ARGS);
         args.push(*item);
     }
     GroundRef { name, args }
@@ -58,7 +58,7 @@ fn is_small(place: &PatArg) -> bool
     ensures { result ≡ is_small_place place.now }
 {
     match place {
-        PatArg::Var(variable) => *variable < 16,
+        PatArg::Var(variable) => (*variable as usize) < MOST_VARIABLES,
         PatArg::Any | PatArg::Fixed(_) => true,
     }
 }
@@ -82,7 +82,7 @@ fn is_named_arg(arg: &ArgRef<'_>) -> bool
 
 /// What `matches` answers, with its conditions asserted.
 fn matched<'a>(rt: &impl Abort, pattern: &Pattern, term: &GroundRef<'a>) -> Option<Binding<'a>> {
-    assert!(rt; pattern.args.len() <= 8);
+    assert!(rt; pattern.args.len() <= MOST_ARGS);
     assert!(rt; are_small(pattern.args.as_slice()));
     assert!(rt; spelling::is_name(term.name));
     assert!(rt; are_named(term.args.as_slice()));
@@ -198,7 +198,8 @@ fn is_ready_side(side: &PatArg, binding: &Binding<'_>) -> bool
     ensures { result ≡ is_ready_place (values_of binding.now) side.now }
 {
     match side {
-        PatArg::Var(variable) => *variable < 16 && binding.get(*variable).is_some(),
+        PatArg::Var(variable) => (*variable as usize) < MOST_VARIABLES
+            && binding.get(*variable).is_some(),
         PatArg::Any => false,
         PatArg::Fixed(_) => true,
     }
@@ -298,5 +299,36 @@ fn all_tests_of_a_rule_have_to_hold(rt: HostRuntime) -> Result<(), Fail> {
             assert!(rt; held(&rt, &rule, &Binding::new()) == (first && second));
         }
     }
+    Ok(())
+}
+
+#[test]
+fn the_last_member_of_a_list_is_taken_out(rt: HostRuntime) -> Result<(), Fail> {
+    let mut members = Sequence::new(rt.alloc());
+    members.push(4u8)?;
+    members.push(7)?;
+    assert_eq!(rt; members.pop(), Some(7));
+    assert_eq!(rt; members.pop(), Some(4));
+    assert_eq!(rt; members.pop(), None);
+    Ok(())
+}
+
+#[test]
+fn each_printed_form(rt: HostRuntime) -> Result<(), Fail> {
+    let lamp = name(&rt, b"lamp");
+    let shown = format!(in rt.alloc();
+        "{lamp} {lamp:?} {NoMemory} {:?} {:?} {:?}",
+        PropId(3),
+        Slot(4),
+        Kind::Initiates
+    )?;
+    assert_eq!(rt;
+        shown.as_str(),
+        "lamp \"lamp\" out of memory PropId(3) Slot(4) Initiates"
+    );
+    let (whole, _) = read_ground(b"lamp(-5)").ok_or("a term")?;
+    let text = text(&whole);
+    let shown = format!(in rt.alloc(); "{text} {text:?}")?;
+    assert_eq!(rt; shown.as_str(), "lamp(-5) \"lamp(-5)\"");
     Ok(())
 }

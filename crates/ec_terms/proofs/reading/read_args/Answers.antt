@@ -1,6 +1,7 @@
 -- Each argument is one piece: a `,` goes on to the next, a `)` ends the last, and anything else spells no arguments.
 use Rattle.std.proofs.Common.{◌≤◌, ◌<◌, ◌+◌, List, ◌∙◌, Some, ap, arith, rules, length, map, refl, subst, sym}
 use Rattle.std.proofs.lemmas.List.{length-map}
+use Rattle.ec_terms.specs.declared.limits.TheConstants.{MOST_ARGS}
 use Rattle.ec_terms.specs.declared.ground.Arg.{Arg}
 use Rattle.ec_terms.specs.Term.{arg_of}
 use Rattle.ec_terms.proofs.Pieces.{ReadSoFar, args_from-front, read_no_arg, read_comma, read_close, read_end, read_other, read_full, map-push, names-push, place-within}
@@ -26,7 +27,7 @@ pub returns-then-mark-eq41-clause-exact : goal.returns-then-mark-eq41-clause-exa
 returns-then-mark-eq41-clause-exact c =
     let there = c.in_ok-mark.ensures.lookup.3 in
     let args = map-push c.push.new.self c.loop-args.args c.in_ok-arg.arg c.push.ensures in
-    let few : length (map arg_of c.loop-args.args) < 8 = rw length-map (omega arith) in
+    let few : length (map arg_of c.loop-args.args) < MOST_ARGS = rw length-map (omega arith) in
     read_close c.args.bytes.now _ _ _ _ c.loop-args.invariant.so_far c.in_ok-arg.ensures.exact there.0 (sym (there.1 0) ∙ c.if-mark-eq41.true) few
     ∙ ap (λ (xs : List Arg). Some (xs, c.loop-args.at + c.in_ok-arg.count + 1)) (sym args)
 
@@ -48,5 +49,5 @@ loop-args-preserved c =
 
 pub returns-clause-exact : goal.returns-clause-exact
 returns-clause-exact c =
-    let full : 8 ≤ length (map arg_of c.loop-args.args) = rw length-map (omega arith) in
+    let full : MOST_ARGS ≤ length (map arg_of c.loop-args.args) = rw length-map (omega arith) in
     read_full c.args.bytes.now _ _ c.loop-args.invariant.so_far full

@@ -1,6 +1,7 @@
 -- The arguments so far are the first of those that the text spells.
 use Rattle.std.proofs.Common.{◌≡◌, ◌≤◌, ◌-◌, length, map, drop, IsTrue}
 use Rattle.std.specs.List.{list_all}
+use Rattle.ec_terms.specs.declared.limits.TheConstants.{MOST_ARGS}
 use Rattle.ec_terms.specs.Term.{arg_of, is_argument}
 use Rattle.ec_terms.specs.Front.{args_front}
 use Rattle.ec_terms.proofs.Pieces.{args_from}
@@ -14,4 +15,4 @@ invariant-loop-args l = record {
 }
 
 abbrev pub decreases-loop-args : goal.decreases-loop-args
-decreases-loop-args l = 8 - length l.args
+decreases-loop-args l = MOST_ARGS - length l.args

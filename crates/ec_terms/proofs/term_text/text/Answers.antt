@@ -2,6 +2,7 @@
 use Rattle.std.proofs.Common.{◌≤◌, ℕ, true, ◌≡◌, ◌++◌, ◌∷◌, ◌∙◌, ◌+◌, pos, refl, length-append, [], List, ap, sym, subst, arith, length, map, take, get_or}
 use Rattle.std.proofs.lemmas.List.{take_all, length-map}
 use Rattle.std.specs.List.{list_all}
+use Rattle.ec_terms.specs.declared.limits.TheConstants.{MOST_ARGS}
 use Rattle.ec_terms.specs.declared.ground.ArgRef.{ArgRef}
 use Rattle.ec_terms.specs.declared.ground.ArgRef.TheVariants.{Int}
 use Rattle.ec_terms.specs.Term.{arg_of, is_argument, names_are_names, term_value}
@@ -13,7 +14,7 @@ use Rattle.ec_terms.proofs.term_text.text.Goals as goal
 use Rattle.ec_lists.proofs.Tests.{list_all-map_get_or}
 
 -- when the loop has gone through them, each argument was written
-whole_term : (name : List ℕ) (items : List ArgRef) (i : ℕ) (slice : List ArgRef) → slice ≡ items → length items ≤ 8 →
+whole_term : (name : List ℕ) (items : List ArgRef) (i : ℕ) (slice : List ArgRef) → slice ≡ items → length items ≤ MOST_ARGS →
     names_are_names (record { name = name; args = map arg_of items }) ≡ true → length slice ≤ i →
     list_all has_size (map arg_of (take i items)) ≡ true → IsTerm (record { name = name; args = map arg_of items })
 whole_term name items i slice same few names done sizes =

@@ -2,7 +2,7 @@ use Rattle.std.proofs.Common.{◌≡◌, drop, map}
 use Rattle.ec_terms.specs.Binding.{values_of}
 use Rattle.ec_terms.specs.Term.{arg_of}
 use Rattle.ec_terms.proofs.MatchingLemmas.{walk}
-use Rattle.ec_terms.proofs.matching.extend_match.Given as goal
+use Rattle.ec_terms.proofs.matching.match_places.Given as goal
 
 abbrev pub invariant-loop-i : goal.invariant-loop-i
 invariant-loop-i l =
