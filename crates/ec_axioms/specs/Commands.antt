@@ -3,6 +3,7 @@ use Rattle.std.specs.Prelude.{ℕ, ◌+◌, ◌-◌, ◌*◌, ◌&&◌, ◌==◌
 use Rattle.ec_terms.specs.declared.ground.Ground.{Ground}
 use Rattle.ec_terms.specs.Spelling.{is_name}
 use Rattle.ec_terms.specs.Term.{term_value}
+use Rattle.ec_axioms.specs.declared.limits.TheConstants.{SESSIONS}
 use Rattle.ec_axioms.specs.Lines.{words_of}
 
 -- a command with its times as ranks
@@ -99,13 +100,9 @@ command_of_words spelt (word ∷ words) = if_part (keyword_of word) (λ keyword.
 unfoldable pub digit_value_of : ℕ → Option ℕ
 digit_value_of b = if nat_le 48 b && nat_le b 57 then Some (b - 48) else None
 
--- the most that a session's number can be is one less
-abbrev pub session_count : ℕ
-session_count = 64
-
--- a number of a session
+-- a number of a session: one less than their count is the last
 unfoldable pub session_within : ℕ → Option ℕ
-session_within n = if nat_lt n session_count then Some n else None
+session_within n = if nat_lt n SESSIONS then Some n else None
 
 -- the session that one or two digits name: 0 to 63
 unfoldable pub session_of_digits : List ℕ → Option ℕ

@@ -1,4 +1,4 @@
-pub mod Cutting
+pub mod CutLines
 pub mod FeedLemmas
-pub mod Texts
+pub mod ReplyTexts
 pub mod WordLemmas

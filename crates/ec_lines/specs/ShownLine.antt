@@ -8,3 +8,8 @@ use Rattle.ec_lines.specs.declared.line.Line.TheVariants.{Text, Long}
 abbrev pub ShowsLine : Line → List ℕ → Type 0
 ShowsLine (Text bytes) line = (bytes.now ≡ line) × (is_long line ≡ false)
 ShowsLine Long line = is_long line ≡ true
+
+-- what holds of the bytes of a line, where it is told by its bytes
+abbrev pub IfText : Line → (List ℕ → Type 0) → Type 0
+IfText (Text bytes) P = P bytes.now
+IfText Long P = Unit {0}

@@ -37,7 +37,7 @@ pub enum Answer {
 /// Writes a whole reply line: the prefix if the line had one, the answer's text and the line end.
 /// `Failed` comes only where a call of the sink failed, and then some first part of the line was
 /// written.
-#[tactic(auto, unfolding(ec_axioms::specs::Answers::reply_text), using(crate::proofs::Texts::texts))]
+#[tactic(auto, unfolding(ec_axioms::specs::Answers::reply_text), using(crate::proofs::ReplyTexts::texts))]
 pub fn write_answer<K: Sink>(
     session: Option<u8>,
     answer: &Answer,
@@ -56,7 +56,7 @@ pub fn write_answer<K: Sink>(
 
 /// Writes the prefix of a reply: `@`, the session's number without leading zeros and a space, and
 /// nothing where the line had no prefix. `Failed` is as for `write_answer`.
-#[tactic(auto, unfolding(ec_axioms::specs::Answers::reply_text), using(crate::proofs::Texts::texts))]
+#[tactic(auto, unfolding(ec_axioms::specs::Answers::reply_text), using(crate::proofs::ReplyTexts::texts))]
 pub fn write_front<K: Sink>(session: Option<u8>, out: &mut K) -> Result<(), Failed>
     ensures written { OnOk result (Appended K.stands out.old out.new (front_text session)) }
     ensures part { OnErr result (AppendedPart K.stands out.old out.new (front_text session)) }

@@ -8,7 +8,7 @@ ghost use Rattle.ec_lines.specs.ShownKeyword.{plain_keyword};
 
 use crate::command::Command;
 use crate::keyword::Keyword;
-use crate::words::Words;
+use crate::line_words::Words;
 use ec_moment::Moment;
 use ec_terms::{GroundRef, Name, read_ground};
 

@@ -2,7 +2,7 @@ ghost use Rattle.std.specs.Prelude.{◌≡◌, ℕ, ◌-◌, ◌<◌, ◌≤◌,
 ghost use Rattle.std.specs.Io.BufRead.{take_through};
 ghost use Rattle.ec_axioms.specs.Lines.{line_feed, carriage_return, without_return, cut_of, is_long};
 ghost use Rattle.ec_lines.specs.FeedState.{IsPart, IsReady, IsEnded, Advances, Finishes};
-ghost use Rattle.ec_lines.specs.ShownLine.{ShowsLine};
+ghost use Rattle.ec_lines.specs.ShownLine.{IfText, ShowsLine};
 
 use crate::line::Line;
 use ec_axioms::LONGEST_LINE;
@@ -27,14 +27,16 @@ pub struct Feed {
 }
 
 impl Model for Feed {
-    ghost use Rattle.std.specs.Prelude.{◌≤◌, vec_capacity, vec_len};
+    ghost use Rattle.std.specs.Prelude.{◌≡◌, ◌+◌, ◌≤◌, true, false, vec_capacity, vec_len};
+    ghost use Rattle.ec_axioms.specs.Lines.{longest_line};
     ghost use Rattle.ec_lines.specs.FeedState.{FeedState};
 
     ghost Value = { FeedState };
 
     ghost view = { λ f. record { kept = f.kept.items; is_long = f.is_long; is_ready = f.is_ready } };
 
-    ghost invariant = { λ f. (4097 ≤ vec_capacity f.kept) × (vec_len f.kept ≤ 4097) };
+    ghost invariant = { λ f. (longest_line + 1 ≤ vec_capacity f.kept) × (vec_len f.kept ≤ longest_line + 1)
+        × (f.is_ready ≡ true → f.is_long ≡ false → vec_len f.kept ≤ longest_line) };
 }
 
 impl Feed {
@@ -94,7 +96,8 @@ impl Feed {
     /// The line that is ready.
     pub fn line(&self) -> Line<'_>
         requires { self.now.is_ready ≡ true }
-        ensures { (line : List ℕ) → IsReady self.now line → ShowsLine result line }
+        ensures shown { (line : List ℕ) → IsReady self.now line → ShowsLine result line }
+        ensures short { IfText result (λ bytes. length bytes ≤ LONGEST_LINE) }
     {
         if self.is_long {
             Line::Long

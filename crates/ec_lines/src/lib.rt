@@ -7,16 +7,16 @@ mod command;
 mod feed;
 mod keyword;
 mod line;
-mod reading;
+mod line_reading;
+mod line_words;
 mod reply_text;
 #[cfg(test)]
 mod tests;
-mod words;
 
 pub use answer::{Answer, write_answer, write_front};
 pub use command::{Command, Parsed};
 pub use ec_axioms::{Cut, LONGEST_LINE};
 pub use feed::Feed;
 pub use line::Line;
-pub use reading::read_command;
+pub use line_reading::read_command;
 pub use reply_text::ReplyText;

@@ -64,7 +64,7 @@ impl ReplyText {
     }
 
     /// The text that a reply begins with: its prefix, where the line had one.
-    #[tactic(auto, unfolding(ec_axioms::specs::Answers::front_text), using(crate::proofs::Texts::texts))]
+    #[tactic(auto, unfolding(ec_axioms::specs::Answers::front_text), using(crate::proofs::ReplyTexts::texts))]
     pub fn front(session: Option<u8>) -> Self
         ensures text { result ≡ front_text session }
         ensures len { length result ≤ 22 }
@@ -82,7 +82,7 @@ impl ReplyText {
     }
 
     /// Adds what an update was refused for.
-    #[tactic(auto, unfolding(ec_axioms::specs::Answers::cut_text), using(crate::proofs::Texts::texts))]
+    #[tactic(auto, unfolding(ec_axioms::specs::Answers::cut_text), using(crate::proofs::ReplyTexts::texts))]
     pub fn push_cut(&mut self, cut: &Cut)
         requires { length self.old + 74 ≤ 160 }
         ensures text { self.new ≡ self.old ++ cut_text cut.now }
@@ -113,7 +113,7 @@ impl ReplyText {
     }
 
     /// Adds what an update changed.
-    #[tactic(auto, unfolding(ec_axioms::specs::Answers::seen_text), using(crate::proofs::Texts::texts))]
+    #[tactic(auto, unfolding(ec_axioms::specs::Answers::seen_text), using(crate::proofs::ReplyTexts::texts))]
     pub fn push_seen(&mut self, counts: &Seen)
         requires { length self.old + 101 ≤ 160 }
         ensures text { self.new ≡ self.old ++ seen_text counts.now }
@@ -130,7 +130,7 @@ impl ReplyText {
     }
 
     /// Adds that the update at a place of a draft was refused.
-    #[tactic(auto, unfolding(ec_axioms::specs::Answers::answer_text), using(crate::proofs::Texts::texts))]
+    #[tactic(auto, unfolding(ec_axioms::specs::Answers::answer_text), using(crate::proofs::ReplyTexts::texts))]
     pub fn push_commit(&mut self, place: u32, cut: &Cut)
         requires { length self.old + 110 ≤ 160 }
         ensures text { self.new ≡ self.old ++ answer_text (refused_commit place cut.now) }
@@ -143,7 +143,7 @@ impl ReplyText {
     }
 
     /// Adds the text of an answer.
-    #[tactic(auto, unfolding(ec_axioms::specs::Answers::answer_text), using(crate::proofs::Texts::texts))]
+    #[tactic(auto, unfolding(ec_axioms::specs::Answers::answer_text), using(crate::proofs::ReplyTexts::texts))]
     pub fn push_answer(&mut self, answer: &Answer)
         requires { length self.old ≤ 22 }
         ensures text { self.new ≡ self.old ++ answer_text (plain_answer answer.now) }

@@ -8,6 +8,7 @@ use ec_moment::Tick;
 use ec_outside::{Failed, MemSink};
 use ec_terms::{Name, NoMemory};
 use std::alloc::Global;
+use std::test::Fail;
 
 /// An input, and its lines: each without its line feed and without one carriage return before it, and
 /// the last as it is.
@@ -229,61 +230,74 @@ fn the_parts_of_a_command_stand_in_their_places(rt: HostRuntime) {
 fn is_written(
     alloc: Global,
     session: Option<u8>,
-    answer: Option<Answer>,
+    answer: &Answer,
     text: &[u8],
 ) -> Result<bool, NoMemory> {
-    let Some(answer) = answer else {
-        return Ok(false);
-    };
     let mut sink = MemSink::new(alloc, 256, 3, &[], &[])?;
-    Ok(write_answer(session, &answer, &mut sink) == Ok(()) && sink.bytes() == text)
+    Ok(write_answer(session, answer, &mut sink) == Ok(()) && sink.bytes() == text)
 }
 
-/// The refusal of an update whose identity is `id`.
-fn duplicate(id: &[u8]) -> Option<Cut> {
-    Name::from_bytes(id).map(Cut::Duplicate)
-}
+const COUNTS: Seen = Seen {
+    seen: 12,
+    on: u64::MAX,
+    off: 0,
+    props: 13,
+};
+
+/// Answers with the session of their line and their text.
+const ANSWERS: [(Option<u8>, Answer, &[u8]); 17] = [
+    (Some(0), Answer::Ok, b"@0 ok\n"),
+    (None, Answer::Yes, b"yes\n"),
+    (Some(63), Answer::No, b"@63 no\n"),
+    (None, Answer::Bye, b"bye\n"),
+    (Some(7), Answer::Drafted(1_024), b"@7 drafted 1024\n"),
+    (
+        None,
+        Answer::Last(COUNTS),
+        b"last seen 12 on 18446744073709551615 off 0 props 13\n",
+    ),
+    (None, Answer::LongLine, b"refused long-line\n"),
+    (None, Answer::Syntax, b"refused syntax\n"),
+    (None, Answer::InDraft, b"refused in-draft\n"),
+    (None, Answer::NoDraft, b"refused no-draft\n"),
+    (None, Answer::FullDraft, b"refused full-draft 1024\n"),
+    (None, Answer::Order, b"refused order\n"),
+    (None, Answer::Memory, b"refused memory\n"),
+    (None, Answer::Unbuilt, b"refused unbuilt\n"),
+    (
+        None,
+        Answer::Update(Cut::FullEvents),
+        b"refused full-events 131072\n",
+    ),
+    (
+        None,
+        Answer::Commit(2, Cut::FullMentions),
+        b"refused commit 2 full-mentions 1048576\n",
+    ),
+    (
+        None,
+        Answer::Update(Cut::FullLinks),
+        b"refused full-links 16777216\n",
+    ),
+];
 
 #[test]
 fn each_answer_has_its_text(rt: HostRuntime) {
-    let most = u64::MAX;
-    let counts = Seen {
-        seen: 12,
-        on: most,
-        off: 0,
-        props: 13,
-    };
-    let long =
-        b"@63 refused commit 4294967295 duplicate eeeeeeeeeeeeeeeeeeeeeeeeeeeeeeeeeeeeeeeeeeeeeeeeeeeeeeeeeeeeeeee\n";
-    let answers = [
-        (Some(0), Some(Answer::Ok), b"@0 ok\n".as_slice()),
-        (Some(7), Some(Answer::Drafted(1_024)), b"@7 drafted 1024\n"),
-        (
-            None,
-            Some(Answer::Last(counts)),
-            b"last seen 12 on 18446744073709551615 off 0 props 13\n",
-        ),
-        (None, Some(Answer::LongLine), b"refused long-line\n"),
-        (None, Some(Answer::FullDraft), b"refused full-draft 1024\n"),
-        (
-            Some(3),
-            duplicate(b"e_1").map(Answer::Update),
-            b"@3 refused duplicate e_1\n",
-        ),
-        (
-            None,
-            Some(Answer::Commit(2, Cut::FullMentions)),
-            b"refused commit 2 full-mentions 1048576\n",
-        ),
-        (
-            Some(63),
-            duplicate(&[b'e'; 64]).map(|cut| Answer::Commit(u32::MAX, cut)),
-            long,
-        ),
-    ];
-    for (session, answer, text) in answers {
-        assert!(rt; is_written(rt.alloc(), session, answer, text) == Ok(true));
+    for (session, answer, text) in &ANSWERS {
+        assert!(rt; is_written(rt.alloc(), *session, answer, text) == Ok(true));
     }
+}
+
+#[test]
+fn a_refusal_names_the_identity(rt: HostRuntime) -> Result<(), Fail> {
+    let known = Answer::Update(Cut::Duplicate(Name::from_bytes(b"e_1").ok_or("no name")?));
+    assert!(rt; is_written(rt.alloc(), Some(3), &known, b"@3 refused duplicate e_1\n") == Ok(true));
+    let longest = Name::from_bytes(&[b'e'; 64]).ok_or("no name")?;
+    let unknown = Answer::Commit(u32::MAX, Cut::Unknown(longest));
+    let text =
+        b"@63 refused commit 4294967295 unknown eeeeeeeeeeeeeeeeeeeeeeeeeeeeeeeeeeeeeeeeeeeeeeeeeeeeeeeeeeeeeeee\n";
+    assert!(rt; is_written(rt.alloc(), Some(63), &unknown, text) == Ok(true));
+    Ok(())
 }
 
 /// What is written of a reply where the second write fails, each taking four bytes.

@@ -4,7 +4,7 @@ use Rattle.std.proofs.lemmas.List.{map-append}
 use Rattle.ec_axioms.specs.Lines.{CutText, cut_of, whole_lines, lines_of, last_line, without_return}
 use Rattle.ec_axioms.specs.Replies.{State, empty_state, Run, is_quit, has_quit}
 use Rattle.ec_axioms.proofs.Runs.{step_run, run-append, run-quit}
-use Rattle.ec_lines.proofs.Cutting.{behind, cut_of-append}
+use Rattle.ec_lines.proofs.CutLines.{behind, cut_of-append}
 use Rattle.ec_outside.specs.Streams.{Kept}
 use Rattle.ec_outside.proofs.Streams.{Appended-then, Appended-then-Kept, Appended-nil}
 use Rattle.ec_server.specs.Handling.{Language, IsAnswered, AnswersLines, IsServing, HasQuit}

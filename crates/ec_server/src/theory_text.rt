@@ -9,7 +9,7 @@ use ec_theory::{ReadFault, Refused};
 use ec_tokens::{Place, TokenFault};
 
 /// A fault of that name at a place.
-#[tactic(auto, unfolding(crate::specs::TheoryFiles::at_place, crate::specs::TheoryFiles::place_text), using(ec_lines::proofs::Texts::texts))]
+#[tactic(auto, unfolding(crate::specs::TheoryFiles::at_place, crate::specs::TheoryFiles::place_text), using(ec_lines::proofs::ReplyTexts::texts))]
 fn at_place(place: Place, name: &[u8]) -> ReplyText
     requires { length name.now ≤ 20 }
     ensures text { result ≡ at_place place name.now }
@@ -25,7 +25,7 @@ fn at_place(place: Place, name: &[u8]) -> ReplyText
 }
 
 /// A fault of that name in a clause.
-#[tactic(auto, unfolding(crate::specs::TheoryFiles::in_clause), using(ec_lines::proofs::Texts::texts))]
+#[tactic(auto, unfolding(crate::specs::TheoryFiles::in_clause), using(ec_lines::proofs::ReplyTexts::texts))]
 fn in_clause(clause: u32, name: &[u8]) -> ReplyText
     requires { length name.now ≤ 20 }
     ensures text { result ≡ in_clause clause name.now }
@@ -110,7 +110,7 @@ pub(crate) fn fault_text(refused: Refused) -> Option<ReplyText>
 }
 
 /// The line about a theory that is refused.
-#[tactic(auto, unfolding(crate::specs::TheoryFiles::theory_line), using(ec_lines::proofs::Texts::texts))]
+#[tactic(auto, unfolding(crate::specs::TheoryFiles::theory_line), using(ec_lines::proofs::ReplyTexts::texts))]
 pub(crate) fn theory_line(said: &ReplyText) -> ReplyText
     requires { length said.now ≤ 62 }
     ensures { result ≡ theory_line said.now }
@@ -123,7 +123,7 @@ pub(crate) fn theory_line(said: &ReplyText) -> ReplyText
 }
 
 /// The line about a theory that is accepted.
-#[tactic(auto, unfolding(crate::specs::TheoryFiles::accepted_line), using(ec_lines::proofs::Texts::texts))]
+#[tactic(auto, unfolding(crate::specs::TheoryFiles::accepted_line), using(ec_lines::proofs::ReplyTexts::texts))]
 pub(crate) fn accepted_line(theory: &Theory) -> ReplyText
     ensures { result ≡ accepted_line theory.now }
 {

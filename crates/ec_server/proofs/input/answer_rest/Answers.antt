@@ -8,4 +8,4 @@ returns-clause-answered g c = λ taken start at.
     let ready : c.end.new.self.is_ready ≡ true = grind (arith, c.ready.ensures, c.if-not-ready.false) in
     IsLast-line g.K.Sink.stands (record { theory = c.args.desk.now.theory; spelt = g.T.Moment.spelt }) c.handle.result c.end.new.self.is_ready taken
     c.args.desk.now.state c.handle.new.self.state c.end.new.self start c.args.out.now c.handle.new.out ready (c.end.ensures.stream taken at.part)
-    (λ line is. c.handle.ensures.handled line (c.line.ensures line is)) at.serving
+    (λ line is. c.handle.ensures.handled line (c.line.ensures.shown line is)) at.serving

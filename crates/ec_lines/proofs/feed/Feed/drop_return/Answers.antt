@@ -2,7 +2,7 @@ use Rattle.std.proofs.Common.{◌≡◌, ◌∙◌, sym, ap}
 use Rattle.std.proofs.lemmas.Bool.{false≢true}
 use Rattle.ec_axioms.specs.Lines.{without_return}
 use Rattle.ec_lines.specs.FeedState.{FeedState}
-use Rattle.ec_lines.proofs.Cutting.{without_return-take, without_return-same}
+use Rattle.ec_lines.proofs.CutLines.{without_return-take, without_return-same}
 use Rattle.ec_lines.proofs.feed.Feed.drop_return.Goals as goal
 
 pub returns-then-ends_with_return-clause-kept : goal.returns-then-ends_with_return-clause-kept

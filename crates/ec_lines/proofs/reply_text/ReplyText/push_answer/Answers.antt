@@ -2,7 +2,7 @@
 use Rattle.std.proofs.Common.{◌++◌, ◌∙◌, ap, sym}
 use Rattle.ec_axioms.specs.Answers.{answer_text}
 use Rattle.ec_lines.specs.ShownAnswer.{plain_answer}
-use Rattle.ec_lines.proofs.Texts.{two_parts}
+use Rattle.ec_lines.proofs.ReplyTexts.{two_parts}
 use Rattle.ec_lines.proofs.reply_text.ReplyText.push_answer.Goals as goal
 
 pub returns-in-FullDraft-clause-text : goal.returns-in-FullDraft-clause-text

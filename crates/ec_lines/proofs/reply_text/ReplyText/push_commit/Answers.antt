@@ -1,6 +1,6 @@
 use Rattle.std.proofs.Common.{◌++◌, ◌∙◌, ap, sym}
 use Rattle.std.specs.Prelude.{decimal}
-use Rattle.ec_lines.proofs.Texts.{four_parts, answer_text-commit}
+use Rattle.ec_lines.proofs.ReplyTexts.{four_parts, answer_text-commit}
 use Rattle.ec_lines.proofs.reply_text.ReplyText.push_commit.Goals as goal
 
 pub returns-clause-text : goal.returns-clause-text

@@ -1,7 +1,7 @@
 -- A limit's text is its name, then the limit.
 use Rattle.std.proofs.Common.{◌++◌, ◌∙◌, ap, sym}
 use Rattle.ec_axioms.specs.Answers.{cut_text}
-use Rattle.ec_lines.proofs.Texts.{two_parts}
+use Rattle.ec_lines.proofs.ReplyTexts.{two_parts}
 use Rattle.ec_lines.proofs.reply_text.ReplyText.push_cut.Goals as goal
 
 pub returns-in-FullEvents-clause-text : goal.returns-in-FullEvents-clause-text

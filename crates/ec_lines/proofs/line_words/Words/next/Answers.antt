@@ -1,6 +1,6 @@
 use Rattle.std.proofs.Common.{sym, ◌∙◌}
 use Rattle.ec_lines.proofs.WordLemmas.{words_of-found, words_of-not_found}
-use Rattle.ec_lines.proofs.words.Words.next.Goals as goal
+use Rattle.ec_lines.proofs.line_words.Words.next.Goals as goal
 
 pub returns-then-is_empty-clause-none : goal.returns-then-is_empty-clause-none
 returns-then-is_empty-clause-none c =

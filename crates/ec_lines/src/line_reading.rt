@@ -6,11 +6,9 @@ ghost use Rattle.ec_lines.specs.ShownCommand.{plain_command, plain_parsed, AreNa
 use crate::arguments::read_arguments;
 use crate::command::{Command, Parsed};
 use crate::keyword::read_keyword;
-use crate::words::Words;
+use crate::line_words::Words;
+use ec_axioms::SESSIONS;
 use ec_moment::Moment;
-
-/// How many sessions there are. They are numbered from 0.
-const SESSIONS: u8 = 64;
 
 /// The value of a digit.
 #[tactic(auto, unfolding(ec_axioms::specs::Commands::digit_value_of))]
@@ -29,7 +27,7 @@ fn read_digit(byte: u8) -> Option<u8>
 #[tactic(auto, unfolding(ec_axioms::specs::Commands::session_of_digits, ec_axioms::specs::Commands::session_within))]
 fn read_session(digits: &[u8]) -> Option<u8>
     ensures value { result ≡ session_of_digits digits.now }
-    ensures within { IfSome result (λ session. session < 64) }
+    ensures within { IfSome result (λ session. session < SESSIONS) }
 {
     match digits {
         [digit] => read_digit(*digit),
@@ -74,7 +72,7 @@ fn read_words<'a, T: Moment>(words: &mut Words<'a>) -> Command<'a, T>
 fn read_prefixed<'a, T: Moment>(digits: &[u8], words: &mut Words<'a>) -> Parsed<'a, T>
     ensures line { plain_parsed T.rank result ≡ prefixed_line T.spelt (session_of_digits digits.now) words.old }
     ensures names { AreNamed (plain_command T.rank result.command) }
-    ensures session { IfSome result.session (λ session. session < 64) }
+    ensures session { IfSome result.session (λ session. session < SESSIONS) }
 {
     match read_session(digits) {
         Some(session) => Parsed {
@@ -95,7 +93,7 @@ fn read_prefixed<'a, T: Moment>(digits: &[u8], words: &mut Words<'a>) -> Parsed<
 pub fn read_command<'a, T: Moment>(line: &'a [u8]) -> Parsed<'a, T>
     ensures line { plain_parsed T.rank result ≡ parsed_of T.spelt line.now }
     ensures names { AreNamed (plain_command T.rank result.command) }
-    ensures session { IfSome result.session (λ session. session < 64) }
+    ensures session { IfSome result.session (λ session. session < SESSIONS) }
 {
     let mut words = Words::new(line);
     match words.next() {
