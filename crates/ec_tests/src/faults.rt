@@ -9,6 +9,8 @@ use std::test::Fail;
 
 const LAMP: &[u8] = b"initiates plug powered. terminates unplug powered.";
 
+const LAMPS: &[u8] = b"initiates plug(L) powered(L). terminates unplug(L) powered(L).";
+
 const LINES: &[u8] = b"assert p 5 plug\nholds powered 6\nquit\nholds powered 6\n";
 
 const USAGE: &[u8] = b"usage: ec check THEORY / serve THEORY / replay THEORY LINES / soak N SEED\n";
@@ -169,23 +171,27 @@ fn faults_of_the_outside_have_their_statuses(rt: HostRuntime) -> Result<(), Fail
     Ok(())
 }
 
-/// Limits of the lamp's lines, the status with each and what is written.
-const LIMITS: [(u64, Status, &[u8]); 7] = [
-    (0, Status::LimitReached, b""),
-    (15, Status::LimitReached, b""),
-    (16, Status::LimitReached, b"ok\n"),
-    (31, Status::LimitReached, b"ok\n"),
-    (36, Status::LimitReached, b"ok\nyes\n"),
-    (37, Status::Done, b"ok\nyes\nbye\n"),
-    (1_000, Status::Done, b"ok\nyes\nbye\n"),
+/// Two lines, the first of 19 bytes.
+const TWO_LINES: &[u8] = b"assert p 5 plug(a)\nholds powered(a) 6\n";
+
+/// Theories, lines and a limit, the status with it and what is written.
+const LIMITS: [(&[u8], &[u8], u64, Status, &[u8]); 8] = [
+    (LAMPS, TWO_LINES, 19, Status::LimitReached, b"ok\n"),
+    (LAMP, LINES, 0, Status::LimitReached, b""),
+    (LAMP, LINES, 15, Status::LimitReached, b""),
+    (LAMP, LINES, 16, Status::LimitReached, b"ok\n"),
+    (LAMP, LINES, 31, Status::LimitReached, b"ok\n"),
+    (LAMP, LINES, 36, Status::LimitReached, b"ok\nyes\n"),
+    (LAMP, LINES, 37, Status::Done, b"ok\nyes\nbye\n"),
+    (LAMP, LINES, 1_000, Status::Done, b"ok\nyes\nbye\n"),
 ];
 
 #[test]
 fn an_input_has_a_limit(rt: HostRuntime) -> Result<(), Fail> {
-    for (limit, status, written) in LIMITS {
+    for (theory, lines, limit, status, written) in LIMITS {
         for most in [1, 4_096] {
-            let checked = accept(rt.alloc(), LAMP)?;
-            let mut input = MemSource::new(rt.alloc(), LINES, most.max(1), &[])?;
+            let checked = accept(rt.alloc(), theory)?;
+            let mut input = MemSource::new(rt.alloc(), lines, most.max(1), &[])?;
             let mut output = MemSink::new(rt.alloc(), ROOM, ROOM, &[], &[])?;
             assert_eq!(rt;
                 serve(rt.alloc(), checked, &mut input, &mut output, limit),
