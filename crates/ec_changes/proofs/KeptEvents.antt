@@ -14,7 +14,7 @@ use Rattle.ec_axioms.specs.Changes.{comes_before, is_history, event_eq, has_even
 use Rattle.ec_axioms.proofs.Ranks.{int_eq-is, int_eq-same, int_lt-same}
 use Rattle.ec_axioms.proofs.Members.{IsMember, IsMember-filter, IsMember-from_filter, IsPairwise, IsPairwise-filter, list_all-member, list_any-member, member-list_any}
 use Rattle.ec_axioms.proofs.Histories.{comes_before-trans}
-use Rattle.ec_changes.specs.TurnLaws.{KeptIsOfBoth}
+use Rattle.ec_changes.specs.TurnLaws.{KeptIsOfBoth, SameEventsSameHistory}
 
 -- ---- lists in one order
 
@@ -91,12 +91,23 @@ IsPairwise-from_history (e ∷ events) history =
     let first = (and_parts (list_all (comes_before e) events) _ both.0).0 in
     (λ f later. list_all-member (comes_before e) events f first later, IsPairwise-from_history events both.1)
 
+-- two histories with the same events are the same
+history-same : (these those : List PlainEvent) → IsPairwise (λ e f. IsTrue (comes_before e f)) these → IsPairwise (λ e f. IsTrue (comes_before e f)) those
+    → ((e : PlainEvent) → IsMember these e → IsMember those e) → ((e : PlainEvent) → IsMember those e → IsMember these e) → these ≡ those
+history-same = same_from_members (λ e f. IsTrue (comes_before e f)) comes_before-itself comes_before-one_way
+
+-- the law
+pub SameEventsSameHistory-law : SameEventsSameHistory
+SameEventsSameHistory-law these those history_these history_those same =
+    history-same these those (IsPairwise-from_history these history_these) (IsPairwise-from_history those history_those)
+    (λ e member. IsMember-from_has_event those e (sym (same e) ∙ has_event-member these e member))
+    (λ e member. IsMember-from_has_event these e (same e ∙ has_event-member those e member))
+
 -- what stands in both of two histories is the same list, whichever it is taken from
 pub kept_events-both : (old new : List PlainEvent) → IsTrue (is_history old) → IsTrue (is_history new) → kept_events old new ≡ kept_events new old
 unfolding kept_events
 kept_events-both old new history_old history_new =
-    same_from_members (λ e f. IsTrue (comes_before e f)) comes_before-itself comes_before-one_way
-    (filter (has_event new) old) (filter (has_event old) new)
+    history-same (filter (has_event new) old) (filter (has_event old) new)
     (IsPairwise-filter (λ e f. IsTrue (comes_before e f)) (has_event new) old (IsPairwise-from_history old history_old))
     (IsPairwise-filter (λ e f. IsTrue (comes_before e f)) (has_event old) new (IsPairwise-from_history new history_new))
     (swapped old new) (swapped new old)

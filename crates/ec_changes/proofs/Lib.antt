@@ -9,6 +9,8 @@ pub mod LiveMarks
 pub mod TermOrder
 pub mod LinkSteps
 pub mod KeptCounts
+pub mod DistinctTerms
+pub mod OtherIntervals
 pub mod SameList
 pub mod TwoTimelines
 pub mod Inert

@@ -17,7 +17,7 @@ use Rattle.ec_terms.specs.Domain.{is_initial}
 use Rattle.ec_terms.proofs.DomainLemmas.{term_eq-comm}
 use Rattle.ec_axioms.specs.Links.{initial_properties, mentions_of, is_live, in_term_order, live_properties}
 use Rattle.ec_changes.specs.LiveLaws.{is_fixed, FixedInitialsAreListed, LiveIsListed}
-use Rattle.ec_changes.proofs.SameList.{IsDistinct-live_properties}
+use Rattle.ec_changes.proofs.DistinctTerms.{IsDistinct-live_properties}
 use Rattle.ec_changes.proofs.TermOrder.{IsMember-in_term_order, IsMember-from_in_term_order, IsMember-from_test, test-IsMember}
 
 -- fixed places fit the arguments that they fix

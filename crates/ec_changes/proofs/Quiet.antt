@@ -16,9 +16,9 @@ use Rattle.ec_axioms.proofs.Effects.{any_before, any_before-same, breaks_between
 use Rattle.ec_axioms.proofs.Rounds.{is_current-equation}
 use Rattle.ec_axioms.proofs.Ranks.{int_lt-next}
 use Rattle.ec_axioms.proofs.LastInstant.{is_current-last}
-use Rattle.ec_axioms.proofs.Members.{IsMember, filter_none, list_any-false}
+use Rattle.ec_axioms.proofs.Members.{IsMember-from_contains, IsMember, filter_none, list_any-false}
 use Rattle.ec_changes.specs.Differences.{differs, entries_at, reads, IsQuiet}
-use Rattle.ec_changes.specs.QuietLaws.{current_behind, CurrencyBehindMarks, CurrencyGoesOn, QuietInstantsPassOn, QuietStretchesPassOn}
+use Rattle.ec_changes.specs.QuietLaws.{QuietEntriesStay, current_behind, CurrencyBehindMarks, CurrencyGoesOn, QuietInstantsPassOn, QuietStretchesPassOn}
 use Rattle.ec_changes.proofs.Activity.{differs-not, rank-entries_at, is_active-unread, effects_at-agree}
 
 -- ---- the next whole number
@@ -207,3 +207,10 @@ QuietStretchesPassOn-law theory old new r n quiet p = (
       quiet-mark theory old new (r +ℤ pos k) (IsQuiet-same theory old new r (r +ℤ pos k) before (quiet k below)) p,
   stretch-differs theory old new r n quiet p,
 )
+
+-- the law
+pub QuietEntriesStay-law : QuietEntriesStay
+QuietEntriesStay-law theory old new r n quiet k effect below contained =
+    let before = stretch-differs theory old new r k (λ j lower. quiet j (omega arith)) in
+    quiet-active theory old new (r +ℤ pos k) (IsQuiet-same theory old new r (r +ℤ pos k) before (quiet k below)) effect
+    (IsMember-from_contains (entries_at theory old (r +ℤ pos k)) effect contained)

@@ -1,11 +1,11 @@
 -- The laws of what a change counts, as statements.
-use Rattle.std.specs.Prelude.{◌≡◌, ℕ, ◌+◌, ◌<◌, Bool, List, ℤ, pos, ◌+ℤ◌, int_le, int_lt, length, filter, sum_by, IsTrue}
+use Rattle.std.specs.Prelude.{◌↔◌, IsFalse, ◌≡◌, ℕ, ◌+◌, ◌<◌, Bool, List, ℤ, pos, ◌+ℤ◌, int_le, int_lt, length, filter, sum_by, IsTrue}
 use Rattle.std.specs.List.{list_any, list_all, IsDistinct}
 use Rattle.std.specs.Ordering.{int_eq}
 use Rattle.ec_terms.specs.declared.ground.Ground.{Ground}
 use Rattle.ec_terms.specs.declared.theory.Theory.{Theory}
 use Rattle.ec_terms.specs.Term.{term_eq}
-use Rattle.ec_axioms.specs.Calculus.{PlainEvent, Effect}
+use Rattle.ec_axioms.specs.Calculus.{PlainEvent, Effect, intervals_of}
 use Rattle.ec_axioms.specs.Changes.{kept_events, kept_effects, change_counts, work_between, has_other_intervals}
 use Rattle.ec_changes.specs.LiveLaws.{ListsInitials}
 use Rattle.ec_changes.specs.Differences.{differs, entries_at, IsQuiet}
@@ -49,6 +49,12 @@ abbrev pub CountsAreSums : Type 0
 CountsAreSums =
     (theory : Theory) (old new : List PlainEvent) (instants : List ℤ) → IsDistinct int_eq instants
     → IsTrue (list_all (λ e. list_any (int_eq e.rank) instants) (kept_events old new)) → SumsOver theory old new instants
+
+-- A property has other intervals in the new list exactly when its intervals are not the same.
+abbrev pub OtherIntervalsDiffer : Type 0
+OtherIntervalsDiffer =
+    (theory : Theory) (old new : List PlainEvent) (p : Ground)
+    → IsFalse (has_other_intervals theory old new p) ↔ (intervals_of theory old p ≡ intervals_of theory new p)
 
 -- The properties whose intervals differ may be counted in any list that has each of them and has none twice.
 abbrev pub PropertiesInAnyList : Type 0

@@ -1,5 +1,5 @@
 -- The laws of what stays the same between two lists of events, as statements.
-use Rattle.std.specs.Prelude.{◌≡◌, ℕ, ◌<◌, ◌||◌, ◌&&◌, not, ◌++◌, Bool, if◌then◌else◌, List, [], ℤ, pos, ◌+ℤ◌, ◌<ℤ◌, ◌≤ℤ◌, int_le, filter, int_lt, IsTrue}
+use Rattle.std.specs.Prelude.{Contains, ◌≡◌, ℕ, ◌<◌, ◌||◌, ◌&&◌, not, ◌++◌, Bool, if◌then◌else◌, List, [], ℤ, pos, ◌+ℤ◌, ◌<ℤ◌, ◌≤ℤ◌, int_le, filter, int_lt, IsTrue}
 use Rattle.std.specs.List.{list_all}
 use Rattle.ec_terms.specs.declared.ground.Ground.{Ground}
 use Rattle.ec_terms.specs.declared.theory.Theory.{Theory}
@@ -8,7 +8,7 @@ use Rattle.ec_axioms.specs.Timeline.{is_start}
 use Rattle.ec_axioms.specs.Calculus.{PlainEvent, Effect, is_active, is_initiated, has_break, is_current, timeline_of}
 use Rattle.ec_axioms.specs.Marks.{PlainMark, mark_at, marks_of, is_marked, mark_initiates}
 use Rattle.ec_axioms.specs.Changes.{is_history, events_only_in}
-use Rattle.ec_changes.specs.Differences.{differs, IsQuiet}
+use Rattle.ec_changes.specs.Differences.{differs, entries_at, IsQuiet}
 
 -- Current at the next whole number: initiated now, or current now and not broken now.
 abbrev pub CurrencyGoesOn : Type 0
@@ -43,6 +43,14 @@ QuietStretchesPassOn =
     → (p : Ground)
     → ((k : ℕ) → k < n → mark_at theory new p (r +ℤ pos k) ≡ mark_at theory old p (r +ℤ pos k))
     × (differs theory old new p (r +ℤ pos n) ≡ differs theory old new p r)
+
+-- In such a stretch each entry is active in both lists, or in neither.
+abbrev pub QuietEntriesStay : Type 0
+QuietEntriesStay =
+    (theory : Theory) (old new : List PlainEvent) (r : ℤ) (n : ℕ)
+    → ((k : ℕ) → k < n → IsQuiet theory old new (λ p. differs theory old new p r) (r +ℤ pos k))
+    → (k : ℕ) (effect : Effect) → k < n → Contains (entries_at theory old (r +ℤ pos k)) effect
+    → is_active (is_current theory old) effect ≡ is_active (is_current theory new) effect
 
 -- the events that stand in one of two lists alone
 abbrev pub single_events : List PlainEvent → List PlainEvent → List PlainEvent

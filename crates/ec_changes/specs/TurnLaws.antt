@@ -5,9 +5,15 @@ use Rattle.ec_terms.specs.declared.theory.Theory.{Theory}
 use Rattle.ec_terms.specs.Domain.{GroundEntry}
 use Rattle.ec_axioms.specs.Calculus.{PlainEvent, Effect, is_active, effects_at, is_current, is_initiating, is_terminating, is_clashing}
 use Rattle.ec_axioms.specs.Marks.{mark_at}
-use Rattle.ec_axioms.specs.Changes.{is_history, kept_events}
+use Rattle.ec_axioms.specs.Changes.{is_history, has_event, kept_events}
 use Rattle.ec_changes.specs.Differences.{differs, reads}
 use Rattle.ec_changes.specs.Turns.{sees, gained, lost}
+
+-- Two histories with the same events are the same list.
+abbrev pub SameEventsSameHistory : Type 0
+SameEventsSameHistory =
+    (these those : List PlainEvent) → IsTrue (is_history these) → IsTrue (is_history those)
+    → ((e : PlainEvent) → has_event these e ≡ has_event those e) → these ≡ those
 
 -- What stands in both of two histories is one list, whichever of the two it is taken from.
 abbrev pub KeptIsOfBoth : Type 0

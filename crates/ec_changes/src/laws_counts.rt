@@ -1,6 +1,6 @@
 //! What a change counts, each law the contract of a function: the entries that saw a change or turned, instant by instant,
 //! and the properties whose intervals differ.
-ghost use Rattle.ec_changes.specs.CountLaws.{CountsAreSums, KeptCountsAreWhole, KeptCountsGoOn, PropertiesInAnyList, QuietCountsNothing, SameListChangesNothing};
+ghost use Rattle.ec_changes.specs.CountLaws.{CountsAreSums, KeptCountsAreWhole, KeptCountsGoOn, OtherIntervalsDiffer, PropertiesInAnyList, QuietCountsNothing, SameListChangesNothing};
 
 /// Counting kept entries up to a whole number goes on from one to the next by the entries there that pass the test.
 pub fn kept_counts_go_on_law()
@@ -21,6 +21,11 @@ pub fn quiet_counts_nothing_law()
 /// and none twice.
 pub fn counts_are_sums_law()
     ensures { CountsAreSums }
+{}
+
+/// The test for other intervals fails exactly when a property has the same list of intervals in both lists of events.
+pub fn other_intervals_differ_law()
+    ensures { OtherIntervalsDiffer }
 {}
 
 /// The properties whose intervals differ may be counted in any list that has each of them and none twice, where every

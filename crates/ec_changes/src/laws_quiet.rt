@@ -1,6 +1,6 @@
 //! What stays the same between two lists of events, each law the contract of a function: from one whole number to the
 //! next, over stretches where nothing bears on what differs, and before the first event of one list alone.
-ghost use Rattle.ec_changes.specs.QuietLaws.{CurrencyBehindMarks, CurrencyGoesOn, EventsStay, PastStays, QuietInstantsPassOn, QuietStretchesPassOn};
+ghost use Rattle.ec_changes.specs.QuietLaws.{CurrencyBehindMarks, CurrencyGoesOn, EventsStay, PastStays, QuietEntriesStay, QuietInstantsPassOn, QuietStretchesPassOn};
 
 /// A property is current at the next whole number exactly when it is initiated now, or is current now and has no break
 /// now. This holds at every whole number, with an event there or with none, so an induction over whole numbers needs no
@@ -32,6 +32,11 @@ pub fn quiet_instants_pass_on_law()
 /// the next, and look at nothing between.
 pub fn quiet_stretches_pass_on_law()
     ensures { QuietStretchesPassOn }
+{}
+
+/// In a quiet stretch no entry turns: each is active in both lists or in neither.
+pub fn quiet_entries_stay_law()
+    ensures { QuietEntriesStay }
 {}
 
 /// Before the first event that stands in one list alone, everything is as it was: currency up to that time, marks and

@@ -1,6 +1,11 @@
 //! What turned between two histories, each law the contract of a function: how the effects and the marks at an instant
 //! follow from those of the old list and the entries that came to act there or ceased to.
-ghost use Rattle.ec_changes.specs.TurnLaws.{EffectsFollowTurns, KeptIsOfBoth, MarksFollowTurns, SeeingIsReading, UnseenStays};
+ghost use Rattle.ec_changes.specs.TurnLaws.{EffectsFollowTurns, KeptIsOfBoth, MarksFollowTurns, SameEventsSameHistory, SeeingIsReading, UnseenStays};
+
+/// Two histories with the same events are the same list: the order of a history leaves no choice.
+pub fn same_events_same_history_law()
+    ensures { SameEventsSameHistory }
+{}
 
 /// The events that stand in both of two histories are one list, in one order, whichever of the two they are taken from.
 pub fn kept_is_of_both_law()

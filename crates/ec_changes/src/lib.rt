@@ -12,7 +12,8 @@ pub mod worked_changes;
 
 pub use laws_counts::{
     counts_are_sums_law, kept_counts_are_whole_law, kept_counts_go_on_law,
-    properties_in_any_list_law, quiet_counts_nothing_law, same_list_changes_nothing_law,
+    other_intervals_differ_law, properties_in_any_list_law, quiet_counts_nothing_law,
+    same_list_changes_nothing_law,
 };
 pub use laws_inert::inert_changes_keep_intervals_law;
 pub use laws_links::{
@@ -26,9 +27,9 @@ pub use laws_live::{
 };
 pub use laws_quiet::{
     currency_behind_marks_law, currency_goes_on_law, events_stay_law, past_stays_law,
-    quiet_instants_pass_on_law, quiet_stretches_pass_on_law,
+    quiet_entries_stay_law, quiet_instants_pass_on_law, quiet_stretches_pass_on_law,
 };
 pub use laws_turns::{
-    effects_follow_turns_law, kept_is_of_both_law, marks_follow_turns_law, seeing_is_reading_law,
-    unseen_stays_law,
+    effects_follow_turns_law, kept_is_of_both_law, marks_follow_turns_law,
+    same_events_same_history_law, seeing_is_reading_law, unseen_stays_law,
 };
