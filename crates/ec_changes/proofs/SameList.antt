@@ -1,5 +1,5 @@
 -- Between a list and itself nothing changed.
-use Rattle.std.proofs.Common.{◌≡◌, ℕ, ◌+◌, Bool, true, false, not, ◌&&◌, List, [], ◌++◌, length, IsFalse, refl, ap, ap₂, ◌∙◌}
+use Rattle.std.proofs.Common.{◌≡◌, ◌+◌, Bool, true, false, not, ◌&&◌, List, [], ◌++◌, length, IsFalse, refl, ap, ap₂, filter}
 use Rattle.std.specs.Bool.{beq}
 use Rattle.std.proofs.lemmas.Bool.{not_from_true}
 use Rattle.ec_terms.specs.declared.ground.Ground.{Ground}
@@ -7,7 +7,6 @@ use Rattle.ec_terms.specs.declared.theory.Theory.{Theory}
 use Rattle.ec_terms.specs.Domain.{GroundLiteral}
 use Rattle.ec_axioms.specs.Calculus.{PlainEvent, Effect, Currency, is_active, is_current, intervals_of}
 use Rattle.ec_axioms.specs.Changes.{has_event, events_only_in, kept_effects, sees_change, has_other_intervals, change_counts, entry_count, work_between}
-use Rattle.ec_axioms.specs.declared.event.Seen.{Seen}
 use Rattle.ec_axioms.specs.Links.{live_properties}
 use Rattle.ec_axioms.proofs.Members.{filter_none}
 use Rattle.ec_changes.specs.Turns.{turns_on, turns_off}
@@ -40,24 +39,21 @@ has_other_intervals-none : (theory : Theory) (events : List PlainEvent) (p : Gro
 unfolding has_other_intervals
 has_other_intervals-none theory events p = ap not ((intervals_eq-Decides (intervals_of theory events p) (intervals_of theory events p)).1 refl)
 
--- counts by their four fields
-counts_same : (seen on off props : ℕ) → seen ≡ 0 → on ≡ 0 → off ≡ 0 → props ≡ 0
-    → let counts : Seen = record { seen = seen; on = on; off = off; props = props } in counts ≡ record { seen = 0; on = 0; off = 0; props = 0 }
-counts_same seen on off props a b c d =
-    let made : ℕ → ℕ → ℕ → ℕ → Seen = λ w x y z. record { seen = w; on = x; off = y; props = z } in
-    ap (λ w. made w on off props) a ∙ ap (λ x. made 0 x off props) b ∙ ap (λ y. made 0 0 y props) c ∙ ap (made 0 0 0) d
-
--- all counts are zero
-change_counts-none : (theory : Theory) (events : List PlainEvent) → change_counts theory events events ≡ record { seen = 0; on = 0; off = 0; props = 0 }
-unfolding change_counts
-change_counts-none theory events =
+-- the law
+pub SameListChangesNothing-law : SameListChangesNothing
+unfolding change_counts work_between entry_count
+SameListChangesNothing-law theory events =
     let current = is_current theory events in
     let effects = kept_effects theory events events in
-    counts_same _ _ _ _
-    (ap length (filter_none (sees_change current current) effects (λ effect member. sees_change-none current effect)))
-    (ap length (filter_none (turns_on theory events events) effects (λ effect member. not_both (is_active current effect))))
-    (ap length (filter_none (turns_off theory events events) effects (λ effect member. both_not (is_active current effect))))
-    (ap length (filter_none (has_other_intervals theory events events) (live_properties theory (events ++ events)) (λ p member. has_other_intervals-none theory events p)))
+    let unseen : length (filter (sees_change current current) effects) ≡ 0 =
+    ap length (filter_none (sees_change current current) effects (λ effect member. sees_change-none current effect)) in
+    record {
+      seen = unseen;
+      on = ap length (filter_none (turns_on theory events events) effects (λ effect member. not_both (is_active current effect)));
+      off = ap length (filter_none (turns_off theory events events) effects (λ effect member. both_not (is_active current effect)));
+      props = ap length (filter_none (has_other_intervals theory events events) (live_properties theory (events ++ events)) (λ p member. has_other_intervals-none theory events p));
+      work = ap₂ (λ seen singles. seen + entry_count theory (singles ++ singles) + length (singles ++ singles)) unseen (events_only_in-none events);
+    }
   where
     not_both : (b : Bool) → (not b && b) ≡ false
     not_both true = refl
@@ -66,13 +62,3 @@ change_counts-none theory events =
     both_not : (b : Bool) → (b && not b) ≡ false
     both_not true = refl
     both_not false = refl
-
--- the law
-pub SameListChangesNothing-law : SameListChangesNothing
-unfolding work_between entry_count
-SameListChangesNothing-law theory events = (change_counts-none theory events, work)
-  where
-    work : work_between theory events events ≡ 0
-    work =
-        ap₂ (λ (counts : Seen) singles. counts.seen + entry_count theory (singles ++ singles) + length (singles ++ singles))
-        (change_counts-none theory events) (events_only_in-none events)

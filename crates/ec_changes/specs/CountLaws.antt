@@ -63,8 +63,14 @@ PropertiesInAnyList =
     → ((p : Ground) → IsTrue (has_other_intervals theory old new p) → IsTrue (list_any (term_eq p) properties))
     → (change_counts theory old new).props ≡ length (filter (has_other_intervals theory old new) properties)
 
--- Between a list and itself nothing changed, and there is no work.
+-- nothing changed between two lists
+pub record NothingChanged (theory : Theory) (old new : List PlainEvent) : Type 0 where
+  pub seen : (change_counts theory old new).seen ≡ 0
+  pub on : (change_counts theory old new).on ≡ 0
+  pub off : (change_counts theory old new).off ≡ 0
+  pub props : (change_counts theory old new).props ≡ 0
+  pub work : work_between theory old new ≡ 0
+
+-- Between a list and itself nothing changed.
 abbrev pub SameListChangesNothing : Type 0
-SameListChangesNothing =
-    (theory : Theory) (events : List PlainEvent)
-    → (change_counts theory events events ≡ record { seen = 0; on = 0; off = 0; props = 0 }) × (work_between theory events events ≡ 0)
+SameListChangesNothing = (theory : Theory) (events : List PlainEvent) → NothingChanged theory events events
