@@ -6,11 +6,11 @@ use Rattle.std.specs.Ordering.{is_lt}
 use Rattle.std.proofs.lemmas.Bool.{cases_Bool, false≢true}
 use Rattle.ec_terms.specs.declared.ground.Ground.{Ground}
 use Rattle.ec_terms.specs.declared.ids.PropId.{PropId}
-use Rattle.ec_terms.specs.Term.{term_cmp}
+use Rattle.ec_terms.specs.Term.{term_cmp, term_eq}
 use Rattle.ec_rows.proofs.OrderedLemmas.{and-left, and-right, filter-all, ascending-first, ascending-rest, is_ascending-with_member, is_ascending-filter}
 use Rattle.ec_props.specs.Table.{KeptProp, prop_at, term_at, prop_of, prop_before, is_in_order, unmentioned, with_prop, without_prop, mentioned, with_mentions, kept_as, number_of, kept_of, IsTable}
 use Rattle.ec_props.specs.declared.property.Property.{Property}
-use Rattle.ec_props.proofs.KeptLemmas.{same_number, itself, turned_other, list_all-slice_get, by_term, prop_at-insert, prop_at-without, prop_at-with_mentions, term_at-with_mentions, in_order-with_mentions, numbers-insert, numbers-remove, numbers-with_mentions}
+use Rattle.ec_props.proofs.KeptLemmas.{same_number, itself, turned_other, list_all-slice_get, by_term, prop_at-insert, prop_at-without, prop_at-with_mentions, term_at-with_mentions, in_order-with_mentions, prop_of-insert, prop_of-remove, prop_of-with_mentions, numbers-insert, numbers-remove, numbers-with_mentions}
 use Rattle.ec_props.proofs.TableLemmas.{property_of, AllHeld, AllHeld-kept_of, AllHeld-slice_get, kept_of-numbers, prop_of-kept}
 
 -- ---- properties that are held
@@ -157,6 +157,11 @@ module _ (property_at new_property : ℕ → Option Property) (order new : List 
         (λ e. ap (λ b. cond b (Some (unmentioned p.0 term)) (prop_at id (kept_of property_at order))) e)
         (cases_Bool (p.0 == id))
 
+    -- the numbers that terms find
+    pub prop_of-more : (other : Ground) → prop_of term (kept_of property_at order) ≡ None →
+        prop_of other (kept_of new_property new) ≡ cond (term_eq term other) (Some p.0) (prop_of other (kept_of property_at order))
+    prop_of-more other none = ap (prop_of other) inserted ∙ prop_of-insert other (unmentioned p.0 term) (kept_of property_at order) i none
+
   -- ---- a property less
 
   module _ (p : PropId) (i : ℕ) (k : KeptProp) (at : slice_get (kept_of property_at order) i ≡ Some k) (same : k.id ≡ p.0) (gone : new_property p.0 ≡ None)
@@ -190,6 +195,10 @@ module _ (property_at new_property : ℕ → Option Property) (order new : List 
       in_order = ap is_in_order kept_of-remove ∙ is_ascending-filter prop_before (λ (j : KeptProp). not (j.id == p.0)) (kept_of property_at order) table.in_order;
       found = λ id. ap (prop_at id) kept_of-remove ∙ prop_at-without p.0 id (kept_of property_at order) ∙ found-removed id;
     }
+
+    -- the numbers that terms find
+    pub prop_of-less : (other : Ground) → prop_of other (kept_of new_property new) ≡ cond (term_eq k.term other) None (prop_of other (kept_of property_at order))
+    prop_of-less other = ap (prop_of other) (kept_of-remove ∙ sym removed) ∙ prop_of-remove other (kept_of property_at order) i k table.in_order at
 
   -- ---- other mentions
 
@@ -229,3 +238,6 @@ module _ (property_at new_property : ℕ → Option Property) (order new : List 
 
     pub term_at-mentions : (id : ℕ) → term_at id (kept_of new_property new) ≡ term_at id (kept_of property_at order)
     term_at-mentions id = ap (term_at id) kept_of-mentions ∙ term_at-with_mentions p.0 count id (kept_of property_at order)
+
+    pub prop_of-mentions : (other : Ground) → prop_of other (kept_of new_property new) ≡ prop_of other (kept_of property_at order)
+    prop_of-mentions other = ap (prop_of other) kept_of-mentions ∙ prop_of-with_mentions p.0 count other (kept_of property_at order)

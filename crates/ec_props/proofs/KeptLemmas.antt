@@ -1,7 +1,7 @@
 -- Kept properties: what is found among them, and what a property more, a property less, or other mentions leave.
 use Rattle.std.proofs.Common.{◌≡◌, ℕ, zero, suc, Bool, true, false, cond, not, ◌&&◌, ◌||◌, List, [], ◌∷◌, map, Option, Some, None, refl, sym, ap, ap₂, subst, ◌∙◌, ⊎_elim, slice_get, is_some, arith}
 use Rattle.std.specs.Prelude.{find, option_map, ◌==◌, if◌then◌else◌}
-use Rattle.std.specs.List.{list_all, insert, remove}
+use Rattle.std.specs.List.{list_any, list_all, insert, remove}
 use Rattle.std.specs.declared.cmp.Ordering.{Ordering}
 use Rattle.std.specs.declared.cmp.Ordering.TheVariants.{Less, Equal, Greater}
 use Rattle.std.specs.Ordering.{is_lt, is_eq}
@@ -11,8 +11,8 @@ use Rattle.ec_terms.specs.declared.ids.PropId.{PropId}
 use Rattle.ec_terms.specs.Term.{term_cmp, term_eq}
 use Rattle.ec_terms.proofs.OrderLemmas.{term_cmp-total, term_cmp-exact, term_cmp-Equal, term_eq-Decides}
 use Rattle.ec_rows.specs.Ordered.{is_ascending}
-use Rattle.ec_rows.proofs.OrderedLemmas.{IsOrder, IsOrder-by_key, ascending-first, ascending-rest}
-use Rattle.ec_props.specs.Table.{KeptProp, prop_at, term_at, mentions_at, prop_before, is_in_order, without_prop, mentioned, with_mentions, number_of}
+use Rattle.ec_rows.proofs.OrderedLemmas.{IsOrder, IsOrder-by_key, and-left, and-right, ascending-first, ascending-rest, find-none}
+use Rattle.ec_props.specs.Table.{KeptProp, prop_at, term_at, mentions_at, prop_of, prop_before, is_in_order, without_prop, mentioned, with_mentions, number_of}
 
 -- ---- tests and answers
 
@@ -178,6 +178,11 @@ before-other p q e = term_eq-is_eq p q ∙ from_less (term_cmp p q) e
     from_less Equal e = cc
     from_less Greater e = refl
 
+-- nor is one that it stands before
+behind-other : (p q : Ground) → is_lt (term_cmp p q) ≡ true → term_eq q p ≡ false
+behind-other p q e =
+    ⊎_elim (λ same. absurd (false≢true (sym (before-other p q e) ∙ (term_eq-Decides p q).1 (sym ((term_eq-Decides q p).0 same))))) (λ other. other) (cases_Bool (term_eq q p))
+
 -- a term finds the one property that has it
 pub find-term : (ks : List KeptProp) (i : ℕ) (k : KeptProp) → is_in_order ks ≡ true → slice_get ks i ≡ Some k →
     find (λ (j : KeptProp). term_eq j.term k.term) ks ≡ Some k
@@ -278,3 +283,91 @@ prop_at-with_other_mentions p count id ks other = prop_at-with_mentions p count 
     of (Some k) is =
         ⊎_elim (λ e. absurd (other (sym (prop_at-id id ks k is) ∙ same_number k.id p e)))
         (λ e. ap (λ b. Some (if b then record k { mentions = count } else k)) e) (cases_Bool (k.id == p))
+
+-- ---- what a test finds, with a member more and with one less
+
+-- whether some member passes
+pub is_some-find : {A : Type 0} (p : A → Bool) (xs : List A) → is_some (find p xs) ≡ list_any p xs
+is_some-find p [] = refl
+is_some-find p (x ∷ xs) = ⊎_elim (λ e. rw e refl) (λ e. rw e (is_some-find p xs)) (cases_Bool (p x))
+
+-- with a member more, which no other stands for
+pub find-insert : {A : Type 0} (p : A → Bool) (x : A) (xs : List A) (i : ℕ) → (p x ≡ true → list_any p xs ≡ false) → find p (insert xs i x) ≡ cond (p x) (Some x) (find p xs)
+find-insert p x [] zero alone = refl
+find-insert p x [] (suc i) alone = refl
+find-insert p x (y ∷ ys) zero alone = refl
+find-insert p x (y ∷ ys) (suc i) alone =
+    ap (λ o. cond (p y) (Some y) o) (find-insert p x ys i (λ e. or_right-false (p y) (list_any p ys) (alone e)))
+    ∙ cond-cond (p y) (p x) (Some y) (Some x) (find p ys) (λ e. or_left-false (p y) (list_any p ys) (alone e))
+
+-- with the member at a place less, for which a test does not ask
+pub find-remove : {A : Type 0} (p : A → Bool) (xs : List A) (i : ℕ) (x : A) → slice_get xs i ≡ Some x → p x ≡ false → find p (remove xs i) ≡ find p xs
+find-remove p [] i x is other = cc
+find-remove p (y ∷ ys) zero x is other = let same : y ≡ x = cc in sym (ap (λ b. cond b (Some y) (find p ys)) (ap p same ∙ other))
+find-remove p (y ∷ ys) (suc i) x is other = ap (λ o. cond (p y) (Some y) o) (find-remove p ys i x is other)
+
+-- a term that is new is kept under no number
+pub list_any-absent : (term : Ground) (ks : List KeptProp) → prop_of term ks ≡ None → list_any (λ (k : KeptProp). term_eq k.term term) ks ≡ false
+list_any-absent term ks none = sym (is_some-find (λ (k : KeptProp). term_eq k.term term) ks) ∙ from (find (λ (k : KeptProp). term_eq k.term term) ks) none
+  where
+    from : (o : Option KeptProp) → option_map (λ (k : KeptProp). k.id) o ≡ None → is_some o ≡ false
+    from None is = refl
+    from (Some k) is = cc
+
+pub list_any-kept : (term : Ground) (ks : List KeptProp) (id : ℕ) → prop_of term ks ≡ Some id → list_any (λ (k : KeptProp). term_eq k.term term) ks ≡ true
+list_any-kept term ks id some = sym (is_some-find (λ (k : KeptProp). term_eq k.term term) ks) ∙ from (find (λ (k : KeptProp). term_eq k.term term) ks) some
+  where
+    from : (o : Option KeptProp) → option_map (λ (k : KeptProp). k.id) o ≡ Some id → is_some o ≡ true
+    from None is = cc
+    from (Some k) is = refl
+
+-- the number of a term, with a property more
+pub prop_of-insert : (other : Ground) (k : KeptProp) (ks : List KeptProp) (i : ℕ) → prop_of k.term ks ≡ None →
+    prop_of other (insert ks i k) ≡ cond (term_eq k.term other) (Some k.id) (prop_of other ks)
+prop_of-insert other k ks i none =
+    ap (option_map (λ (j : KeptProp). j.id)) (find-insert (λ (j : KeptProp). term_eq j.term other) k ks i alone)
+    ∙ option_map-cond (λ (j : KeptProp). j.id) (term_eq k.term other) k (find (λ (j : KeptProp). term_eq j.term other) ks)
+  where
+    alone : term_eq k.term other ≡ true → list_any (λ (j : KeptProp). term_eq j.term other) ks ≡ false
+    alone e = subst (λ t. list_any (λ (j : KeptProp). term_eq j.term t) ks ≡ false) ((term_eq-Decides k.term other).0 e) (list_any-absent k.term ks none)
+
+-- with other mentions
+pub prop_of-with_mentions : (p count : ℕ) (term : Ground) (ks : List KeptProp) → prop_of term (with_mentions p count ks) ≡ prop_of term ks
+prop_of-with_mentions p count term [] = refl
+prop_of-with_mentions p count term (k ∷ ks) =
+    let rest = prop_of-with_mentions p count term ks in
+    option_map-cond (λ (j : KeptProp). j.id) (term_eq (mentioned p count k).term term) (mentioned p count k) (find (λ (j : KeptProp). term_eq j.term term) (with_mentions p count ks))
+    ∙ ap₂ (λ t o. cond (term_eq t term) (Some (mentioned p count k).id) o) (mentioned-term p count k) rest
+    ∙ ap (λ n. cond (term_eq k.term term) (Some n) (prop_of term ks)) (mentioned-id p count k)
+    ∙ sym (option_map-cond (λ (j : KeptProp). j.id) (term_eq k.term term) k (find (λ (j : KeptProp). term_eq j.term term) ks))
+
+-- the term of a property that goes is kept under no number
+pub prop_of-remove_own : (ks : List KeptProp) (i : ℕ) (k : KeptProp) → is_in_order ks ≡ true → slice_get ks i ≡ Some k → prop_of k.term (remove ks i) ≡ None
+prop_of-remove_own ks i k ordered is =
+    ap (option_map (λ (j : KeptProp). j.id)) (find-none (λ (j : KeptProp). term_eq j.term k.term) (remove ks i) (none ks i ordered is))
+  where
+    others : (js : List KeptProp) → list_all (prop_before k) js ≡ true → list_any (λ (j : KeptProp). term_eq j.term k.term) js ≡ false
+    others [] all = refl
+    others (j ∷ js) all =
+        let here : term_eq j.term k.term ≡ false = behind-other k.term j.term (and-left (prop_before k j) (list_all (prop_before k) js) all) in
+        let rest = others js (and-right (prop_before k j) (list_all (prop_before k) js) all) in
+        ap₂ (λ a b. a || b) here rest
+
+    none : (js : List KeptProp) (n : ℕ) → is_in_order js ≡ true → slice_get js n ≡ Some k → list_any (λ (j : KeptProp). term_eq j.term k.term) (remove js n) ≡ false
+    none [] n ascending there = cc
+    none (j ∷ js) zero ascending there =
+        let same : j ≡ k = cc in others js (subst (λ x. list_all (prop_before x) js ≡ true) same (ascending-first prop_before j js ascending))
+    none (j ∷ js) (suc n) ascending there =
+        let before : prop_before j k ≡ true = list_all-slice_get (prop_before j) js n k (ascending-first prop_before j js ascending) there in
+        ap₂ (λ a b. a || b) (before-other j.term k.term before) (none js n (ascending-rest prop_before j js ascending) there)
+
+-- the number of a term, with the property at a place less
+pub prop_of-remove : (other : Ground) (ks : List KeptProp) (i : ℕ) (k : KeptProp) → is_in_order ks ≡ true → slice_get ks i ≡ Some k →
+    prop_of other (remove ks i) ≡ cond (term_eq k.term other) None (prop_of other ks)
+prop_of-remove other ks i k ordered is =
+    ⊎_elim
+    (λ e. subst (λ t. prop_of t (remove ks i) ≡ None) ((term_eq-Decides k.term other).0 e) (prop_of-remove_own ks i k ordered is)
+    ∙ sym (ap (λ b. cond b None (prop_of other ks)) e))
+    (λ e. ap (option_map (λ (j : KeptProp). j.id)) (find-remove (λ (j : KeptProp). term_eq j.term other) ks i k is e)
+    ∙ sym (ap (λ b. cond b None (prop_of other ks)) e))
+    (cases_Bool (term_eq k.term other))

@@ -1,20 +1,19 @@
 -- How a table keeps its properties.
-use Rattle.std.proofs.Common.{◌≡◌, ℕ, ◌<◌, ◌≤◌, zero, suc, Bool, true, false, not, ◌&&◌, All, IfSome, drop, List, [], ◌∷◌, Option, Some, None, refl, sym, ap, ap₂, subst, ◌∙◌, length, map, filter, get_or, slice_get, is_some, arith}
+use Rattle.std.proofs.Common.{◌≡◌, ℕ, ◌<◌, ◌≤◌, zero, suc, Bool, true, false, not, ◌&&◌, All, IfSome, IsSome, drop, List, [], ◌∷◌, Option, Some, None, refl, sym, ap, ap₂, subst, ◌∙◌, length, map, filter, get_or, slice_get, is_some, arith}
 use Rattle.std.specs.Prelude.{find, option_map}
 use Rattle.std.specs.List.{cons_option}
 use Rattle.std.specs.List.Sorted.{IsPartitionedBy, IsPartitionPoint}
 use Rattle.std.specs.declared.cmp.Ordering.{Ordering}
-use Rattle.std.specs.Ordering.{is_lt, is_eq, is_some_and}
+use Rattle.std.specs.Ordering.{is_lt, is_some_and}
 use Rattle.std.proofs.lemmas.List.{length-map, get_or-map}
 use Rattle.std.proofs.lemmas.Option.{slice_get-map, slice_get-get_or, slice_get_read}
 use Rattle.ec_terms.specs.declared.ground.Ground.{Ground}
 use Rattle.ec_terms.specs.declared.ids.PropId.{PropId}
 use Rattle.ec_terms.specs.Term.{term_cmp, term_eq}
-use Rattle.ec_terms.proofs.OrderLemmas.{term_cmp-total}
-use Rattle.ec_rows.specs.Ordered.{is_ascending}
-use Rattle.ec_rows.proofs.OrderedLemmas.{IsPlace, IsPlace-by_key, IsPartitionedBy-ascending, is_at, is_eq-is_at, length-partition, filter-behind_free, list_any-free, list_any-same}
-use Rattle.ec_rows.proofs.OrderedLemmas.{find-none}
-use Rattle.ec_props.proofs.KeptLemmas.{find-term, same_term, term_eq-is_eq, place-prop_at, same-places}
+use Rattle.ec_terms.proofs.OrderLemmas.{term_cmp-total, term_eq-Decides}
+use Rattle.ec_rows.specs.Ordered.{Reserved, is_ascending}
+use Rattle.ec_rows.proofs.OrderedLemmas.{IsPlace, IsPlace-by_key, IsPartitionedBy-ascending, is_at, is_eq-is_at, length-partition, filter-behind_free, free-from_none, at-from_any, list_any-same}
+use Rattle.ec_props.proofs.KeptLemmas.{find-term, term_eq-is_eq, place-prop_at, same-places, list_any-absent, list_any-kept}
 use Rattle.ec_props.proofs.ArityLemmas.{IsRising-arity}
 use Rattle.ec_props.specs.Table.{KeptProp, prop_at, term_at, mentions_at, prop_of, prop_before, arity_cmp, props_below, kept_as, number_of, kept_of, IsTable}
 use Rattle.ec_props.specs.declared.property.Property.{Property}
@@ -22,6 +21,10 @@ use Rattle.ec_props.specs.declared.property.Property.{Property}
 -- what holds of an answer that is there
 pub if_some : {A : Type 0} (answer : Option A) (P : A → Type 0) (x : A) → answer ≡ Some x → P x → IfSome answer P
 if_some answer P x is holds = subst (λ o. IfSome o P) (sym is) holds
+
+-- records that are the same have the same properties
+pub items_is : {r s : Reserved KeptProp} → r ≡ s → r.items ≡ s.items
+items_is same = ap (λ (t : Reserved KeptProp). t.items) same
 
 -- ---- properties under their numbers
 
@@ -166,48 +169,36 @@ module _ (property_at : ℕ → Option Property) (order : List PropId) (table : 
       (ap (λ (p : PropId). property_at p.0) (number-at i d e within)
       ∙ AllHeld-get_or property_at (kept_of property_at order) i e (AllHeld-kept_of property_at order) (subst (λ n. i < n) length-order within))
 
-  -- the term that a search finds
-  pub term-at_place : (term : Ground) (i : ℕ) (d : PropId) → i < length order →
-      is_some_and is_eq (option_map (λ (property : Property). term_cmp property.term term) (property_at (get_or order i d).0)) ≡ true →
-      option_map (λ (k : KeptProp). k.term) (slice_get (kept_of property_at order) i) ≡ Some term
-  term-at_place term i d within here =
-      let there : KeptProp = get_or (kept_of property_at order) i blank in
-      ap (option_map (λ (k : KeptProp). k.term)) (slice_get-get_or (kept_of property_at order) i blank (subst (λ n. i < n) length-order within))
-      ∙ ap Some (same_term there.term term (sym (test-number is_eq (λ t. term_cmp t term) i d blank within) ∙ here))
-
   -- nothing is at the place of a term
   abbrev pub IsFree : Ground → ℕ → Type 0
   IsFree term i = (e : KeptProp) → i < length (kept_of property_at order) → is_lt (term_cmp term (get_or (kept_of property_at order) i e).term) ≡ true
 
-  -- since the order ends there
-  pub IsFree-end : (term : Ground) (i : ℕ) → i ≡ length order → IsFree term i
-  IsFree-end term i end e within = absurd (omega (arith, length-order))
+  -- since no property has the term
+  pub IsFree-absent : (term : Ground) (i : ℕ) → IsCut (λ t. term_cmp t term) i → prop_of term (kept_of property_at order) ≡ None → IsFree term i
+  IsFree-absent term i cut none e within =
+      free-from_none (λ (k : KeptProp). is_lt (term_cmp k.term term)) (λ (k : KeptProp). is_lt (term_cmp term k.term)) (kept_of property_at order) i cut
+      (sym (list_any-same (λ (k : KeptProp). term_eq k.term term) (is_at (λ (k : KeptProp). is_lt (term_cmp k.term term)) (λ (k : KeptProp). is_lt (term_cmp term k.term))) (has_term-is_at term) (kept_of property_at order))
+      ∙ list_any-absent term (kept_of property_at order) none) e within
 
-  -- since the property there has another term
-  pub IsFree-other : (term : Ground) (i : ℕ) (d : PropId) → IsCut (λ t. term_cmp t term) i →
-      is_some_and is_eq (option_map (λ (property : Property). term_cmp property.term term) (property_at (get_or order i d).0)) ≡ false → IsFree term i
-  IsFree-other term i d cut other e within =
-      let there : KeptProp = get_or (kept_of property_at order) i e in
-      let not_before : is_lt (term_cmp there.term term) ≡ false = cut.1 i e (omega arith) within in
-      let not_same : is_eq (term_cmp there.term term) ≡ false = sym (test-number is_eq (λ t. term_cmp t term) i d e (subst (λ n. i < n) (sym length-order) within)) ∙ other in
-      from_both (is_lt (term_cmp there.term term)) (is_lt (term_cmp term there.term)) not_before
-      (sym (is_eq-is_at term_cmp term_cmp-total (λ (j : KeptProp). j.term) term there) ∙ not_same)
+  -- the term at its cut, where some property has it
+  pub term-at_cut : (term : Ground) (i id : ℕ) → IsCut (λ t. term_cmp t term) i → prop_of term (kept_of property_at order) ≡ Some id →
+      option_map (λ (k : KeptProp). k.term) (slice_get (kept_of property_at order) i) ≡ Some term
+  term-at_cut term i id cut some =
+      let there = at-from_any prop_before (λ (k : KeptProp). is_lt (term_cmp k.term term)) (λ (k : KeptProp). is_lt (term_cmp term k.term)) (IsPlace-term term) (kept_of property_at order) i table.in_order cut
+      (sym (list_any-same (λ (k : KeptProp). term_eq k.term term) (is_at (λ (k : KeptProp). is_lt (term_cmp k.term term)) (λ (k : KeptProp). is_lt (term_cmp term k.term))) (has_term-is_at term) (kept_of property_at order))
+      ∙ list_any-kept term (kept_of property_at order) id some) in
+      let k : KeptProp = get_or (kept_of property_at order) i blank in
+      ap (option_map (λ (j : KeptProp). j.term)) (slice_get-get_or (kept_of property_at order) i blank there.0)
+      ∙ ap Some ((term_eq-Decides k.term term).0
+      (has_term-is_at term k ∙ from_both (is_lt (term_cmp k.term term)) (is_lt (term_cmp term k.term)) (cut.1 i blank (omega arith) there.0) (there.1 blank)))
     where
-      from_both : (a b : Bool) → a ≡ false → (not a && not b) ≡ false → b ≡ true
+      from_both : (a b : Bool) → a ≡ false → b ≡ false → (not a && not b) ≡ true
       from_both a b = grind arith
 
   pub behind-free : (term : Ground) (i : ℕ) → IsCut (λ t. term_cmp t term) i → IsFree term i →
       drop i (kept_of property_at order) ≡ filter (λ k. is_lt (term_cmp term k.term)) (kept_of property_at order)
   behind-free term i cut free =
       sym (filter-behind_free prop_before (λ k. is_lt (term_cmp k.term term)) (λ k. is_lt (term_cmp term k.term)) (IsPlace-term term) (kept_of property_at order) i table.in_order cut free)
-
-  pub prop_of-free : (term : Ground) (i : ℕ) → IsCut (λ t. term_cmp t term) i → IsFree term i → prop_of term (kept_of property_at order) ≡ None
-  prop_of-free term i cut free =
-      ap (option_map (λ (k : KeptProp). k.id))
-      (find-none (λ (k : KeptProp). term_eq k.term term) (kept_of property_at order)
-      (list_any-same (λ (k : KeptProp). term_eq k.term term) (is_at (λ (k : KeptProp). is_lt (term_cmp k.term term)) (λ (k : KeptProp). is_lt (term_cmp term k.term)))
-      (has_term-is_at term) (kept_of property_at order)
-      ∙ list_any-free prop_before (λ k. is_lt (term_cmp k.term term)) (λ k. is_lt (term_cmp term k.term)) (IsPlace-term term) (kept_of property_at order) i table.in_order cut free))
 
   -- ---- what a table answers
 
@@ -281,6 +272,19 @@ module _ (property_at : ℕ → Option Property) (order : List PropId) (table : 
       let found : prop_at id (kept_of property_at order) ≡ Some (kept_as id property) = table.found id ∙ ap (option_map (kept_as id)) is in
       let at = place-prop_at id (kept_of property_at order) (kept_as id property) found in
       ap (option_map (λ (k : KeptProp). k.id)) (find-term (kept_of property_at order) at.0 (kept_as id property) table.in_order at.1)
+
+  -- what stands at a place stands within the order
+  pub within-order : (i : ℕ) (k : KeptProp) → slice_get (kept_of property_at order) i ≡ Some k → i < length order
+  within-order i k is = subst (λ n. i < n) (sym length-order) (within-slice (kept_of property_at order) i is)
+    where
+      within-slice : (ks : List KeptProp) (j : ℕ) → slice_get ks j ≡ Some k → j < length ks
+      within-slice [] j there = cc
+      within-slice (x ∷ ks) zero there = omega arith
+      within-slice (x ∷ ks) (suc j) there = let ih = within-slice ks j there in omega arith
+
+  -- each number of the order has a property
+  pub all-kept : All (λ (p : PropId). IsSome (prop_at p.0 (kept_of property_at order))) order
+  all-kept i d within = kept-place i (get_or order i d) (slice_get-get_or order i d within)
 
   -- how often it is mentioned
   pub mentions_at-kept : (id : ℕ) (property : Property) → property_at id ≡ Some property → mentions_at id (kept_of property_at order) ≡ Some property.mentions

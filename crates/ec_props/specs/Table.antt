@@ -1,10 +1,12 @@
 -- A table of properties: distinct terms in term order, each under a number and with a count of its mentions.
-use Rattle.std.specs.Prelude.{◌≡◌, ℕ, Bool, not, ◌&&◌, if◌then◌else◌, ◌==◌, List, length, map, filter, find, filter_map, Option, option_map, IsTrue, bytes_eq}
+use Rattle.std.specs.Prelude.{◌≡◌, ℕ, Bool, not, ◌&&◌, if◌then◌else◌, ◌==◌, List, length, map, filter, find, filter_map, Option, Some, option_map, IsTrue, bytes_eq}
+use Rattle.std.specs.List.{All}
 use Rattle.std.specs.declared.cmp.Ordering.{Ordering}
 use Rattle.std.specs.Ordering.{nat_cmp, is_lt, is_gt, ordering_then}
 use Rattle.ec_terms.specs.declared.ground.Ground.{Ground}
 use Rattle.ec_terms.specs.declared.ids.PropId.{PropId}
-use Rattle.ec_terms.specs.Term.{name_cmp, term_cmp, term_eq}
+use Rattle.ec_terms.specs.Term.{name_cmp, names_are_names, term_cmp, term_eq, term_text}
+use Rattle.ec_terms.specs.TextLaws.{IsTerm}
 use Rattle.ec_rows.specs.Ordered.{is_ascending, with_member}
 use Rattle.ec_props.specs.declared.property.Property.{Property}
 
@@ -99,3 +101,12 @@ pub record IsTable (property_at : ℕ → Option Property) (order : List PropId)
   pub numbers : order ≡ map number_of (kept_of property_at order)
   pub in_order : IsTrue (is_in_order (kept_of property_at order))
   pub found : (id : ℕ) → prop_at id (kept_of property_at order) ≡ option_map (kept_as id) (property_at id)
+
+-- ---- how texts find them
+
+-- Each kept property is the one under its number, the names in its term are names, and the text of a term finds the
+-- number under which the term is kept, if it is.
+pub record IsFoundByText (number_at : List ℕ → Option PropId) (table : List KeptProp) : Type 0 where
+  pub numbers : All (λ (kept : KeptProp). prop_at kept.id table ≡ Some kept) table
+  pub names : All (λ (kept : KeptProp). IsTrue (names_are_names kept.term)) table
+  pub found : (term : Ground) → IsTerm term → option_map (λ p. p.0) (number_at (term_text term)) ≡ prop_of term table

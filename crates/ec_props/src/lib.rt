@@ -2,8 +2,9 @@
 //! its mentions.
 #![tactic(auto)]
 
-mod edits;
+mod names;
 mod property;
+mod records;
 mod search;
 mod table;
 #[cfg(test)]

@@ -1,11 +1,11 @@
 //! Places in the order of a table, found by binary search.
-ghost use Rattle.std.specs.Prelude.{◌≡◌, ◌<◌, ◌≤◌, true, false, None, Some, IfOk, IfErr, OnErr, IsSome, length, map, take, drop, filter, slice_get, option_map};
+ghost use Rattle.std.specs.Prelude.{◌≡◌, ◌≤◌, true, false, length, map, option_map};
 ghost use Rattle.std.specs.List.Sorted.{IsPartitionPoint};
-ghost use Rattle.std.specs.Ordering.{is_lt, is_eq, is_some_and};
+ghost use Rattle.std.specs.Ordering.{is_lt, is_some_and};
 ghost use Rattle.slab.specs.Slab.{get as property_at};
 ghost use Rattle.std.specs.Cmp.Lexicographic.{slice_cmp};
 ghost use Rattle.ec_terms.specs.Term.{arg_of, arg_cmp, ground_of, term_cmp};
-ghost use Rattle.ec_props.specs.Table.{IsTable, kept_of, prop_at, prop_of, arity_cmp, props_below};
+ghost use Rattle.ec_props.specs.Table.{IsTable, kept_of, arity_cmp, props_below};
 
 use crate::property::Property;
 use ec_terms::{Arg, ArgRef, Ground, GroundRef, PropId};
@@ -76,15 +76,12 @@ fn is_before(properties: &Slab<Property>, p: PropId, term: &GroundRef<'_>) -> bo
     compare_at(properties, p, term).is_some_and(Ordering::is_lt)
 }
 
-/// Whether the property under a number has a term.
-fn is_at(properties: &Slab<Property>, p: PropId, term: &GroundRef<'_>) -> bool
-    ensures { result ≡ is_some_and is_eq (option_map (λ property. term_cmp property.term (ground_of term.now)) (property_at properties.now p.0)) }
-{
-    compare_at(properties, p, term).is_some_and(Ordering::is_eq)
-}
-
 /// How many properties stand before a term.
-fn count_before(properties: &Slab<Property>, order: &[PropId], term: &GroundRef<'_>) -> usize
+pub(crate) fn count_before(
+    properties: &Slab<Property>,
+    order: &[PropId],
+    term: &GroundRef<'_>,
+) -> usize
     requires { IsTable (property_at properties.now) order.now }
     ensures within { result ≤ length order.now }
     ensures cut { IsPartitionPoint (λ kept. is_lt (term_cmp kept.term (ground_of term.now)) ≡ true) (λ kept. is_lt (term_cmp kept.term (ground_of term.now)) ≡ false) (kept_of (property_at properties.now) order.now) result }
@@ -94,44 +91,6 @@ fn count_before(properties: &Slab<Property>, order: &[PropId], term: &GroundRef<
             ensures { result ≡ is_some_and is_lt (option_map (λ property. term_cmp property.term (ground_of term.entry.now)) (property_at properties.entry.now p.now.0)) }
         { is_before(properties, *p, term) },
     )
-}
-
-/// The place of the property with a term, or, as an error, the place that a property with it would take.
-pub(crate) fn place_of(
-    properties: &Slab<Property>,
-    order: &[PropId],
-    term: &GroundRef<'_>,
-) -> Result<usize, usize>
-    requires { IsTable (property_at properties.now) order.now }
-    ensures found { IfOk result (λ i. i < length order.now) }
-    ensures term { IfOk result (λ i. option_map (λ kept. kept.term) (slice_get (kept_of (property_at properties.now) order.now) i) ≡ Some (ground_of term.now)) }
-    ensures absent { OnErr result (prop_of (ground_of term.now) (kept_of (property_at properties.now) order.now) ≡ None) }
-    ensures within { IfErr result (λ i. i ≤ length order.now) }
-    ensures in_front { IfErr result (λ i. take i (kept_of (property_at properties.now) order.now) ≡ filter (λ kept. is_lt (term_cmp kept.term (ground_of term.now))) (kept_of (property_at properties.now) order.now)) }
-    ensures behind { IfErr result (λ i. drop i (kept_of (property_at properties.now) order.now) ≡ filter (λ kept. is_lt (term_cmp (ground_of term.now) kept.term)) (kept_of (property_at properties.now) order.now)) }
-{
-    let place = count_before(properties, order, term);
-    if place == order.len() {
-        return Err(place);
-    }
-    if is_at(properties, order[place], term) {
-        Ok(place)
-    } else {
-        Err(place)
-    }
-}
-
-/// The place in the order of a kept property.
-pub(crate) fn place_of_kept(properties: &Slab<Property>, order: &[PropId], p: PropId) -> usize
-    requires table { IsTable (property_at properties.now) order.now }
-    requires kept { IsSome (prop_at p.0 (kept_of (property_at properties.now) order.now)) }
-    ensures within { result < length order.now }
-    ensures place { slice_get (kept_of (property_at properties.now) order.now) result ≡ prop_at p.0 (kept_of (property_at properties.now) order.now) }
-{
-    match place_of(properties, order, &properties[p.0].term.borrow()) {
-        Ok(place) => place,
-        Err(_) => unreachable!(),
-    }
 }
 
 /// How many properties stand before all with a name and a number of arguments.

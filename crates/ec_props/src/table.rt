@@ -1,34 +1,33 @@
-ghost use Rattle.std.specs.Prelude.{◌≡◌, ◌≢◌, ◌+◌, ◌-◌, ◌^◌, ◌<◌, ◌≤◌, ◌++◌, ℕ, [], None, Some, IsTrue, IsSome, IsOk, IfOk, OnErr, IfSome, All, length, slice_get, option_map};
+ghost use Rattle.std.specs.Prelude.{◌≡◌, ◌≢◌, ◌+◌, ◌-◌, ◌^◌, ◌<◌, ◌≤◌, ◌++◌, ℕ, [], None, Some, IsTrue, IsSome, IsOk, IfOk, OnErr, IfSome, All, length, slice_get, map, option_map, take, drop};
 ghost use Rattle.ec_terms.specs.Term.{ground_of, names_are_names};
-ghost use Rattle.ec_props.specs.Table.{prop_at, term_at, mentions_at, prop_of, is_in_order, props_below, props_with, props_above, with_prop, without_prop, with_mentions};
+ghost use Rattle.ec_props.specs.Table.{prop_at, term_at, mentions_at, prop_of, is_in_order, number_of, props_below, props_with, props_above, with_prop, without_prop, with_mentions};
 
-use crate::edits::{put, take_out};
-use crate::property::Property;
-use crate::search::{count_below, place_of};
-use ec_terms::{GroundRef, NoMemory, PropId};
-use slab::Slab;
+use crate::names::has_names;
+use crate::records::Records;
+use ec_terms::{GroundRef, NoMemory, PropId, text};
+use indexmap::IndexMap;
 use std::alloc::Global;
 use std::marker::Model;
 
 /// The properties that are kept, in term order, each under a number and with a count of its mentions. A number
-/// stays as long as its property does.
+/// stays as long as its property does, and the text of a term finds it at once.
 #[derive(Drop)]
 pub struct PropTable {
-    properties: Slab<Property>,
-    order: Vec<PropId>,
+    records: Records,
+    by_text: IndexMap<Vec<u8>, PropId>,
     alloc: Global,
 }
 
 impl Model for PropTable {
     ghost use Rattle.std.specs.Prelude.{List};
-    ghost use Rattle.slab.specs.Slab.{get as property_at};
-    ghost use Rattle.ec_props.specs.Table.{KeptProp, kept_of, IsTable};
+    ghost use Rattle.ec_props.specs.ByText.{found_at};
+    ghost use Rattle.ec_props.specs.Table.{KeptProp, IsFoundByText};
 
     ghost Value = { List KeptProp };
 
-    ghost view = { λ table. kept_of (property_at table.properties) table.order.items };
+    ghost view = { λ table. table.records.items };
 
-    ghost invariant = { λ table. IsTable (property_at table.properties) table.order.items };
+    ghost invariant = { λ table. IsFoundByText (found_at table.by_text) table.records.items };
 }
 
 impl PropTable {
@@ -37,8 +36,8 @@ impl PropTable {
         ensures { IfOk result (λ table. table ≡ []) }
     {
         Ok(PropTable {
-            properties: Slab::new(alloc),
-            order: Vec::new(alloc),
+            records: Records::new(alloc),
+            by_text: IndexMap::new(alloc),
             alloc,
         })
     }
@@ -50,7 +49,7 @@ impl PropTable {
         ensures order { IsTrue (is_in_order self.now) }
         ensures numbers { All (λ kept. prop_at kept.id self.now ≡ Some kept) self.now }
     {
-        self.order.len()
+        self.records.len()
     }
 
     /// The number of the property at a place of the order, from 0.
@@ -60,7 +59,18 @@ impl PropTable {
         ensures prop { prop_at result.0 self.now ≡ slice_get self.now i }
         ensures kept { IsSome (prop_at result.0 self.now) }
     {
-        self.order[i]
+        self.records.nth(i)
+    }
+
+    /// The numbers from a place of the order on that lie together in memory. A walk by runs reads each number once,
+    /// and looks for its place once a run.
+    pub fn run_in_order(&self, i: usize) -> &[PropId]
+        requires { i < length self.now }
+        ensures some { 1 ≤ length result.now }
+        ensures run { result.now ≡ take (length result.now) (drop i (map number_of self.now)) }
+        ensures kept { All (λ p. IsSome (prop_at p.0 self.now)) result.now }
+    {
+        self.records.run(i)
     }
 
     /// The term of a property.
@@ -69,7 +79,7 @@ impl PropTable {
         ensures term { term_at p.0 self.now ≡ Some (ground_of result) }
         ensures names { IsTrue (names_are_names (ground_of result)) }
     {
-        self.properties[p.0].term.borrow()
+        self.records.ground(p)
     }
 
     /// How often a property is mentioned.
@@ -77,7 +87,7 @@ impl PropTable {
         requires { IsSome (prop_at p.0 self.now) }
         ensures { mentions_at p.0 self.now ≡ Some result }
     {
-        self.properties[p.0].mentions
+        self.records.mentions(p)
     }
 
     /// The number under which a term is kept. `None` exactly where it is not. It takes no memory.
@@ -86,10 +96,11 @@ impl PropTable {
         ensures kept { IfSome result (λ p. IsSome (prop_at p.0 self.now)) }
         ensures term { IfSome result (λ p. term_at p.0 self.now ≡ Some (ground_of term.now)) }
     {
-        match place_of(&self.properties, &self.order, term) {
-            Ok(place) => Some(self.order[place]),
-            Err(_) => None,
+        let by_text = &self.by_text;
+        if !has_names(term) {
+            return None;
         }
+        by_text.get(text(term).as_bytes()).copied()
     }
 
     /// The place in the order of the first property that does not stand before those with a name and a number
@@ -98,7 +109,7 @@ impl PropTable {
         ensures count { result ≡ length (props_below name.now arity self.now) }
         ensures run { self.now ≡ props_below name.now arity self.now ++ props_with name.now arity self.now ++ props_above name.now arity self.now }
     {
-        count_below(&self.properties, &self.order, name, arity)
+        self.records.first_of(name, arity)
     }
 
     /// The number of a term, which is kept from then on. A term that is kept stays as it is, and takes no memory.
@@ -115,14 +126,18 @@ impl PropTable {
         ensures others { (q : ℕ) → IsSome (prop_at q self.old) → prop_at q self.new ≡ prop_at q self.old }
         ensures err { OnErr result (self.new ≡ self.old) }
     {
-        match place_of(&self.properties, &self.order, term) {
-            Ok(place) => Ok(self.order[place]),
-            Err(place) => {
-                let term = term.to_ground(self.alloc)?;
-                self.properties.reserve(1)?;
-                self.order.reserve(1)?;
-                Ok(put(&mut self.properties, &mut self.order, place, term))
-            }
+        let spelt = text(term);
+        if let Some(p) = self.by_text.get(spelt.as_bytes()) {
+            return Ok(*p);
+        }
+        let kept = term.to_ground(self.alloc)?;
+        let key = Vec::from_slice(self.alloc, spelt.as_bytes())?;
+        self.records.reserve()?;
+        self.by_text.reserve(1)?;
+        let p = self.records.put(kept);
+        match self.by_text.insert(key, p) {
+            Ok(_) => Ok(p),
+            Err(_) => unreachable!(),
         }
     }
 
@@ -133,7 +148,8 @@ impl PropTable {
         ensures props { IfSome (mentions_at p.0 self.old) (λ count. self.new ≡ with_mentions p.0 (count + n) self.old) }
         ensures terms { (q : ℕ) → term_at q self.new ≡ term_at q self.old }
     {
-        self.properties[p.0].mentions += n;
+        let count = self.records.mentions(p);
+        self.records.set_mentions(p, count + n);
     }
 
     /// Counts `n` mentions of a property less. It takes no memory.
@@ -143,7 +159,8 @@ impl PropTable {
         ensures props { IfSome (mentions_at p.0 self.old) (λ count. self.new ≡ with_mentions p.0 (count - n) self.old) }
         ensures terms { (q : ℕ) → term_at q self.new ≡ term_at q self.old }
     {
-        self.properties[p.0].mentions -= n;
+        let count = self.records.mentions(p);
+        self.records.set_mentions(p, count - n);
     }
 
     /// Keeps a property no longer, which nothing mentions. All others stay under their numbers. It takes no
@@ -154,6 +171,8 @@ impl PropTable {
         ensures gone { prop_at p.0 self.new ≡ None }
         ensures others { (q : ℕ) → q ≢ p.0 → prop_at q self.new ≡ prop_at q self.old }
     {
-        take_out(&mut self.properties, &mut self.order, p);
+        let spelt = text(&self.records.ground(p));
+        let _ = self.by_text.swap_remove(spelt.as_bytes());
+        self.records.take_out(p);
     }
 }

@@ -1,63 +1,66 @@
--- A term that is kept is found; a new one is put in its place, once there is room for it.
-use Rattle.std.proofs.Common.{◌≡◌, Some, None, length, slice_get, is_some, refl, sym, ap, subst, ◌∙◌, slice_index_or}
-use Rattle.std.specs.Prelude.{option_map}
-use Rattle.std.proofs.lemmas.Option.{slice_get_read}
-use Rattle.slab.specs.Slab.{Slab, get as property_at}
-use Rattle.ec_terms.specs.Term.{ground_of}
-use Rattle.ec_props.specs.Table.{KeptProp, kept_of, prop_at, term_at, prop_of}
-use Rattle.ec_props.proofs.TableLemmas.{kept-place, term_at-place, prop_of-place}
-use Rattle.ec_props.proofs.ChangeLemmas.{IsTable-same}
+-- A term whose text is found is kept; one whose text is not found is new, and its text finds it from then on.
+use Rattle.std.proofs.Common.{◌≡◌, Some, None, sym, ap, subst, ◌∙◌, is_some, refl}
+use Rattle.std.proofs.lemmas.Bool.{false≢true}
+use Rattle.ec_terms.specs.Term.{ground_of, term_text}
+use Rattle.ec_terms.specs.TextLaws.{IsTerm}
+use Rattle.ec_props.specs.ByText.{found_at}
+use Rattle.ec_props.specs.Table.{prop_at, prop_of, term_at}
+use Rattle.ec_props.proofs.ByTextLemmas.{found_at-updates}
+use Rattle.ec_props.proofs.TextLemmas.{some-found, none-found, kept-found, term_at-found, IsFoundByText-same, IsFoundByText-more}
 use Rattle.ec_props.proofs.table.PropTable.intern.Goals as goal
-use Rattle.ec_props.proofs.table.PropTable.intern.Goals.{After-index}
+use Rattle.ec_props.proofs.table.PropTable.intern.Goals.{In-Some, In_default}
 
--- the number at the place that the search found
-read : (c : After-index) → slice_get c.self.inside.order.items c.in-Ok.place ≡ Some c.index.result.now
-read c = slice_get_read c.self.inside.order.items (length c.deref.result.now) c.in-Ok.place c.index.result.now (ap length c.deref.ensures.value) c.in-Ok.ensures.found c.index.ensures
-
--- the term of the property there
-there : (c : After-index) →
-    option_map (λ (k : KeptProp). k.term) (slice_get (kept_of (property_at c.self.inside.properties) c.self.inside.order.items) c.in-Ok.place) ≡ Some (ground_of c.args.term.now)
-there c =
-    subst (λ ps. option_map (λ (k : KeptProp). k.term) (slice_get (kept_of (property_at c.self.inside.properties) ps) c.in-Ok.place) ≡ Some (ground_of c.args.term.now))
-    c.deref.ensures.value c.in-Ok.ensures.term
-
-found : (c : After-index) → prop_of (ground_of c.args.term.now) c.args.self.now ≡ Some c.index.result.now.0
+-- the number that is found is that of the term
+found : (c : In-Some) → prop_of (ground_of c.args.term.now) c.self.inside.records.items ≡ Some c.in-Some.p.now.0
 found c =
+    some-found (found_at c.self.inside.by_text) c.as_bytes.result.now (ground_of c.args.term.now) c.self.inside.records.items c.in-Some.p.now c.self.invariant c.text-spelt.ensures.term
+    (c.as_bytes.ensures.value ∙ c.text-spelt.ensures.exact) (sym c.in-Some.ensures.value)
+
+-- the term is new
+new : (c : In_default) → prop_of (ground_of c.args.term.now) c.args.self.now ≡ None
+new c =
     ap (prop_of (ground_of c.args.term.now)) (sym c.self.view_is)
-    ∙ prop_of-place (property_at c.self.inside.properties) c.self.inside.order.items c.self.invariant (ground_of c.args.term.now) c.in-Ok.place c.index.result.now (read c) (there c)
+    ∙ none-found (found_at c.self.inside.by_text) c.as_bytes.result.now (ground_of c.args.term.now) c.self.inside.records.items c.self.invariant c.text-spelt.ensures.term
+    (c.as_bytes.ensures.value ∙ c.text-spelt.ensures.exact) (sym c.in_default.ensures.value)
 
-pub invariant_of-self : goal.invariant_of-self
-invariant_of-self c =
-    IsTable-same (property_at c.self.inside.properties) (property_at c.reserve.new.self) c.self.inside.order.items c.self.inside.order.items c.self.invariant
-    (λ id. ap (λ (s : Slab _). slice_index_or s.slots id None) c.reserve.ensures.rest_kept) refl
+pub returns-in-Some-clause-number : goal.returns-in-Some-clause-number
+returns-in-Some-clause-number c = ap (prop_of (ground_of c.args.term.now)) (sym c.self.view_is) ∙ found (goal.at.returns-in-Some-clause-number c).In-Some
 
-pub invariant_of-self-in_err-reserve-in-Err-2 : goal.invariant_of-self-in_err-reserve-in-Err-2
-invariant_of-self-in_err-reserve-in-Err-2 c =
-    IsTable-same (property_at c.self.inside.properties) (property_at c.reserve.new.self) c.self.inside.order.items c.reserve-in-Err.new.self.items c.self.invariant
-    (λ id. ap (λ (s : Slab _). slice_index_or s.slots id None) c.reserve.ensures.rest_kept) c.reserve-in-Err.ensures.items
+pub returns-in-Some-clause-kept : goal.returns-in-Some-clause-kept
+returns-in-Some-clause-kept c =
+    ap (λ ks. is_some (prop_at c.in-Some.p.now.0 ks)) (sym c.self.view_is)
+    ∙ kept-found (found_at c.self.inside.by_text) (ground_of c.args.term.now) c.in-Some.p.now.0 c.self.inside.records.items c.self.invariant (found (goal.at.returns-in-Some-clause-kept c).In-Some)
 
-pub put-requires-clause-table : goal.put-requires-clause-table
-put-requires-clause-table c =
-    IsTable-same (property_at c.self.inside.properties) (property_at c.reserve.new.self) c.self.inside.order.items c.reserve-in-Err.new.self.items c.self.invariant
-    (λ id. ap (λ (s : Slab _). slice_index_or s.slots id None) c.reserve.ensures.rest_kept) c.reserve-in-Err.ensures.items
+pub returns-in-Some-clause-term : goal.returns-in-Some-clause-term
+returns-in-Some-clause-term c =
+    ap (term_at c.in-Some.p.now.0) (sym c.self.view_is)
+    ∙ term_at-found (found_at c.self.inside.by_text) (ground_of c.args.term.now) c.in-Some.p.now.0 c.self.inside.records.items c.self.invariant (found (goal.at.returns-in-Some-clause-term c).In-Some)
 
-pub returns-in-Ok-clause-number : goal.returns-in-Ok-clause-number
-returns-in-Ok-clause-number c = found (goal.at.returns-in-Ok-clause-number c).After-index
+pub returns-in-Some-clause-props : goal.returns-in-Some-clause-props
+returns-in-Some-clause-props c = λ none.
+    let both : Some c.in-Some.p.now.0 ≡ None = sym (ap (prop_of (ground_of c.args.term.now)) (sym c.self.view_is) ∙ found (goal.at.returns-in-Some-clause-props c).In-Some) ∙ none in cc
 
-pub returns-in-Ok-clause-free : goal.returns-in-Ok-clause-free
-returns-in-Ok-clause-free c = λ none. let both : Some c.index.result.now.0 ≡ None = sym (found (goal.at.returns-in-Ok-clause-free c).After-index) ∙ none in cc
+pub returns-in_err-kept-clause-known : goal.returns-in_err-kept-clause-known
+returns-in_err-kept-clause-known c = λ known. absurd (false≢true (sym (ap is_some (new (goal.at.returns-in_err-kept-clause-known c).In_default)) ∙ known))
 
-pub returns-in-Ok-clause-props : goal.returns-in-Ok-clause-props
-returns-in-Ok-clause-props c = λ none. let both : Some c.index.result.now.0 ≡ None = sym (found (goal.at.returns-in-Ok-clause-props c).After-index) ∙ none in cc
+pub returns-in_err-key-clause-known : goal.returns-in_err-key-clause-known
+returns-in_err-key-clause-known c = λ known. absurd (false≢true (sym (ap is_some (new (goal.at.returns-in_err-key-clause-known c).In_default)) ∙ known))
 
-pub returns-in-Ok-clause-term : goal.returns-in-Ok-clause-term
-returns-in-Ok-clause-term c =
-    let at = (goal.at.returns-in-Ok-clause-term c).After-index in
-    ap (term_at c.index.result.now.0) (sym c.self.view_is)
-    ∙ term_at-place (property_at c.self.inside.properties) c.self.inside.order.items c.self.invariant (ground_of c.args.term.now) c.in-Ok.place c.index.result.now (read at) (there at)
+pub returns-in_err-reserve-clause-known : goal.returns-in_err-reserve-clause-known
+returns-in_err-reserve-clause-known c = λ known. absurd (false≢true (sym (ap is_some (new (goal.at.returns-in_err-reserve-clause-known c).In_default)) ∙ known))
 
-pub returns-in-Ok-clause-kept : goal.returns-in-Ok-clause-kept
-returns-in-Ok-clause-kept c =
-    let at = (goal.at.returns-in-Ok-clause-kept c).After-index in
-    ap (λ ks. is_some (prop_at c.index.result.now.0 ks)) (sym c.self.view_is)
-    ∙ kept-place (property_at c.self.inside.properties) c.self.inside.order.items c.self.invariant c.in-Ok.place c.index.result.now (read at)
+pub returns-in_err-reserve-2-clause-known : goal.returns-in_err-reserve-2-clause-known
+returns-in_err-reserve-2-clause-known c = λ known. absurd (false≢true (sym (ap is_some (new (goal.at.returns-in_err-reserve-2-clause-known c).In_default)) ∙ known))
+
+pub returns-clause-same : goal.returns-clause-same
+returns-clause-same c = λ known. absurd (false≢true (sym (ap is_some (new (goal.at.returns-clause-same c).In_default)) ∙ known))
+
+pub invariant_of-self-2 : goal.invariant_of-self-2
+invariant_of-self-2 c =
+    let was = IsFoundByText-same (found_at c.self.inside.by_text) (found_at c.reserve-2.new.self) c.self.inside.records.items c.reserve.new.self.items c.reserve.ensures.same
+    (λ text. rw c.reserve-2.ensures.entries refl) c.self.invariant in
+    IsFoundByText-more (found_at c.reserve-2.new.self) _ c.reserve.new.self.items c.put-p.new.self.items was c.put-p.ensures.numbers c.put-p.result c.in_ok-kept.kept c.in_ok-key.key.items
+    (subst IsTerm (sym c.in_ok-kept.ensures) c.text-spelt.ensures.term)
+    (c.in_ok-key.ensures.items ∙ c.as_bytes-2.ensures.value ∙ c.text-spelt.ensures.exact ∙ ap term_text (sym c.in_ok-kept.ensures))
+    c.put-p.ensures.props c.put-p.ensures.lookups
+    (found_at-updates c.in_ok-key.key.items c.reserve-2.new.self c.insert.new.self (Some c.put-p.result) c.in-Ok.ensures.updates)

@@ -1,39 +1,32 @@
--- The number at the place that the search found is that of the term.
-use Rattle.std.proofs.Common.{◌≡◌, Some, length, slice_get, ap, subst, sym, ◌∙◌, is_some}
-use Rattle.std.proofs.lemmas.Option.{slice_get_read}
-use Rattle.std.specs.Prelude.{option_map}
-use Rattle.slab.specs.Slab.{get as property_at}
+-- The text of a term finds its number, and a term with a name that is none is not kept.
+use Rattle.std.proofs.Common.{◌≡◌, Some, sym, ap, ◌∙◌, is_some}
+use Rattle.ec_terms.specs.declared.ids.PropId.{PropId}
 use Rattle.ec_terms.specs.Term.{ground_of}
-use Rattle.ec_props.specs.Table.{KeptProp, kept_of, prop_at, term_at, prop_of}
-use Rattle.ec_props.proofs.TableLemmas.{kept-place, term_at-place, prop_of-place}
+use Rattle.ec_props.specs.ByText.{found_at}
+use Rattle.ec_props.specs.Table.{prop_at, prop_of, term_at}
+use Rattle.ec_props.proofs.TextLemmas.{prop_of-unnamed, some-found, kept-found, term_at-found, IfSome-from}
 use Rattle.ec_props.proofs.table.PropTable.lookup.Goals as goal
-use Rattle.ec_props.proofs.table.PropTable.lookup.Goals.{After-index}
+use Rattle.ec_props.proofs.table.PropTable.lookup.Goals.{After-copied}
 
--- the number that is read
-read : (c : After-index) → slice_get c.self.inside.order.items c.in-Ok.place ≡ Some c.index.result.now
-read c = slice_get_read c.self.inside.order.items (length c.deref.result.now) c.in-Ok.place c.index.result.now (ap length c.deref.ensures.value) c.in-Ok.ensures.found c.index.ensures
-
--- the term of the property there
-found : (c : After-index) →
-    option_map (λ (k : KeptProp). k.term) (slice_get (kept_of (property_at c.self.inside.properties) c.self.inside.order.items) c.in-Ok.place) ≡ Some (ground_of c.args.term.now)
-found c =
-    subst (λ ps. option_map (λ (k : KeptProp). k.term) (slice_get (kept_of (property_at c.self.inside.properties) ps) c.in-Ok.place) ≡ Some (ground_of c.args.term.now))
-    c.deref.ensures.value c.in-Ok.ensures.term
-
-pub returns-in-Ok-clause-number : goal.returns-in-Ok-clause-number
-returns-in-Ok-clause-number c =
-    let at = (goal.at.returns-in-Ok-clause-number c).After-index in
-    sym (prop_of-place (property_at c.self.inside.properties) c.self.inside.order.items c.self.invariant (ground_of c.args.term.now) c.in-Ok.place c.index.result.now (read at) (found at))
+pub returns-then-not-has_names-clause-number : goal.returns-then-not-has_names-clause-number
+returns-then-not-has_names-clause-number c =
+    sym (prop_of-unnamed (found_at c.self.inside.by_text) (ground_of c.args.term.now) c.self.inside.records.items (sym c.if-not-has_names.ensures) c.self.invariant)
     ∙ ap (prop_of (ground_of c.args.term.now)) c.self.view_is
 
-pub returns-in-Ok-clause-kept : goal.returns-in-Ok-clause-kept
-returns-in-Ok-clause-kept c =
-    let at = (goal.at.returns-in-Ok-clause-kept c).After-index in
-    ap (λ ks. is_some (prop_at c.index.result.now.0 ks)) (sym c.self.view_is)
-    ∙ kept-place (property_at c.self.inside.properties) c.self.inside.order.items c.self.invariant c.in-Ok.place c.index.result.now (read at)
+-- the number that is answered is that of the term
+found : (c : After-copied) (p : PropId) → c.copied.result ≡ Some p → prop_of (ground_of c.args.term.now) c.self.inside.records.items ≡ Some p.0
+found c p is =
+    some-found (found_at c.self.inside.by_text) c.as_bytes.result.now (ground_of c.args.term.now) c.self.inside.records.items p c.self.invariant c.text.ensures.term
+    (c.as_bytes.ensures.value ∙ c.text.ensures.exact) (sym (c.copied.ensures ∙ c.get.ensures.value) ∙ is)
 
-pub returns-in-Ok-clause-term : goal.returns-in-Ok-clause-term
-returns-in-Ok-clause-term c =
-    let at = (goal.at.returns-in-Ok-clause-term c).After-index in
-    ap (term_at c.index.result.now.0) (sym c.self.view_is)
-    ∙ term_at-place (property_at c.self.inside.properties) c.self.inside.order.items c.self.invariant (ground_of c.args.term.now) c.in-Ok.place c.index.result.now (read at) (found at)
+pub returns-clause-kept : goal.returns-clause-kept
+returns-clause-kept c =
+    IfSome-from c.copied.result _
+    (λ p is. ap (λ ks. is_some (prop_at p.0 ks)) (sym c.self.view_is)
+    ∙ kept-found (found_at c.self.inside.by_text) (ground_of c.args.term.now) p.0 c.self.inside.records.items c.self.invariant (found (goal.at.returns-clause-kept c).After-copied p is))
+
+pub returns-clause-term : goal.returns-clause-term
+returns-clause-term c =
+    IfSome-from c.copied.result _
+    (λ p is. ap (term_at p.0) (sym c.self.view_is)
+    ∙ term_at-found (found_at c.self.inside.by_text) (ground_of c.args.term.now) p.0 c.self.inside.records.items c.self.invariant (found (goal.at.returns-clause-term c).After-copied p is))

@@ -1,44 +1,10 @@
--- One property is mentioned less often.
-use Rattle.std.proofs.Common.{◌-◌, Some, refl, sym, ap, ◌∙◌, is_some}
-use Rattle.slab.specs.Slab.{get as property_at, with_value, Updates}
-use Rattle.slab.proofs.SlabLemmas.{Updates-with_value}
-use Rattle.ec_props.specs.Table.{mentions_at, term_at, with_mentions}
-use Rattle.ec_props.specs.declared.property.Property.{Property}
-use Rattle.ec_props.proofs.TableLemmas.{if_some, mentions_at-kept}
-use Rattle.ec_props.proofs.ChangeLemmas.{IsTable-mentions, kept_of-mentions, term_at-mentions}
+-- Texts find the same numbers.
+use Rattle.std.proofs.Common.{refl}
+use Rattle.ec_props.specs.ByText.{found_at}
+use Rattle.ec_props.proofs.TextLemmas.{IsFoundByText-mentions}
 use Rattle.ec_props.proofs.table.PropTable.release.Goals as goal
-use Rattle.ec_props.proofs.table.PropTable.release.Goals.{After-index_mut}
-
--- the property that is written
-written : (c : After-index_mut) → Property
-written c = record { term = c.index_mut.result.now.term; mentions = c.index_mut.result.now.mentions - c.args.n }
-
--- and no other
-updates : (c : After-index_mut) → Updates c.self.inside.properties (with_value c.self.inside.properties c.args.p.0 (written c)) c.args.p.0 (Some (written c))
-updates c = Updates-with_value c.self.inside.properties c.args.p.0 (written c) (ap is_some c.index_mut.ensures.value)
 
 pub invariant_of-self : goal.invariant_of-self
-unfolding written
 invariant_of-self c =
-    let at = (goal.at.invariant_of-self c).After-index_mut in
-    IsTable-mentions (property_at c.self.inside.properties) (property_at (with_value c.self.inside.properties c.args.p.0 (written at))) c.self.inside.order.items c.self.inside.order.items
-    c.self.invariant c.args.p (written at).mentions c.index_mut.result.now c.index_mut.ensures.value (updates at).changed (updates at).others refl
-
-pub returns-clause-props : goal.returns-clause-props
-unfolding written
-returns-clause-props c =
-    let at = (goal.at.returns-clause-props c).After-index_mut in
-    if_some (mentions_at c.args.p.0 c.args.self.now) _ c.index_mut.result.now.mentions
-    (ap (mentions_at c.args.p.0) (sym c.self.view_is)
-    ∙ mentions_at-kept (property_at c.self.inside.properties) c.self.inside.order.items c.self.invariant c.args.p.0 c.index_mut.result.now c.index_mut.ensures.value)
-    (kept_of-mentions (property_at c.self.inside.properties) (property_at (with_value c.self.inside.properties c.args.p.0 (written at))) c.self.inside.order.items c.self.inside.order.items
-    c.self.invariant c.args.p (written at).mentions c.index_mut.result.now c.index_mut.ensures.value (updates at).changed (updates at).others refl
-    ∙ ap (with_mentions c.args.p.0 (written at).mentions) c.self.view_is)
-
-pub returns-clause-terms : goal.returns-clause-terms
-unfolding written
-returns-clause-terms c = λ q.
-    let at = (goal.at.returns-clause-terms c).After-index_mut in
-    term_at-mentions (property_at c.self.inside.properties) (property_at (with_value c.self.inside.properties c.args.p.0 (written at))) c.self.inside.order.items c.self.inside.order.items
-    c.self.invariant c.args.p (written at).mentions c.index_mut.result.now c.index_mut.ensures.value (updates at).changed (updates at).others refl q
-    ∙ ap (term_at q) c.self.view_is
+    IsFoundByText-mentions (found_at c.self.inside.by_text) _ c.self.inside.records.items c.set_mentions.new.self.items c.self.invariant c.set_mentions.ensures.numbers
+    c.args.p.0 _ c.set_mentions.ensures.props c.set_mentions.ensures.lookups (λ text. refl)
