@@ -1,5 +1,5 @@
 -- Counts of the entries of kept events: whole number by whole number, over quiet stretches, and as sums over instants.
-use Rattle.std.proofs.Common.{◌≡◌, ℕ, zero, suc, ◌+◌, ◌<◌, ℤ, pos, ◌+ℤ◌, Bool, true, false, not, ◌&&◌, ◌||◌, List, [], ◌∷◌, ◌++◌, length, filter, flat_map, IsTrue, IsFalse, refl, sym, ap, subst, ◌∙◌, ⊎_elim, arith}
+use Rattle.std.proofs.Common.{◌≡◌, ℕ, zero, suc, ◌+◌, ℤ, pos, ◌+ℤ◌, Bool, true, false, not, ◌&&◌, ◌||◌, List, [], ◌∷◌, ◌++◌, length, filter, flat_map, IsTrue, IsFalse, refl, sym, ap, subst, ◌∙◌, ⊎_elim, arith}
 use Rattle.std.specs.Prelude.{int_lt, int_le}
 use Rattle.std.specs.Bool.{beq}
 use Rattle.std.specs.List.{list_any, list_all, sum_by, IsDistinct}
@@ -14,7 +14,7 @@ use Rattle.ec_axioms.specs.Plain.{events_at}
 use Rattle.ec_axioms.specs.Calculus.{PlainEvent, Effect, effects_of, is_current}
 use Rattle.ec_axioms.specs.Changes.{has_event, kept_events, kept_effects, sees_change, change_counts}
 use Rattle.ec_axioms.proofs.Members.{IsMember, IsMember-filter, IsMember-from_filter, filter_all, filter_none, filter_agree, list_all-member, list_any-member, list_any-false}
-use Rattle.ec_changes.specs.Differences.{differs, entries_at, reads, IsQuiet}
+use Rattle.ec_changes.specs.Differences.{differs, entries_at, reads, IsQuiet, IsQuietStretch}
 use Rattle.ec_changes.specs.Turns.{turns_on, turns_off, sees, kept_count}
 use Rattle.ec_changes.specs.CountLaws.{KeptCountsGoOn, KeptCountsAreWhole, QuietCountsNothing, CountsAreSums}
 use Rattle.ec_changes.proofs.JoinedMembers.{IsMember-from_flat_map, IsMember-flat_map}
@@ -143,7 +143,7 @@ kept_count-none theory old new test t none =
 -- a test that passes at no entry of a quiet instant counts nothing over a quiet stretch
 kept_count-stretch : (theory : Theory) (old new : List PlainEvent) (test : Effect → Bool)
     → ((t : ℤ) → IsQuiet theory old new (λ p. differs theory old new p t) t → (effect : Effect) → IsMember (entries_at theory old t) effect → IsFalse (test effect))
-    → (r : ℤ) (n : ℕ) → ((k : ℕ) → k < n → IsQuiet theory old new (λ p. differs theory old new p r) (r +ℤ pos k))
+    → (r : ℤ) (n : ℕ) → IsQuietStretch theory old new r n
     → kept_count theory old new test (r +ℤ pos n) ≡ kept_count theory old new test r
 kept_count-stretch theory old new test none r zero quiet = ap (kept_count theory old new test) (add_none r)
 kept_count-stretch theory old new test none r (suc n) quiet =

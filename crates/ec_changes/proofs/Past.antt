@@ -19,7 +19,7 @@ use Rattle.ec_axioms.proofs.Members.{IsMember, IsMember-filter, IsMember-from_fi
 use Rattle.ec_axioms.proofs.Instants.{IsPairwise-from_ascending, is_ascending-instants_of}
 use Rattle.ec_axioms.proofs.HistoryMarks.{instant-mark_at, AreAllMarked-mark_at}
 use Rattle.ec_changes.proofs.JoinedMembers.{IsMember-map, IsMember-append_left, IsMember-append_right}
-use Rattle.ec_changes.specs.QuietLaws.{single_events, EventsStay, PastStays, differ_from, marks_before}
+use Rattle.ec_changes.specs.QuietLaws.{single_events, EventsStay, PastStays, DifferFrom, marks_before}
 use Rattle.ec_changes.proofs.Activity.{is_active-each}
 use Rattle.ec_changes.proofs.KeptEvents.{kept_events-both, same_from_members}
 use Rattle.ec_changes.proofs.Quiet.{mark_at-same}
@@ -57,7 +57,7 @@ EventsStay-law old new t history_old history_new none =
     (λ there. subst (λ events. IsMember events e) none (IsMember-filter (λ (f : PlainEvent). int_eq f.rank t) (single_events old new) e member there)))
 
 -- both lists have the same events before t
-events_before-same : (old new : List PlainEvent) (t : ℤ) → IsTrue (is_history old) → IsTrue (is_history new) → differ_from t old new
+events_before-same : (old new : List PlainEvent) (t : ℤ) → IsTrue (is_history old) → IsTrue (is_history new) → DifferFrom t old new
     → events_before t old ≡ events_before t new
 events_before-same old new t history_old history_new late =
     events-passing (λ e. int_lt e.rank t) old new history_old history_new

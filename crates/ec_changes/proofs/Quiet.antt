@@ -1,5 +1,5 @@
 -- Currency from one whole number to the next, and what passes over quiet ones.
-use Rattle.std.proofs.Common.{◌≡◌, ℕ, zero, suc, ◌<◌, ℤ, pos, ◌+ℤ◌, Bool, true, false, not, ◌&&◌, ◌||◌, List, [], ◌∷◌, length, nat_lt, IsTrue, IsFalse, refl, sym, ap, ap₂, subst, ◌∙◌, ⊎_elim, arith}
+use Rattle.std.proofs.Common.{◌≡◌, ℕ, zero, suc, ℤ, pos, ◌+ℤ◌, Bool, true, false, not, ◌&&◌, ◌||◌, List, [], ◌∷◌, length, nat_lt, IsTrue, IsFalse, refl, sym, ap, ap₂, subst, ◌∙◌, ⊎_elim, arith}
 use Rattle.std.specs.Prelude.{int_lt, int_le}
 use Rattle.std.specs.Bool.{beq}
 use Rattle.std.specs.List.{list_any, list_all}
@@ -17,7 +17,7 @@ use Rattle.ec_axioms.proofs.Rounds.{is_current-equation}
 use Rattle.ec_axioms.proofs.Ranks.{int_lt-next}
 use Rattle.ec_axioms.proofs.LastInstant.{is_current-last}
 use Rattle.ec_axioms.proofs.Members.{IsMember-from_contains, IsMember, filter_none, list_any-false}
-use Rattle.ec_changes.specs.Differences.{differs, entries_at, reads, IsQuiet}
+use Rattle.ec_changes.specs.Differences.{differs, entries_at, reads, IsQuiet, IsQuietStretch}
 use Rattle.ec_changes.specs.QuietLaws.{QuietEntriesStay, current_behind, CurrencyBehindMarks, CurrencyGoesOn, QuietInstantsPassOn, QuietStretchesPassOn}
 use Rattle.ec_changes.proofs.Activity.{differs-not, rank-entries_at, is_active-unread, effects_at-agree}
 
@@ -189,8 +189,7 @@ IsQuiet-same theory old new r t same quiet = record {
 }
 
 -- what differs at r differs behind a quiet stretch
-pub stretch-differs : (theory : Theory) (old new : List PlainEvent) (r : ℤ) (n : ℕ)
-    → ((k : ℕ) → k < n → IsQuiet theory old new (λ p. differs theory old new p r) (r +ℤ pos k))
+pub stretch-differs : (theory : Theory) (old new : List PlainEvent) (r : ℤ) (n : ℕ) → IsQuietStretch theory old new r n
     → (p : Ground) → differs theory old new p (r +ℤ pos n) ≡ differs theory old new p r
 stretch-differs theory old new r zero quiet p = ap (differs theory old new p) (add_none r)
 stretch-differs theory old new r (suc n) quiet p =
@@ -201,7 +200,7 @@ stretch-differs theory old new r (suc n) quiet p =
 
 -- the law
 pub QuietStretchesPassOn-law : QuietStretchesPassOn
-QuietStretchesPassOn-law theory old new r n quiet p = (
+QuietStretchesPassOn-law theory old new r n p quiet = (
   λ k below.
       let before = stretch-differs theory old new r k (λ j lower. quiet j (omega arith)) in
       quiet-mark theory old new (r +ℤ pos k) (IsQuiet-same theory old new r (r +ℤ pos k) before (quiet k below)) p,
@@ -210,7 +209,7 @@ QuietStretchesPassOn-law theory old new r n quiet p = (
 
 -- the law
 pub QuietEntriesStay-law : QuietEntriesStay
-QuietEntriesStay-law theory old new r n quiet k effect below contained =
+QuietEntriesStay-law theory old new r n k effect quiet below contained =
     let before = stretch-differs theory old new r k (λ j lower. quiet j (omega arith)) in
     quiet-active theory old new (r +ℤ pos k) (IsQuiet-same theory old new r (r +ℤ pos k) before (quiet k below)) effect
     (IsMember-from_contains (entries_at theory old (r +ℤ pos k)) effect contained)

@@ -1,5 +1,5 @@
 -- The laws of what a change counts, as statements.
-use Rattle.std.specs.Prelude.{◌↔◌, IsFalse, ◌≡◌, ℕ, ◌+◌, ◌<◌, Bool, List, ℤ, pos, ◌+ℤ◌, int_le, int_lt, length, filter, sum_by, IsTrue}
+use Rattle.std.specs.Prelude.{◌↔◌, IsFalse, ◌≡◌, ℕ, ◌+◌, Bool, List, ℤ, pos, ◌+ℤ◌, int_le, int_lt, length, filter, sum_by, IsTrue}
 use Rattle.std.specs.List.{list_any, list_all, IsDistinct}
 use Rattle.std.specs.Ordering.{int_eq}
 use Rattle.ec_terms.specs.declared.ground.Ground.{Ground}
@@ -8,7 +8,7 @@ use Rattle.ec_terms.specs.Term.{term_eq}
 use Rattle.ec_axioms.specs.Calculus.{PlainEvent, Effect, intervals_of}
 use Rattle.ec_axioms.specs.Changes.{kept_events, kept_effects, change_counts, work_between, has_other_intervals}
 use Rattle.ec_changes.specs.LiveLaws.{ListsInitials}
-use Rattle.ec_changes.specs.Differences.{differs, entries_at, IsQuiet}
+use Rattle.ec_changes.specs.Differences.{entries_at, IsQuietStretch}
 use Rattle.ec_changes.specs.Turns.{turns_on, turns_off, sees, kept_count}
 
 -- The count of kept entries before the next whole number is that before this one, and those at this one.
@@ -31,11 +31,10 @@ pub record CountsNothingBetween (theory : Theory) (old new : List PlainEvent) (r
   pub on : kept_count theory old new (turns_on theory old new) t ≡ kept_count theory old new (turns_on theory old new) r
   pub off : kept_count theory old new (turns_off theory old new) t ≡ kept_count theory old new (turns_off theory old new) r
 
--- Over n whole numbers from r on that are quiet for what differs at r, no entry sees a change or turns.
+-- Over a quiet stretch no entry sees a change or turns.
 abbrev pub QuietCountsNothing : Type 0
 QuietCountsNothing =
-    (theory : Theory) (old new : List PlainEvent) (r : ℤ) (n : ℕ)
-    → ((k : ℕ) → k < n → IsQuiet theory old new (λ p. differs theory old new p r) (r +ℤ pos k))
+    (theory : Theory) (old new : List PlainEvent) (r : ℤ) (n : ℕ) → IsQuietStretch theory old new r n
     → CountsNothingBetween theory old new r (r +ℤ pos n)
 
 -- three counts of a change as sums over a list of instants

@@ -1,5 +1,5 @@
 -- What differs between two lists of events at an instant, and what makes an instant quiet.
-use Rattle.std.specs.Prelude.{◌≡◌, Bool, not, List, ℤ, flat_map, IsTrue, IsFalse}
+use Rattle.std.specs.Prelude.{ℕ, ◌<◌, pos, ◌+ℤ◌, ◌≡◌, Bool, not, List, ℤ, flat_map, IsTrue, IsFalse}
 use Rattle.std.specs.Bool.{beq}
 use Rattle.std.specs.List.{list_any}
 use Rattle.ec_terms.specs.declared.ground.Ground.{Ground}
@@ -28,3 +28,7 @@ pub record IsQuiet (theory : Theory) (old new : List PlainEvent) (changed : Grou
   pub same_events : events_at t old ≡ events_at t new
   pub unread : (p : Ground) → IsTrue (changed p) → IsFalse (list_any (reads p) (entries_at theory old t))
   pub unmarked : (p : Ground) → IsTrue (changed p) → IsFalse (is_marked (mark_at theory old p t))
+
+-- n whole numbers from r on are quiet for what differs at r
+abbrev pub IsQuietStretch : Theory → List PlainEvent → List PlainEvent → ℤ → ℕ → Type 0
+IsQuietStretch theory old new r n = (k : ℕ) → k < n → IsQuiet theory old new (λ p. differs theory old new p r) (r +ℤ pos k)

@@ -8,7 +8,7 @@ use Rattle.ec_axioms.specs.Timeline.{is_start}
 use Rattle.ec_axioms.specs.Calculus.{PlainEvent, Effect, is_active, is_initiated, has_break, is_current, timeline_of}
 use Rattle.ec_axioms.specs.Marks.{PlainMark, mark_at, marks_of, is_marked, mark_initiates}
 use Rattle.ec_axioms.specs.Changes.{is_history, events_only_in}
-use Rattle.ec_changes.specs.Differences.{differs, entries_at, IsQuiet}
+use Rattle.ec_changes.specs.Differences.{differs, entries_at, IsQuiet, IsQuietStretch}
 
 -- Current at the next whole number: initiated now, or current now and not broken now.
 abbrev pub CurrencyGoesOn : Type 0
@@ -34,22 +34,18 @@ QuietInstantsPassOn =
     (theory : Theory) (old new : List PlainEvent) (t : ℤ) → IsQuiet theory old new (λ p. differs theory old new p t) t
     → (p : Ground) → (mark_at theory new p t ≡ mark_at theory old p t) × (differs theory old new p (t +ℤ pos 1) ≡ differs theory old new p t)
 
--- Where n whole numbers from r on are quiet for what differs at r, marks there are the same in both lists, and what
--- differs at r differs behind them.
+-- A quiet stretch has the same marks in both lists, and what differs at its beginning differs behind it.
 abbrev pub QuietStretchesPassOn : Type 0
 QuietStretchesPassOn =
-    (theory : Theory) (old new : List PlainEvent) (r : ℤ) (n : ℕ)
-    → ((k : ℕ) → k < n → IsQuiet theory old new (λ p. differs theory old new p r) (r +ℤ pos k))
-    → (p : Ground)
+    (theory : Theory) (old new : List PlainEvent) (r : ℤ) (n : ℕ) (p : Ground) → IsQuietStretch theory old new r n
     → ((k : ℕ) → k < n → mark_at theory new p (r +ℤ pos k) ≡ mark_at theory old p (r +ℤ pos k))
     × (differs theory old new p (r +ℤ pos n) ≡ differs theory old new p r)
 
--- In such a stretch each entry is active in both lists, or in neither.
+-- In a quiet stretch each entry is active in both lists, or in neither.
 abbrev pub QuietEntriesStay : Type 0
 QuietEntriesStay =
-    (theory : Theory) (old new : List PlainEvent) (r : ℤ) (n : ℕ)
-    → ((k : ℕ) → k < n → IsQuiet theory old new (λ p. differs theory old new p r) (r +ℤ pos k))
-    → (k : ℕ) (effect : Effect) → k < n → Contains (entries_at theory old (r +ℤ pos k)) effect
+    (theory : Theory) (old new : List PlainEvent) (r : ℤ) (n k : ℕ) (effect : Effect) → IsQuietStretch theory old new r n
+    → k < n → Contains (entries_at theory old (r +ℤ pos k)) effect
     → is_active (is_current theory old) effect ≡ is_active (is_current theory new) effect
 
 -- the events that stand in one of two lists alone
@@ -67,8 +63,8 @@ abbrev pub marks_before : ℤ → List PlainMark → List PlainMark
 marks_before t marks = filter (λ mark. int_lt mark.instant t) marks
 
 -- each event that stands in one of the lists alone is at t or later
-abbrev pub differ_from : ℤ → List PlainEvent → List PlainEvent → Type 0
-differ_from t old new = IsTrue (list_all (λ e. int_le t e.rank) (single_events old new))
+abbrev pub DifferFrom : ℤ → List PlainEvent → List PlainEvent → Type 0
+DifferFrom t old new = IsTrue (list_all (λ e. int_le t e.rank) (single_events old new))
 
 -- what stays the same up to t
 pub record IsSameUpTo (theory : Theory) (old new : List PlainEvent) (t : ℤ) : Type 0 where
@@ -81,5 +77,5 @@ pub record IsSameUpTo (theory : Theory) (old new : List PlainEvent) (t : ℤ) : 
 -- Before the first event that stands in one list alone everything is as it was.
 abbrev pub PastStays : Type 0
 PastStays =
-    (theory : Theory) (old new : List PlainEvent) (t : ℤ) → IsTrue (is_history old) → IsTrue (is_history new) → differ_from t old new
+    (theory : Theory) (old new : List PlainEvent) (t : ℤ) → IsTrue (is_history old) → IsTrue (is_history new) → DifferFrom t old new
     → IsSameUpTo theory old new t
