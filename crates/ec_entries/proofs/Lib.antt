@@ -1,0 +1,5 @@
+pub mod Orders
+pub mod Readings
+pub mod NotedLists
+pub mod States
+pub mod Wanting

@@ -1,0 +1,103 @@
+-- What the searches of a list of dependents cut out: those after a time, and those at it.
+use Rattle.std.proofs.Common.{◌≡◌, ◌+◌, ◌-◌, ◌<◌, ◌≤◌, ℕ, ℤ, zero, suc, Bool, true, false, not, cond, List, [], ◌∷◌, length, take, drop, None, refl, ap, ◌∙◌, arith}
+use Rattle.std.specs.Prelude.{int_lt, int_le, slice_get}
+use Rattle.std.specs.Ordering.{int_eq}
+use Rattle.std.proofs.lemmas.Int.{ints}
+use Rattle.ec_entries.specs.declared.event_entries.Dependent.{Dependent}
+use Rattle.ec_entries.specs.Dependents.{dependents_after, dependents_at}
+use Rattle.ec_entries.proofs.Orders.{IsCut}
+use Rattle.ec_rows.proofs.OrderedLemmas.{drop-partition}
+
+later : (r t : ℤ) → int_lt t r ≡ not (int_le r t)
+later r t = grind (arith, ints)
+
+at-from_both : (r t : ℤ) → int_lt r t ≡ false → int_le r t ≡ true → int_eq r t ≡ true
+at-from_both r t = grind (arith, ints)
+
+not_at-before : (r t : ℤ) → int_lt r t ≡ true → int_eq r t ≡ false
+not_at-before r t = grind (arith, ints)
+
+not_at-after : (r t : ℤ) → int_le r t ≡ false → int_eq r t ≡ false
+not_at-after r t = grind (arith, ints)
+
+never : (r t : ℤ) → int_lt r t ≡ true → int_le r t ≡ false → ⊥
+never r t first second = let both : int_le r t ≡ true = grind (arith, ints) in cc
+
+-- the members between two places
+slice_get-between : {X : Type 0} (xs : List X) (i j k : ℕ) → k < j - i → slice_get (drop i (take j xs)) k ≡ slice_get xs (i + k)
+slice_get-between [] zero zero k within = absurd (omega arith)
+slice_get-between [] zero (suc j) k within = refl
+slice_get-between [] (suc i) zero k within = absurd (omega arith)
+slice_get-between [] (suc i) (suc j) k within = refl
+slice_get-between (x ∷ xs) zero zero k within = absurd (omega arith)
+slice_get-between (x ∷ xs) zero (suc j) zero within = refl
+slice_get-between (x ∷ xs) zero (suc j) (suc k) within =
+    slice_get-between xs zero j k (omega arith) ∙ ap (slice_get xs) (omega arith) ∙ ap (slice_get (x ∷ xs)) (let e : suc k ≡ zero + suc k = omega arith in e)
+slice_get-between (x ∷ xs) (suc i) zero k within = absurd (omega arith)
+slice_get-between (x ∷ xs) (suc i) (suc j) k within =
+    slice_get-between xs i j k (omega arith) ∙ ap (slice_get (x ∷ xs)) (let e : suc (i + k) ≡ suc i + k = omega arith in e)
+
+-- and none behind them
+slice_get-past_between : {X : Type 0} (xs : List X) (i j k : ℕ) → j - i ≤ k → slice_get (drop i (take j xs)) k ≡ None
+slice_get-past_between [] zero zero k past = refl
+slice_get-past_between [] zero (suc j) k past = refl
+slice_get-past_between [] (suc i) zero k past = refl
+slice_get-past_between [] (suc i) (suc j) k past = refl
+slice_get-past_between (x ∷ xs) zero zero k past = refl
+slice_get-past_between (x ∷ xs) zero (suc j) zero past = absurd (omega arith)
+slice_get-past_between (x ∷ xs) zero (suc j) (suc k) past = slice_get-past_between xs zero j k (omega arith)
+slice_get-past_between (x ∷ xs) (suc i) zero k past = refl
+slice_get-past_between (x ∷ xs) (suc i) (suc j) k past = slice_get-past_between xs i j k (omega arith)
+
+module _ {T : Type 0} (rank : T → ℤ) (t : ℤ) where
+  -- a member is before the time, or up to it
+  abbrev pub earlier : Dependent T → Bool
+  earlier d = int_lt (rank d.at) t
+
+  abbrev pub up_to : Dependent T → Bool
+  up_to d = int_le (rank d.at) t
+
+  -- behind those up to a time are those after it
+  pub drop-after : (ds : List (Dependent T)) (i : ℕ) → IsCut rank up_to ds i → drop i ds ≡ dependents_after rank t ds
+  drop-after ds i cut = drop-partition up_to (λ d. int_lt t (rank d.at)) (λ d. later (rank d.at) t) ds i cut
+
+  rest : (test : Dependent T → Bool) (d : Dependent T) (ds : List (Dependent T)) (i : ℕ) → IsCut rank test (d ∷ ds) (suc i) → IsCut rank test ds i
+  rest test d ds i cut = (λ k e low high. cut.0 (suc k) e (omega arith) (omega arith), λ k e low high. cut.1 (suc k) e (omega arith) (omega arith))
+
+  none : (test : Dependent T → Bool) (d : Dependent T) (ds : List (Dependent T)) → IsCut rank test (d ∷ ds) zero → IsCut rank test ds zero
+  none test d ds cut = (λ k e low high. absurd (omega arith), λ k e low high. cut.1 (suc k) e (omega arith) (omega arith))
+
+  -- those at a time stand between those before it and those after it
+  pub dependents_at-between : (ds : List (Dependent T)) (i j : ℕ) → IsCut rank earlier ds i → IsCut rank up_to ds j → dependents_at rank t ds ≡ drop i (take j ds)
+  dependents_at-between [] zero zero low high = refl
+  dependents_at-between [] zero (suc j) low high = refl
+  dependents_at-between [] (suc i) zero low high = refl
+  dependents_at-between [] (suc i) (suc j) low high = refl
+  dependents_at-between (d ∷ ds) zero zero low high =
+      ap (λ b. cond b (d ∷ dependents_at rank t ds) (dependents_at rank t ds)) (not_at-after (rank d.at) t (high.1 zero d (omega arith) (omega arith)))
+      ∙ dependents_at-between ds zero zero (none earlier d ds low) (none up_to d ds high)
+  dependents_at-between (d ∷ ds) zero (suc j) low high =
+      ap (λ b. cond b (d ∷ dependents_at rank t ds) (dependents_at rank t ds))
+      (at-from_both (rank d.at) t (low.1 zero d (omega arith) (omega arith)) (high.0 zero d (omega arith) (omega arith)))
+      ∙ ap (λ es. d ∷ es) (dependents_at-between ds zero j (none earlier d ds low) (rest up_to d ds j high))
+  dependents_at-between (d ∷ ds) (suc i) zero low high =
+      absurd (never (rank d.at) t (low.0 zero d (omega arith) (omega arith)) (high.1 zero d (omega arith) (omega arith)))
+  dependents_at-between (d ∷ ds) (suc i) (suc j) low high =
+      ap (λ b. cond b (d ∷ dependents_at rank t ds) (dependents_at rank t ds)) (not_at-before (rank d.at) t (low.0 zero d (omega arith) (omega arith)))
+      ∙ dependents_at-between ds i j (rest earlier d ds i low) (rest up_to d ds j high)
+
+  -- no more are before a time than up to it
+  pub earlier-up_to : (ds : List (Dependent T)) (i j : ℕ) → i ≤ length ds → IsCut rank earlier ds i → IsCut rank up_to ds j → i ≤ j
+  earlier-up_to [] i j within low high = omega (arith, within)
+  earlier-up_to (d ∷ ds) zero j within low high = omega arith
+  earlier-up_to (d ∷ ds) (suc i) zero within low high =
+      absurd (never (rank d.at) t (low.0 zero d (omega arith) (omega arith)) (high.1 zero d (omega arith) (omega arith)))
+  earlier-up_to (d ∷ ds) (suc i) (suc j) within low high =
+      let ih = earlier-up_to ds i j (omega (arith, within)) (rest earlier d ds i low) (rest up_to d ds j high) in omega (arith, ih)
+
+  module _ (ds : List (Dependent T)) (i j : ℕ) (low : IsCut rank earlier ds i) (high : IsCut rank up_to ds j) (k : ℕ) where
+    pub slice_get-dependents_at : k < j - i → slice_get (dependents_at rank t ds) k ≡ slice_get ds (i + k)
+    slice_get-dependents_at within = ap (λ es. slice_get es k) (dependents_at-between ds i j low high) ∙ slice_get-between ds i j k within
+
+    pub slice_get-past_dependents_at : j - i ≤ k → slice_get (dependents_at rank t ds) k ≡ None
+    slice_get-past_dependents_at past = ap (λ es. slice_get es k) (dependents_at-between ds i j low high) ∙ slice_get-past_between ds i j k past

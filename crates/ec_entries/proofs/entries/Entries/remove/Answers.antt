@@ -1,0 +1,17 @@
+-- The entries of the slot were taken out of all rows.
+use Rattle.std.proofs.Common.{◌≡◌, length, set, IsSome, Some, sym, subst, ◌∙◌}
+use Rattle.ec_entries.specs.Dependents.{AreDependents, Entered, dependents_of}
+use Rattle.ec_entries.specs.Noting.{AreTakenOut}
+use Rattle.ec_entries.proofs.States.{AreDependents-out, kept_at-read}
+use Rattle.ec_numbered.specs.ByNumber.{kept_at}
+use Rattle.ec_entries.proofs.entries.Entries.remove.Goals as goal
+
+pub invariant_of-self : goal.invariant_of-self
+invariant_of-self g c =
+    let slots = c.self.inside.slots.items in
+    let some : IsSome (kept_at c.args.slot.0 slots) = subst (λ (e : Entered g.row.T.Denot). IsSome (kept_at c.args.slot.0 e.slots)) (sym c.self.view_is) c.requires in
+    let there : kept_at c.args.slot.0 slots ≡ Some c.in-Some.kept = kept_at-read slots c.args.slot.0 c.index_mut.result.now c.index_mut.ensures.value some ∙ sym c.in-Some.ensures.value in
+    let out : AreTakenOut g.T.Moment.rank c.args.slot.0 (length c.in-Some.kept.list) c.self.inside.rows c.drop_all.new.rows =
+    subst (λ ls. AreTakenOut g.T.Moment.rank c.args.slot.0 (length ls) c.self.inside.rows c.drop_all.new.rows) c.as_slice.ensures.items c.drop_all.ensures in
+    λ q. subst (λ x. AreDependents g.T.Moment.rank q (set slots c.args.slot.0 x) (dependents_of q c.drop_all.new.rows)) (sym c.take.ensures.after)
+    (AreDependents-out g.T.Moment.rank slots c.args.slot.0 c.in-Some.kept there c.self.inside.rows c.drop_all.new.rows c.self.invariant out q)

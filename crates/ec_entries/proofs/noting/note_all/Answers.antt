@@ -1,0 +1,15 @@
+-- One entry more is noted.
+use Rattle.std.proofs.Common.{subst}
+use Rattle.ec_entries.specs.declared.event_entries.Dependent.{Dependent}
+use Rattle.ec_entries.specs.Dependents.{any_on}
+use Rattle.ec_entries.specs.Noting.{IsNoted}
+use Rattle.ec_entries.proofs.NotedLists.{AreNoted-more}
+use Rattle.ec_entries.proofs.noting.note_all.Goals as goal
+
+pub loop-place-preserved : goal.loop-place-preserved
+loop-place-preserved g c =
+    AreNoted-more g.T.Moment.rank c.args.at c.args.slot.0 c.args.list.now c.loop-place.place c.index-list-place.result c.loop-place-test.true c.index-list-place.is
+    c.args.rows.now c.loop-place.rows c.note_entry.new.rows c.loop-place.invariant
+    (subst (λ ls. IsNoted g.T.Moment.rank c.args.at c.args.slot.0 c.loop-place.place (λ q. any_on q ls) c.loop-place.rows c.note_entry.new.rows) c.as_slice.ensures.items
+    (subst (λ (d : Dependent g.row.T.Denot). IsNoted g.T.Moment.rank d.at d.slot.0 d.place (λ q. any_on q c.as_slice.result.now) c.loop-place.rows c.note_entry.new.rows)
+    c.dependent_at.ensures c.note_entry.ensures))

@@ -1,0 +1,8 @@
+-- The entry is noted for the literals so far.
+use Rattle.std.proofs.Common.{take}
+use Rattle.ec_entries.specs.Dependents.{any_on}
+use Rattle.ec_entries.specs.Noting.{IsNoted}
+use Rattle.ec_entries.proofs.noting.note_entry.Given as goal
+
+abbrev pub invariant-loop-k : goal.invariant-loop-k
+invariant-loop-k g l = IsNoted g.T.Moment.rank l.dependent.at l.dependent.slot.0 l.dependent.place (λ q. any_on q (take l.k l.literals)) l.initial.rows l.rows

@@ -1,0 +1,3 @@
+pub mod Dependents
+pub mod Noting
+pub mod Wanted
