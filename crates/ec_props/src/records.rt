@@ -1,14 +1,12 @@
 ghost use Rattle.std.specs.Prelude.{◌≡◌, ◌≢◌, ◌+◌, ◌<◌, ◌≤◌, ◌++◌, ℕ, [], true, false, None, Some, IsTrue, IsSome, IfSome, IfOk, OnOk, All, length, slice_get, map, option_map, take, drop, if◌then◌else◌};
-ghost use Rattle.std.specs.List.{insert};
 ghost use Rattle.std.specs.List.Sorted.{IsPartitionPoint};
 ghost use Rattle.std.specs.Ordering.{is_lt};
-ghost use Rattle.std.specs.Vec.{vec_capacity};
-ghost use Rattle.std.specs.Prelude.{vec_len};
 ghost use Rattle.ec_terms.specs.Term.{ground_of, names_are_names, term_cmp, term_eq};
 ghost use Rattle.ec_props.specs.Table.{prop_at, term_at, mentions_at, prop_of, is_in_order, number_of, with_prop, without_prop, with_mentions, props_below, props_with, props_above};
 
 use crate::property::Property;
 use crate::search::{count_before, count_below};
+use ec_blocks::Blocks;
 use ec_terms::{Ground, GroundRef, NoMemory, PropId};
 use slab::Slab;
 use std::alloc::Global;
@@ -19,12 +17,11 @@ use std::marker::Model;
 #[derive(Drop)]
 pub(crate) struct Records {
     properties: Slab<Property>,
-    order: Vec<PropId>,
+    order: Blocks<PropId>,
 }
 
 impl Model for Records {
-    ghost use Rattle.std.specs.Prelude.{◌-◌, min, vec_len};
-    ghost use Rattle.std.specs.Vec.{vec_capacity};
+    ghost use Rattle.std.specs.Prelude.{◌-◌, min};
     ghost use Rattle.slab.specs.Slab.{get as property_at, slab_len};
     ghost use Rattle.ec_rows.specs.Ordered.{Reserved};
     ghost use Rattle.ec_props.specs.Table.{KeptProp, kept_of, IsTable};
@@ -33,22 +30,10 @@ impl Model for Records {
 
     ghost view = { λ r. record {
       items = kept_of (property_at r.properties) r.order.items;
-      spare = min (r.properties.capacity - slab_len r.properties) (vec_capacity r.order - vec_len r.order);
+      spare = min (r.properties.capacity - slab_len r.properties) r.order.spare;
     } };
 
     ghost invariant = { λ r. IsTable (property_at r.properties) r.order.items };
-}
-
-/// Inserts a number at a place, where the order has room for it.
-fn insert_within(order: &mut Vec<PropId>, place: usize, p: PropId)
-    requires within { place ≤ vec_len order.old }
-    requires room { vec_len order.old < vec_capacity order.old }
-    ensures { order.new.items ≡ insert order.old.items place p }
-{
-    match order.insert(place, p) {
-        Ok(()) => {}
-        Err(_) => unreachable!(),
-    }
 }
 
 impl Records {
@@ -58,7 +43,7 @@ impl Records {
     {
         Records {
             properties: Slab::new(alloc),
-            order: Vec::new(alloc),
+            order: Blocks::new(alloc),
         }
     }
 
@@ -78,7 +63,7 @@ impl Records {
         ensures prop { prop_at result.0 self.now.items ≡ slice_get self.now.items i }
         ensures kept { IsSome (prop_at result.0 self.now.items) }
     {
-        self.order[i]
+        *self.order.get(i)
     }
 
     /// The numbers from a place of the order on that lie together in memory.
@@ -88,7 +73,7 @@ impl Records {
         ensures run { result.now ≡ take (length result.now) (drop i (map number_of self.now.items)) }
         ensures kept { All (λ p. IsSome (prop_at p.0 self.now.items)) result.now }
     {
-        &self.order[i..]
+        self.order.run(i)
     }
 
     /// The term of a property.
@@ -152,7 +137,7 @@ impl Records {
             self.properties
                 .insert_reserved(Property { term, mentions: 0 }),
         );
-        insert_within(&mut self.order, place, p);
+        self.order.insert(place, p);
         p
     }
 

@@ -8,6 +8,7 @@ ghost use Rattle.ec_terms.specs.Term.{arg_of, arg_cmp, ground_of, term_cmp};
 ghost use Rattle.ec_props.specs.Table.{IsTable, kept_of, arity_cmp, props_below};
 
 use crate::property::Property;
+use ec_blocks::Blocks;
 use ec_terms::{Arg, ArgRef, Ground, GroundRef, PropId};
 use slab::Slab;
 use std::cmp::Ordering;
@@ -79,12 +80,12 @@ fn is_before(properties: &Slab<Property>, p: PropId, term: &GroundRef<'_>) -> bo
 /// How many properties stand before a term.
 pub(crate) fn count_before(
     properties: &Slab<Property>,
-    order: &[PropId],
+    order: &Blocks<PropId>,
     term: &GroundRef<'_>,
 ) -> usize
-    requires { IsTable (property_at properties.now) order.now }
-    ensures within { result ≤ length order.now }
-    ensures cut { IsPartitionPoint (λ kept. is_lt (term_cmp kept.term (ground_of term.now)) ≡ true) (λ kept. is_lt (term_cmp kept.term (ground_of term.now)) ≡ false) (kept_of (property_at properties.now) order.now) result }
+    requires { IsTable (property_at properties.now) order.now.items }
+    ensures within { result ≤ length order.now.items }
+    ensures cut { IsPartitionPoint (λ kept. is_lt (term_cmp kept.term (ground_of term.now)) ≡ true) (λ kept. is_lt (term_cmp kept.term (ground_of term.now)) ≡ false) (kept_of (property_at properties.now) order.now.items) result }
 {
     order.partition_point(
         |p| -> bool
@@ -96,12 +97,12 @@ pub(crate) fn count_before(
 /// How many properties stand before all with a name and a number of arguments.
 pub(crate) fn count_below(
     properties: &Slab<Property>,
-    order: &[PropId],
+    order: &Blocks<PropId>,
     name: &[u8],
     arity: usize,
 ) -> usize
-    requires { IsTable (property_at properties.now) order.now }
-    ensures { result ≡ length (props_below name.now arity (kept_of (property_at properties.now) order.now)) }
+    requires { IsTable (property_at properties.now) order.now.items }
+    ensures { result ≡ length (props_below name.now arity (kept_of (property_at properties.now) order.now.items)) }
 {
     order.partition_point(
         |p| -> bool

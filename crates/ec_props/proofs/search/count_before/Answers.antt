@@ -8,7 +8,7 @@ use Rattle.ec_props.proofs.search.count_before.Goals as goal
 
 pub returns-clause-cut : goal.returns-clause-cut
 returns-clause-cut c =
-    IsCut-numbers (property_at c.args.properties.now) c.args.order.now c.requires (λ t. term_cmp t (ground_of c.args.term.now)) c.partition_point.result c.partition_point.ensures.bound
-    (IsPartitionPoint-from_clause (number_test (property_at c.args.properties.now) (λ t. term_cmp t (ground_of c.args.term.now))) c.args.order.now _
-    c.partition_point.ensures.partitioned (IsPartitionedBy-term (property_at c.args.properties.now) c.args.order.now c.requires (ground_of c.args.term.now))
+    IsCut-numbers (property_at c.args.properties.now) c.args.order.now.items c.requires (λ t. term_cmp t (ground_of c.args.term.now)) c.partition_point.result c.partition_point.ensures.bound
+    (IsPartitionPoint-from_clause (number_test (property_at c.args.properties.now) (λ t. term_cmp t (ground_of c.args.term.now))) c.args.order.now.items _
+    c.partition_point.ensures.partitioned (IsPartitionedBy-term (property_at c.args.properties.now) c.args.order.now.items c.requires (ground_of c.args.term.now))
     (λ a r f' called. search (rules, called)))

@@ -8,8 +8,8 @@ use Rattle.ec_props.proofs.search.count_below.Goals as goal
 
 pub returns : goal.returns
 returns c =
-    length-below (property_at c.args.properties.now) c.args.order.now c.requires c.args.name.now c.args.arity c.partition_point.result c.partition_point.ensures.bound
-    (IsCut-numbers (property_at c.args.properties.now) c.args.order.now c.requires (λ t. arity_cmp t c.args.name.now c.args.arity) c.partition_point.result c.partition_point.ensures.bound
-    (IsPartitionPoint-from_clause (number_test (property_at c.args.properties.now) (λ t. arity_cmp t c.args.name.now c.args.arity)) c.args.order.now _
-    c.partition_point.ensures.partitioned (IsPartitionedBy-arity (property_at c.args.properties.now) c.args.order.now c.requires c.args.name.now c.args.arity)
+    length-below (property_at c.args.properties.now) c.args.order.now.items c.requires c.args.name.now c.args.arity c.partition_point.result c.partition_point.ensures.bound
+    (IsCut-numbers (property_at c.args.properties.now) c.args.order.now.items c.requires (λ t. arity_cmp t c.args.name.now c.args.arity) c.partition_point.result c.partition_point.ensures.bound
+    (IsPartitionPoint-from_clause (number_test (property_at c.args.properties.now) (λ t. arity_cmp t c.args.name.now c.args.arity)) c.args.order.now.items _
+    c.partition_point.ensures.partitioned (IsPartitionedBy-arity (property_at c.args.properties.now) c.args.order.now.items c.requires c.args.name.now c.args.arity)
     (λ a r f' called. search (rules, called))))

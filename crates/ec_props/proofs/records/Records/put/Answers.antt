@@ -10,14 +10,14 @@ use Rattle.ec_props.specs.Table.{KeptProp, kept_of, prop_at, prop_of, prop_befor
 use Rattle.ec_props.proofs.TableLemmas.{items_is, own_numbers, IsFree-absent, behind-free}
 use Rattle.ec_props.proofs.ChangeLemmas.{IsTable-insert, kept_of-insert, prop_of-inserted, kept-inserted, term_at-inserted, prop_at-others, prop_of-more}
 use Rattle.ec_props.proofs.records.Records.put.Goals as goal
-use Rattle.ec_props.proofs.records.Records.put.Goals.{After-insert_within}
+use Rattle.ec_props.proofs.records.Records.put.Goals.{After-insert}
 
 -- the term is new
-absent : (c : After-insert_within) → prop_of c.args.term (kept_of (property_at c.self.inside.properties) c.self.inside.order.items) ≡ None
+absent : (c : After-insert) → prop_of c.args.term (kept_of (property_at c.self.inside.properties) c.self.inside.order.items) ≡ None
 absent c = ap (prop_of c.args.term) (items_is c.self.view_is) ∙ c.requires.absent
 
 -- the place cuts the properties that were kept
-cut : (c : After-insert_within) →
+cut : (c : After-insert) →
     IsPartitionPoint (λ (k : KeptProp). is_lt (term_cmp k.term c.args.term) ≡ true) (λ (k : KeptProp). is_lt (term_cmp k.term c.args.term) ≡ false)
     (kept_of (property_at c.self.inside.properties) c.self.inside.order.items) c.place_of-place.result
 cut c =
@@ -27,7 +27,7 @@ cut c =
     c.borrow.ensures.same c.place_of-place.ensures.cut)
 
 -- the place is that of the term
-placed : (c : After-insert_within) →
+placed : (c : After-insert) →
     insert (kept_of (property_at c.self.inside.properties) c.self.inside.order.items) c.place_of-place.result (unmentioned c.insert_reserved.result c.args.term)
     ≡ with_prop c.insert_reserved.result c.args.term (kept_of (property_at c.self.inside.properties) c.self.inside.order.items)
 placed c =
@@ -38,60 +38,60 @@ placed c =
 
 pub invariant_of-self : goal.invariant_of-self
 invariant_of-self c =
-    IsTable-insert (property_at c.self.inside.properties) (property_at c.insert_reserved.new.self) c.self.inside.order.items c.insert_within.new.order.items c.self.invariant
+    IsTable-insert (property_at c.self.inside.properties) (property_at c.insert_reserved.new.self) c.self.inside.order.items c.insert.new.self.items c.self.invariant
     (record { 0 = c.insert_reserved.result }) c.args.term c.place_of-place.result
-    c.insert_reserved.ensures.was_vacant c.insert_reserved.ensures.updates.changed c.insert_reserved.ensures.updates.others c.insert_within.ensures
-    (placed (goal.at.invariant_of-self c).After-insert_within)
+    c.insert_reserved.ensures.was_vacant c.insert_reserved.ensures.updates.changed c.insert_reserved.ensures.updates.others c.insert.ensures.items
+    (placed (goal.at.invariant_of-self c).After-insert)
 
 pub returns-clause-props : goal.returns-clause-props
 returns-clause-props c =
-    kept_of-insert (property_at c.self.inside.properties) (property_at c.insert_reserved.new.self) c.self.inside.order.items c.insert_within.new.order.items c.self.invariant
+    kept_of-insert (property_at c.self.inside.properties) (property_at c.insert_reserved.new.self) c.self.inside.order.items c.insert.new.self.items c.self.invariant
     (record { 0 = c.insert_reserved.result }) c.args.term c.place_of-place.result
-    c.insert_reserved.ensures.was_vacant c.insert_reserved.ensures.updates.changed c.insert_reserved.ensures.updates.others c.insert_within.ensures
-    (placed (goal.at.returns-clause-props c).After-insert_within)
+    c.insert_reserved.ensures.was_vacant c.insert_reserved.ensures.updates.changed c.insert_reserved.ensures.updates.others c.insert.ensures.items
+    (placed (goal.at.returns-clause-props c).After-insert)
     ∙ ap (with_prop c.insert_reserved.result c.args.term) (items_is c.self.view_is)
 
 pub returns-clause-number : goal.returns-clause-number
 returns-clause-number c =
-    prop_of-inserted (property_at c.self.inside.properties) (property_at c.insert_reserved.new.self) c.self.inside.order.items c.insert_within.new.order.items c.self.invariant
+    prop_of-inserted (property_at c.self.inside.properties) (property_at c.insert_reserved.new.self) c.self.inside.order.items c.insert.new.self.items c.self.invariant
     (record { 0 = c.insert_reserved.result }) c.args.term c.place_of-place.result
-    c.insert_reserved.ensures.was_vacant c.insert_reserved.ensures.updates.changed c.insert_reserved.ensures.updates.others c.insert_within.ensures
-    (placed (goal.at.returns-clause-number c).After-insert_within)
+    c.insert_reserved.ensures.was_vacant c.insert_reserved.ensures.updates.changed c.insert_reserved.ensures.updates.others c.insert.ensures.items
+    (placed (goal.at.returns-clause-number c).After-insert)
 
 pub returns-clause-kept : goal.returns-clause-kept
 returns-clause-kept c =
-    kept-inserted (property_at c.self.inside.properties) (property_at c.insert_reserved.new.self) c.self.inside.order.items c.insert_within.new.order.items c.self.invariant
+    kept-inserted (property_at c.self.inside.properties) (property_at c.insert_reserved.new.self) c.self.inside.order.items c.insert.new.self.items c.self.invariant
     (record { 0 = c.insert_reserved.result }) c.args.term c.place_of-place.result
-    c.insert_reserved.ensures.was_vacant c.insert_reserved.ensures.updates.changed c.insert_reserved.ensures.updates.others c.insert_within.ensures
-    (placed (goal.at.returns-clause-kept c).After-insert_within)
+    c.insert_reserved.ensures.was_vacant c.insert_reserved.ensures.updates.changed c.insert_reserved.ensures.updates.others c.insert.ensures.items
+    (placed (goal.at.returns-clause-kept c).After-insert)
 
 pub returns-clause-term : goal.returns-clause-term
 returns-clause-term c =
-    term_at-inserted (property_at c.self.inside.properties) (property_at c.insert_reserved.new.self) c.self.inside.order.items c.insert_within.new.order.items c.self.invariant
+    term_at-inserted (property_at c.self.inside.properties) (property_at c.insert_reserved.new.self) c.self.inside.order.items c.insert.new.self.items c.self.invariant
     (record { 0 = c.insert_reserved.result }) c.args.term c.place_of-place.result
-    c.insert_reserved.ensures.was_vacant c.insert_reserved.ensures.updates.changed c.insert_reserved.ensures.updates.others c.insert_within.ensures
-    (placed (goal.at.returns-clause-term c).After-insert_within)
+    c.insert_reserved.ensures.was_vacant c.insert_reserved.ensures.updates.changed c.insert_reserved.ensures.updates.others c.insert.ensures.items
+    (placed (goal.at.returns-clause-term c).After-insert)
 
 pub returns-clause-others : goal.returns-clause-others
 returns-clause-others c = λ q kept.
-    prop_at-others (property_at c.self.inside.properties) (property_at c.insert_reserved.new.self) c.self.inside.order.items c.insert_within.new.order.items c.self.invariant
+    prop_at-others (property_at c.self.inside.properties) (property_at c.insert_reserved.new.self) c.self.inside.order.items c.insert.new.self.items c.self.invariant
     (record { 0 = c.insert_reserved.result }) c.args.term c.place_of-place.result
-    c.insert_reserved.ensures.was_vacant c.insert_reserved.ensures.updates.changed c.insert_reserved.ensures.updates.others c.insert_within.ensures
-    (placed (goal.at.returns-clause-others c).After-insert_within) q (subst (λ ks. is_some (prop_at q ks) ≡ true) (sym (items_is c.self.view_is)) kept)
+    c.insert_reserved.ensures.was_vacant c.insert_reserved.ensures.updates.changed c.insert_reserved.ensures.updates.others c.insert.ensures.items
+    (placed (goal.at.returns-clause-others c).After-insert) q (subst (λ ks. is_some (prop_at q ks) ≡ true) (sym (items_is c.self.view_is)) kept)
     ∙ ap (prop_at q) (items_is c.self.view_is)
 
 pub returns-clause-lookups : goal.returns-clause-lookups
 returns-clause-lookups c = λ other.
-    prop_of-more (property_at c.self.inside.properties) (property_at c.insert_reserved.new.self) c.self.inside.order.items c.insert_within.new.order.items c.self.invariant
+    prop_of-more (property_at c.self.inside.properties) (property_at c.insert_reserved.new.self) c.self.inside.order.items c.insert.new.self.items c.self.invariant
     (record { 0 = c.insert_reserved.result }) c.args.term c.place_of-place.result
-    c.insert_reserved.ensures.was_vacant c.insert_reserved.ensures.updates.changed c.insert_reserved.ensures.updates.others c.insert_within.ensures
-    (placed (goal.at.returns-clause-lookups c).After-insert_within) other (absent (goal.at.returns-clause-lookups c).After-insert_within)
+    c.insert_reserved.ensures.was_vacant c.insert_reserved.ensures.updates.changed c.insert_reserved.ensures.updates.others c.insert.ensures.items
+    (placed (goal.at.returns-clause-lookups c).After-insert) other (absent (goal.at.returns-clause-lookups c).After-insert)
     ∙ ap (λ ks. cond (term_eq c.args.term other) (Some c.insert_reserved.result) (prop_of other ks)) (items_is c.self.view_is)
 
 pub returns-clause-numbers : goal.returns-clause-numbers
 returns-clause-numbers c =
-    own_numbers (property_at c.insert_reserved.new.self) c.insert_within.new.order.items
-    (IsTable-insert (property_at c.self.inside.properties) (property_at c.insert_reserved.new.self) c.self.inside.order.items c.insert_within.new.order.items c.self.invariant
+    own_numbers (property_at c.insert_reserved.new.self) c.insert.new.self.items
+    (IsTable-insert (property_at c.self.inside.properties) (property_at c.insert_reserved.new.self) c.self.inside.order.items c.insert.new.self.items c.self.invariant
     (record { 0 = c.insert_reserved.result }) c.args.term c.place_of-place.result
-    c.insert_reserved.ensures.was_vacant c.insert_reserved.ensures.updates.changed c.insert_reserved.ensures.updates.others c.insert_within.ensures
-    (placed (goal.at.returns-clause-numbers c).After-insert_within))
+    c.insert_reserved.ensures.was_vacant c.insert_reserved.ensures.updates.changed c.insert_reserved.ensures.updates.others c.insert.ensures.items
+    (placed (goal.at.returns-clause-numbers c).After-insert))

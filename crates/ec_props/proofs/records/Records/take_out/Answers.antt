@@ -1,5 +1,5 @@
 -- A property and its number are taken out of their places.
-use Rattle.std.proofs.Common.{◌≡◌, Some, None, true, false, cond, slice_get, subst, sym, ap, ◌∙◌, refl, arith}
+use Rattle.std.proofs.Common.{◌≡◌, Some, None, true, false, cond, slice_get, subst, sym, ap, ◌∙◌, refl}
 use Rattle.std.specs.Prelude.{option_map}
 use Rattle.std.specs.List.Sorted.{IsPartitionPoint}
 use Rattle.std.specs.Ordering.{is_lt}
@@ -34,7 +34,7 @@ pub remove-requires : goal.remove-requires
 remove-requires c =
     let within = within-order (property_at c.self.inside.properties) c.self.inside.order.items c.self.invariant c.place_of-place.result (kept_as c.args.p.0 c.index.result.now)
     (there (goal.at.remove-requires c).After-place_of-place) in
-    omega (arith, within, c.self.inside.order.ok.0)
+    within
 
 pub invariant_of-self : goal.invariant_of-self
 invariant_of-self c =
