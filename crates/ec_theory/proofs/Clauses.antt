@@ -5,8 +5,8 @@ use Rattle.ec_terms.specs.declared.theory.Kind.{Kind}
 use Rattle.ec_tokens.specs.declared.token.Token.{Token}
 use Rattle.ec_tokens.specs.declared.place.Place.{Place}
 use Rattle.ec_tokens.specs.Lexeme.{Lexemes, lexeme_of}
-use Rattle.ec_theory.specs.declared.fault.ReadFault.{ReadFault}
-use Rattle.ec_theory.specs.declared.fault.ReadFault.TheVariants.{Syntax}
+use Rattle.ec_theory.specs.declared.fault.SyntaxFault.{SyntaxFault}
+use Rattle.ec_theory.specs.declared.fault.SyntaxFault.TheVariants.{Syntax}
 use Rattle.ec_theory.specs.declared.condition.Body.{Body}
 use Rattle.ec_theory.specs.declared.clause.Clause.TheVariants as clause
 use Rattle.ec_theory.specs.declared.sign.Symbol.TheVariants.{Dot, Slash}
@@ -16,8 +16,7 @@ use Rattle.ec_theory.specs.Body.{Collects}
 use Rattle.ec_theory.specs.Sign.{Sign, Word, Number, Given, signs_of, keyword_of, is_given, is_word, is_number, is_keyword, is_rule, is_exclusive, is_strong}
 use Rattle.ec_theory.specs.Grammar.{TakesPattern, TakesBody, TakesClause, rule, exclusive, strong}
 use Rattle.ec_theory.specs.Walk.{Event, Head, Left, Right, Beginning, PatternAt, AfterPattern, StrongNameAt, SlashAt, ArityAt, AfterArity, moves, moves_behind, first_move, first_stop, stop_of}
-use Rattle.ec_theory.specs.Reading.{IsStop}
-use Rattle.ec_theory.specs.Reader.{Steps, Refuses, HasKeyword, first_passes, place_at}
+use Rattle.ec_theory.specs.Reader.{Steps, Refuses, HasKeyword, first_passes, place_at, IsStop}
 use Rattle.ec_theory.proofs.Walking.{steps_signs, step_goes, refused, same_row, goes_on_fault}
 
 -- a word that begins a clause
@@ -34,7 +33,7 @@ unfolding moves first_move
 strong_goes l m has = step_goes Beginning StrongNameAt l (Word has.word) m has.steps (rw has.begins refl)
 
 -- a token that begins no clause
-pub no_clause : (tokens : List Token) (end : Place) (fault : ReadFault) → 0 < length tokens → ((test : Keyword → Bool) → first_passes (is_keyword test) (map lexeme_of tokens) ≡ false) → fault ≡ Syntax (place_at (map lexeme_of tokens) end) → IsStop fault (first_stop Beginning (map lexeme_of tokens) end)
+pub no_clause : (tokens : List Token) (end : Place) (fault : SyntaxFault) → 0 < length tokens → ((test : Keyword → Bool) → first_passes (is_keyword test) (map lexeme_of tokens) ≡ false) → fault ≡ Syntax (place_at (map lexeme_of tokens) end) → IsStop fault (first_stop Beginning (map lexeme_of tokens) end)
 unfolding moves first_move first_stop first_passes place_at
 no_clause [] end fault nonempty fails place = absurd (omega arith)
 no_clause (t ∷ tokens) end fault nonempty fails place = rw (place, fails is_rule, fails is_exclusive, fails is_strong) refl
@@ -53,7 +52,7 @@ pub right_ends : (l m : Lexemes) → Steps l (Given Dot) m → stop_of (AfterPat
 unfolding moves moves_behind first_move
 right_ends l m dot = step_goes (AfterPattern Right) Beginning l (Given Dot) m dot refl
 
-pub right_refused : (l : Lexemes) (fault : ReadFault) → Refuses (is_given Dot) l fault → IsStop fault (stop_of (AfterPattern Right) l)
+pub right_refused : (l : Lexemes) (fault : SyntaxFault) → Refuses (is_given Dot) l fault → IsStop fault (stop_of (AfterPattern Right) l)
 unfolding moves moves_behind first_move
 right_refused l fault refuses = refused (AfterPattern Right) (is_given Dot) l fault refl (λ s e. rw e refl) refuses
 
@@ -65,7 +64,7 @@ rule_takes body w begins takes_event takes_head collects = rw (collects.tests, c
 
 -- the parts of a strong declaration
 module _ (l : Lexemes) where
-  pub strong_refused : (fault : ReadFault) → Refuses is_word l fault → IsStop fault (stop_of StrongNameAt l)
+  pub strong_refused : (fault : SyntaxFault) → Refuses is_word l fault → IsStop fault (stop_of StrongNameAt l)
   unfolding moves first_move
   strong_refused fault refuses = refused StrongNameAt is_word l fault refl (λ s e. rw e refl) refuses
 
@@ -74,7 +73,7 @@ module _ (l : Lexemes) where
     unfolding moves first_move
     goes_slash = step_goes StrongNameAt SlashAt l (Word name) m word refl
 
-    pub slash_refused : (fault : ReadFault) → Refuses (is_given Slash) m fault → IsStop fault (stop_of StrongNameAt l)
+    pub slash_refused : (fault : SyntaxFault) → Refuses (is_given Slash) m fault → IsStop fault (stop_of StrongNameAt l)
     unfolding moves first_move
     slash_refused fault refuses = goes_on_fault StrongNameAt SlashAt l m fault goes_slash (refused SlashAt (is_given Slash) m fault refl (λ s e. rw e refl) refuses)
 
@@ -83,7 +82,7 @@ module _ (l : Lexemes) where
       unfolding moves first_move
       goes_arity = goes_slash ∙ step_goes SlashAt ArityAt m (Given Slash) k slash refl
 
-      pub arity_refused : (fault : ReadFault) → Refuses is_number k fault → IsStop fault (stop_of StrongNameAt l)
+      pub arity_refused : (fault : SyntaxFault) → Refuses is_number k fault → IsStop fault (stop_of StrongNameAt l)
       unfolding moves first_move
       arity_refused fault refuses = goes_on_fault StrongNameAt ArityAt l k fault goes_arity (refused ArityAt is_number k fault refl (λ s e. rw e refl) refuses)
 
@@ -92,7 +91,7 @@ module _ (l : Lexemes) where
         unfolding moves first_move
         goes_end = goes_arity ∙ step_goes ArityAt AfterArity k (Number arity) n number refl
 
-        pub strong_unended : (fault : ReadFault) → Refuses (is_given Dot) n fault → IsStop fault (stop_of StrongNameAt l)
+        pub strong_unended : (fault : SyntaxFault) → Refuses (is_given Dot) n fault → IsStop fault (stop_of StrongNameAt l)
         unfolding moves first_move
         strong_unended fault refuses = goes_on_fault StrongNameAt AfterArity l n fault goes_end (refused AfterArity (is_given Dot) n fault refl (λ s e. rw e refl) refuses)
 

@@ -2,7 +2,7 @@
 use Rattle.std.proofs.Common.{◌≡◌, ℕ, false, List, [], ◌∷◌, ◌++◌, Result, Ok, Err, sym, refl, ap, ◌∙◌, subst, append_assoc}
 use Rattle.std.specs.Prelude.{IfOk}
 use Rattle.ec_theory.specs.declared.cursor.Cursor.{Cursor}
-use Rattle.ec_theory.specs.declared.fault.ReadFault.{ReadFault}
+use Rattle.ec_theory.specs.declared.fault.SyntaxFault.{SyntaxFault}
 use Rattle.ec_tokens.specs.Lexeme.{Lexemes}
 use Rattle.ec_theory.specs.declared.sign.Symbol.TheVariants.{Comma, Dot, If}
 use Rattle.ec_theory.specs.declared.condition.Condition.{Condition}
@@ -12,8 +12,7 @@ use Rattle.ec_theory.specs.Body.{Collects}
 use Rattle.ec_theory.specs.Sign.{Sign, Given, signs_of, is_given}
 use Rattle.ec_theory.specs.Grammar.{TakesCondition, TakesConditions, final, further, TakesBody, empty, conditions, tests_of, literals_of}
 use Rattle.ec_theory.specs.Walk.{Condition as PartCondition, Head, Beginning, AfterPattern, ConditionAt, moves, moves_behind, first_move, stop_of}
-use Rattle.ec_theory.specs.Reading.{IsStop}
-use Rattle.ec_theory.specs.Reader.{Steps, left_of, Refuses, next_passes}
+use Rattle.ec_theory.specs.Reader.{Steps, left_of, Refuses, next_passes, IsStop}
 use Rattle.ec_theory.proofs.Walking.{steps_signs, step_goes, refused_both, goes_on_fault}
 
 tests_append : (before after : List Condition) → tests_of (before ++ after) ≡ tests_of before ++ tests_of after
@@ -42,7 +41,7 @@ no_conditions names start body tests literals = record { before = []; tests = te
 
 module _ {names : List (List ℕ)} {start : Lexemes} {body : Body} {here : Lexemes} (so_far : Conditions names start body here) where
   -- no condition comes
-  pub condition_stops : (fault : ReadFault) → IsStop fault (stop_of ConditionAt here) → IsStop fault (stop_of ConditionAt start)
+  pub condition_stops : (fault : SyntaxFault) → IsStop fault (stop_of ConditionAt here) → IsStop fault (stop_of ConditionAt start)
   condition_stops fault stop = goes_on_fault ConditionAt ConditionAt start here fault so_far.goes stop
 
   tests_more : (c : Condition) (body' : Body) → body'.tests ≡ body.tests ++ tests_of (c ∷ []) → body'.tests ≡ tests_of (so_far.before ++ c ∷ [])
@@ -80,14 +79,14 @@ module _ {names : List (List ℕ)} {start : Lexemes} {body : Body} {here : Lexem
     condition_ends rest dot = so_far.goes ∙ goes ∙ step_goes (AfterPattern PartCondition) Beginning behind (Given Dot) rest dot refl
 
     -- neither a comma nor the dot
-    pub condition_unended : (fault : ReadFault) → next_passes (is_given Comma) behind ≡ false → Refuses (is_given Dot) behind fault → IsStop fault (stop_of ConditionAt start)
+    pub condition_unended : (fault : SyntaxFault) → next_passes (is_given Comma) behind ≡ false → Refuses (is_given Dot) behind fault → IsStop fault (stop_of ConditionAt start)
     unfolding moves moves_behind first_move
     condition_unended fault no_comma refuses =
         goes_on_fault ConditionAt (AfterPattern PartCondition) start behind fault (so_far.goes ∙ goes)
         (refused_both (AfterPattern PartCondition) (is_given Comma) (is_given Dot) behind fault refl (λ s e1 e2. rw (e1, e2) refl) no_comma refuses)
 
 -- the conditions of a rule behind its `if`
-pub with_if : (names : List (List ℕ)) (l m : Lexemes) (r : Result (Body × Cursor) ReadFault) → Steps l (Given If) m → IfOk r (λ x. Collects (λ cs. TakesConditions names (signs_of m) cs (signs_of (left_of x.1))) x.0) → IfOk r (λ x. Collects (λ cs. TakesBody names (signs_of l) cs (signs_of (left_of x.1))) x.0)
+pub with_if : (names : List (List ℕ)) (l m : Lexemes) (r : Result (Body × Cursor) SyntaxFault) → Steps l (Given If) m → IfOk r (λ x. Collects (λ cs. TakesConditions names (signs_of m) cs (signs_of (left_of x.1))) x.0) → IfOk r (λ x. Collects (λ cs. TakesBody names (signs_of l) cs (signs_of (left_of x.1))) x.0)
 with_if names l m (Ok x) steps collects = record {
   conditions = collects.conditions;
   takes = rw (steps_signs l (Given If) m steps) (conditions collects.takes);
@@ -109,6 +108,6 @@ pub dot_goes : (l m : Lexemes) → Steps l (Given Dot) m → stop_of (AfterPatte
 unfolding moves moves_behind first_move
 dot_goes l m steps = step_goes (AfterPattern Head) Beginning l (Given Dot) m steps refl
 
-pub body_refused : (l : Lexemes) (fault : ReadFault) → next_passes (is_given If) l ≡ false → Refuses (is_given Dot) l fault → IsStop fault (stop_of (AfterPattern Head) l)
+pub body_refused : (l : Lexemes) (fault : SyntaxFault) → next_passes (is_given If) l ≡ false → Refuses (is_given Dot) l fault → IsStop fault (stop_of (AfterPattern Head) l)
 unfolding moves moves_behind first_move
 body_refused l fault no_if refuses = refused_both (AfterPattern Head) (is_given If) (is_given Dot) l fault refl (λ s e1 e2. rw (e1, e2) refl) no_if refuses

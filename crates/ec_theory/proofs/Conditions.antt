@@ -3,7 +3,7 @@ use Rattle.std.proofs.Common.{◌≡◌, ℕ, true, false, List, ◌∷◌, Some
 use Rattle.std.proofs.lemmas.Bool.{false≢true}
 use Rattle.ec_terms.specs.declared.pattern.PatArg.{PatArg}
 use Rattle.ec_terms.specs.declared.theory.TestOp.{TestOp}
-use Rattle.ec_theory.specs.declared.fault.ReadFault.{ReadFault}
+use Rattle.ec_theory.specs.declared.fault.SyntaxFault.{SyntaxFault}
 use Rattle.ec_tokens.specs.Lexeme.{Lexemes}
 use Rattle.ec_theory.specs.declared.sign.Symbol.TheVariants.{Not}
 use Rattle.std.specs.Prelude.{IfOk}
@@ -13,8 +13,7 @@ use Rattle.ec_theory.specs.declared.condition.Condition.TheVariants as condition
 use Rattle.ec_theory.specs.Sign.{Sign, Word, Variable, Number, Given, Compare, sign_of, signs_of, is_given, is_argument, is_word, is_compare}
 use Rattle.ec_theory.specs.Grammar.{TakesCondition, current, not_current, test}
 use Rattle.ec_theory.specs.Walk.{Spot, Condition as PartCondition, PatternAt, AfterName, AfterPattern, ConditionAt, AfterConditionName, CompareAt, RightSideAt, step, moves, moves_behind, first_move, stop_of}
-use Rattle.ec_theory.specs.Reading.{IsStop}
-use Rattle.ec_theory.specs.Reader.{Steps, Refuses, TakesArgument, TakesLiteral, left_of, BeginsLiteral, BeginsTest, no_word, compared, next_passes, first_passes}
+use Rattle.ec_theory.specs.Reader.{Steps, Refuses, TakesArgument, TakesLiteral, left_of, BeginsLiteral, BeginsTest, no_word, compared, next_passes, first_passes, IsStop}
 use Rattle.ec_theory.proofs.Steps.{steps_pass}
 use Rattle.ec_theory.proofs.Walking.{steps_signs, step_goes, refused, refused_both, same_stop, goes_on_fault, argument_passes}
 
@@ -35,18 +34,18 @@ same_sign l m first second = let e : second.token ∷ m.tokens ≡ first.token �
 
 module _ {l : Lexemes} (positive : next_passes (is_given Not) l ≡ false) where
   -- nothing that begins a condition comes
-  pub condition_refused : (fault : ReadFault) → Refuses is_argument l fault → IsStop fault (stop_of ConditionAt l)
+  pub condition_refused : (fault : SyntaxFault) → Refuses is_argument l fault → IsStop fault (stop_of ConditionAt l)
   unfolding moves first_move
   condition_refused fault refuses =
       refused_both ConditionAt (is_given Not) is_argument l fault refl (λ s e1 e2. rw (e1, no_word_either s e2, e2) refl) positive refuses
 
   module _ {names : List (List ℕ)} {left : PatArg} {m : Lexemes} (begins : BeginsTest l) (takes : TakesArgument names l left m) where
     -- the left side leads to a place where only a comparison leads on
-    left_place : (spot : Spot) × (stop_of ConditionAt l ≡ stop_of spot m) × ((op : TestOp) → step spot (Compare op) ≡ Some RightSideAt) × ((fault : ReadFault) → Refuses is_compare m fault → IsStop fault (stop_of spot m))
+    left_place : (spot : Spot) × (stop_of ConditionAt l ≡ stop_of spot m) × ((op : TestOp) → step spot (Compare op) ≡ Some RightSideAt) × ((fault : SyntaxFault) → Refuses is_compare m fault → IsStop fault (stop_of spot m))
     unfolding moves moves_behind first_move
     left_place = place_by begins
       where
-        place_by : BeginsTest l → (spot : Spot) × (stop_of ConditionAt l ≡ stop_of spot m) × ((op : TestOp) → step spot (Compare op) ≡ Some RightSideAt) × ((fault : ReadFault) → Refuses is_compare m fault → IsStop fault (stop_of spot m))
+        place_by : BeginsTest l → (spot : Spot) × (stop_of ConditionAt l ≡ stop_of spot m) × ((op : TestOp) → step spot (Compare op) ≡ Some RightSideAt) × ((fault : SyntaxFault) → Refuses is_compare m fault → IsStop fault (stop_of spot m))
         place_by (no_word fails) = (
           CompareAt,
           step_goes ConditionAt CompareAt l takes.sign m takes.steps
@@ -61,14 +60,14 @@ module _ {l : Lexemes} (positive : next_passes (is_given Not) l ≡ false) where
           λ fault refuses. absurd (false≢true (sym refuses.fails ∙ ap (first_passes is_compare) (same_rest l m steps takes.steps) ∙ passes)),
         )
 
-    pub test_refused : (fault : ReadFault) → Refuses is_compare m fault → IsStop fault (stop_of ConditionAt l)
+    pub test_refused : (fault : SyntaxFault) → Refuses is_compare m fault → IsStop fault (stop_of ConditionAt l)
     test_refused fault refuses = goes_on_fault ConditionAt left_place.0 l m fault left_place.1 (left_place.3 fault refuses)
 
     module _ {op : TestOp} {k : Lexemes} (compare : Steps m (Compare op) k) where
       goes_right : stop_of ConditionAt l ≡ stop_of RightSideAt k
       goes_right = left_place.1 ∙ step_goes left_place.0 RightSideAt m (Compare op) k compare (left_place.2 op)
 
-      pub right_refused : (fault : ReadFault) → Refuses is_argument k fault → IsStop fault (stop_of ConditionAt l)
+      pub right_refused : (fault : SyntaxFault) → Refuses is_argument k fault → IsStop fault (stop_of ConditionAt l)
       unfolding moves first_move
       right_refused fault refuses = goes_on_fault ConditionAt RightSideAt l k fault goes_right (refused RightSideAt is_argument k fault refl (λ s e. rw e refl) refuses)
 
@@ -96,10 +95,10 @@ unfolding moves first_move
 not_goes l m steps = step_goes ConditionAt (PatternAt PartCondition) l (Given Not) m steps refl
 
 -- a condition on a property
-pub literal_is : (names : List (List ℕ)) (l : Lexemes) (r : Result (Condition × Cursor) ReadFault) → IfOk r (λ x. TakesLiteral names true l x.0 (left_of x.1)) → IfOk r (λ x. TakesCondition names (signs_of l) x.0 (signs_of (left_of x.1)))
+pub literal_is : (names : List (List ℕ)) (l : Lexemes) (r : Result (Condition × Cursor) SyntaxFault) → IfOk r (λ x. TakesLiteral names true l x.0 (left_of x.1)) → IfOk r (λ x. TakesCondition names (signs_of l) x.0 (signs_of (left_of x.1)))
 literal_is names l (Ok x) taken = rw taken.literal (current taken.takes)
 literal_is names l (Err fault) taken = tt
 
-pub literal_not : (names : List (List ℕ)) (l m : Lexemes) (r : Result (Condition × Cursor) ReadFault) → Steps l (Given Not) m → IfOk r (λ x. TakesLiteral names false m x.0 (left_of x.1)) → IfOk r (λ x. TakesCondition names (signs_of l) x.0 (signs_of (left_of x.1)))
+pub literal_not : (names : List (List ℕ)) (l m : Lexemes) (r : Result (Condition × Cursor) SyntaxFault) → Steps l (Given Not) m → IfOk r (λ x. TakesLiteral names false m x.0 (left_of x.1)) → IfOk r (λ x. TakesCondition names (signs_of l) x.0 (signs_of (left_of x.1)))
 literal_not names l m (Ok x) steps taken = rw (taken.literal, steps_signs l (Given Not) m steps) (not_current taken.takes)
 literal_not names l m (Err fault) steps taken = tt

@@ -10,4 +10,5 @@ pub mod Theories
 pub mod Finishing
 pub mod Unique
 pub mod WayBack
-pub mod Readings
+pub mod GrammarFromWalk
+pub mod WalkLaws

@@ -3,14 +3,13 @@ use Rattle.std.proofs.Common.{◌≡◌, ℕ, false, List, [], ◌∷◌, ◌++�
 use Rattle.ec_terms.specs.declared.pattern.PatArg.{PatArg}
 use Rattle.std.specs.Prelude.{IfOk}
 use Rattle.ec_theory.specs.declared.cursor.Cursor.{Cursor}
-use Rattle.ec_theory.specs.declared.fault.ReadFault.{ReadFault}
+use Rattle.ec_theory.specs.declared.fault.SyntaxFault.{SyntaxFault}
 use Rattle.ec_tokens.specs.Lexeme.{Lexemes}
 use Rattle.ec_theory.specs.declared.sign.Symbol.TheVariants.{Open, Comma, Close}
 use Rattle.ec_theory.specs.Sign.{Sign, Word, Given, signs_of, is_given, is_argument}
 use Rattle.ec_theory.specs.Grammar.{TakesArguments, last, more, TakesPattern, alone, applied}
 use Rattle.ec_theory.specs.Walk.{Part, ArgumentAt, AfterArgument, AfterPattern, moves, first_move, stop_of}
-use Rattle.ec_theory.specs.Reading.{IsStop}
-use Rattle.ec_theory.specs.Reader.{Steps, left_of, Refuses, TakesArgument, next_passes}
+use Rattle.ec_theory.specs.Reader.{Steps, left_of, Refuses, TakesArgument, next_passes, IsStop}
 use Rattle.ec_theory.proofs.Walking.{steps_signs, step_goes, refused, refused_both, goes_on_fault, argument_passes, argument_step, no_argument_step}
 
 -- the arguments so far: whatever arguments come next, all together stand at the first place; and the walk came here
@@ -23,7 +22,7 @@ no_arguments names start = record { takes = λ further rest t. t; goes = λ part
 
 module _ {names : List (List ℕ)} {start : Lexemes} {args : List PatArg} {here : Lexemes} (so_far : Arguments names start args here) where
   -- no argument comes
-  pub argument_refused : (part : Part) (fault : ReadFault) → Refuses is_argument here fault → IsStop fault (stop_of (ArgumentAt part) start)
+  pub argument_refused : (part : Part) (fault : SyntaxFault) → Refuses is_argument here fault → IsStop fault (stop_of (ArgumentAt part) start)
   argument_refused part fault refuses =
       goes_on_fault (ArgumentAt part) (ArgumentAt part) start here fault (so_far.goes part) (refused (ArgumentAt part) is_argument here fault refl (no_argument_step part) refuses)
 
@@ -53,14 +52,14 @@ module _ {names : List (List ℕ)} {start : Lexemes} {args : List PatArg} {here 
     argument_closes part rest close = goes_behind part ∙ step_goes (AfterArgument part) (AfterPattern part) behind (Given Close) rest close refl
 
     -- neither a comma nor the closing parenthesis
-    pub argument_unclosed : (part : Part) (fault : ReadFault) → next_passes (is_given Comma) behind ≡ false → Refuses (is_given Close) behind fault → IsStop fault (stop_of (ArgumentAt part) start)
+    pub argument_unclosed : (part : Part) (fault : SyntaxFault) → next_passes (is_given Comma) behind ≡ false → Refuses (is_given Close) behind fault → IsStop fault (stop_of (ArgumentAt part) start)
     unfolding moves first_move
     argument_unclosed part fault no_comma refuses =
         goes_on_fault (ArgumentAt part) (AfterArgument part) start behind fault (goes_behind part)
         (refused_both (AfterArgument part) (is_given Comma) (is_given Close) behind fault refl (λ s e1 e2. rw (e1, e2) refl) no_comma refuses)
 
 -- arguments behind a name
-pub applied_takes : (names : List (List ℕ)) (l m : Lexemes) (r : Result (List PatArg × Cursor) ReadFault) → Steps l (Given Open) m → IfOk r (λ x. TakesArguments names (signs_of m) x.0 (signs_of (left_of x.1))) → IfOk r (λ x. (w : List ℕ) → TakesPattern names (Word w ∷ signs_of l) (record { name = w; args = x.0 }) (signs_of (left_of x.1)))
+pub applied_takes : (names : List (List ℕ)) (l m : Lexemes) (r : Result (List PatArg × Cursor) SyntaxFault) → Steps l (Given Open) m → IfOk r (λ x. TakesArguments names (signs_of m) x.0 (signs_of (left_of x.1))) → IfOk r (λ x. (w : List ℕ) → TakesPattern names (Word w ∷ signs_of l) (record { name = w; args = x.0 }) (signs_of (left_of x.1)))
 applied_takes names l m (Ok x) steps takes = λ w. rw (steps_signs l (Given Open) m steps) (applied takes)
 applied_takes names l m (Err fault) steps takes = tt
 

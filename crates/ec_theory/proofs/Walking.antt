@@ -6,13 +6,12 @@ use Rattle.ec_tokens.specs.Lexeme.{Lexeme, Lexemes}
 use Rattle.ec_terms.specs.declared.pattern.PatArg.{PatArg}
 use Rattle.ec_terms.specs.declared.pattern.PatArg.TheVariants.{Any}
 use Rattle.ec_theory.specs.declared.cursor.Cursor.{Cursor}
-use Rattle.ec_theory.specs.declared.fault.ReadFault.{ReadFault}
-use Rattle.ec_theory.specs.declared.fault.ReadFault.TheVariants.{Syntax, Memory}
+use Rattle.ec_theory.specs.declared.fault.SyntaxFault.{SyntaxFault}
+use Rattle.ec_theory.specs.declared.fault.SyntaxFault.TheVariants.{Syntax, Memory}
 use Rattle.ec_theory.specs.declared.sign.Symbol.TheVariants.{Anything}
 use Rattle.ec_theory.specs.Sign.{Sign, Word, Variable, Number, Given, Compare, sign_of, signs_of, argument_of, is_argument, is_given}
 use Rattle.ec_theory.specs.Walk.{Part, Spot, ArgumentAt, AfterArgument, step, moves, first_move, first_stop, stop_of, is_beginning}
-use Rattle.ec_theory.specs.Reading.{IsStop}
-use Rattle.ec_theory.specs.Reader.{Steps, first_passes, next_passes, place_at, Refuses, Goes}
+use Rattle.ec_theory.specs.Reader.{Steps, first_passes, next_passes, place_at, Refuses, Goes, IsStop}
 
 -- a token that was taken is the first sign
 pub steps_signs : (l : Lexemes) (s : Sign) (m : Lexemes) → Steps l s m → signs_of l ≡ s ∷ signs_of m
@@ -32,7 +31,7 @@ unfolding first_stop first_passes place_at
 refused_at spot test [] end within stops fails = rw within refl
 refused_at spot test (t ∷ tokens) end within stops fails = ap (λ o. option_map_or (λ n. first_stop n tokens end) o (Some t.place)) (stops (sign_of t) fails)
 
-pub refused : (spot : Spot) (test : Sign → Bool) (l : Lexemes) (fault : ReadFault) → is_beginning spot ≡ false → ((s : Sign) → test s ≡ false → step spot s ≡ None) → Refuses test l fault → IsStop fault (stop_of spot l)
+pub refused : (spot : Spot) (test : Sign → Bool) (l : Lexemes) (fault : SyntaxFault) → is_beginning spot ≡ false → ((s : Sign) → test s ≡ false → step spot s ≡ None) → Refuses test l fault → IsStop fault (stop_of spot l)
 refused spot test l fault within stops refuses = rw refuses.place (refused_at spot test l.tokens l.end within stops refuses.fails)
 
 -- the same, where another test failed before
@@ -41,7 +40,7 @@ unfolding first_stop first_passes place_at
 refused_both_at spot first test [] end within stops fails fails2 = rw within refl
 refused_both_at spot first test (t ∷ tokens) end within stops fails fails2 = ap (λ o. option_map_or (λ n. first_stop n tokens end) o (Some t.place)) (stops (sign_of t) fails fails2)
 
-pub refused_both : (spot : Spot) (first test : Sign → Bool) (l : Lexemes) (fault : ReadFault) → is_beginning spot ≡ false → ((s : Sign) → first s ≡ false → test s ≡ false → step spot s ≡ None) → next_passes first l ≡ false → Refuses test l fault → IsStop fault (stop_of spot l)
+pub refused_both : (spot : Spot) (first test : Sign → Bool) (l : Lexemes) (fault : SyntaxFault) → is_beginning spot ≡ false → ((s : Sign) → first s ≡ false → test s ≡ false → step spot s ≡ None) → next_passes first l ≡ false → Refuses test l fault → IsStop fault (stop_of spot l)
 refused_both spot first test l fault within stops fails refuses = rw refuses.place (refused_both_at spot first test l.tokens l.end within stops fails refuses.fails)
 
 -- two places from which every token that fails the test leads to the same
@@ -62,12 +61,12 @@ pub same_row : (from to : Spot) (l : Lexemes) → is_beginning from ≡ is_begin
 same_row from to l within same = same_stop from to (λ s. false) l within (λ s _. same s) (none_passes l.tokens)
 
 -- what failed further on stops the walk from here too
-pub goes_on_fault : (from middle : Spot) (l m : Lexemes) (fault : ReadFault) → stop_of from l ≡ stop_of middle m → IsStop fault (stop_of middle m) → IsStop fault (stop_of from l)
+pub goes_on_fault : (from middle : Spot) (l m : Lexemes) (fault : SyntaxFault) → stop_of from l ≡ stop_of middle m → IsStop fault (stop_of middle m) → IsStop fault (stop_of from l)
 goes_on_fault from middle l m (Syntax place) goes stop = goes ∙ stop
 goes_on_fault from middle l m Memory goes stop = tt
 
 -- want of memory stops nothing
-pub memory_stop : (fault : ReadFault) (stop : Option Place) → fault ≡ Memory → IsStop fault stop
+pub memory_stop : (fault : SyntaxFault) (stop : Option Place) → fault ≡ Memory → IsStop fault stop
 memory_stop fault stop e = rw e tt
 
 -- what is an argument passes the test, and what is none fails it
@@ -105,10 +104,10 @@ unfolding moves first_move
 no_argument_step part s e = rw e refl
 
 -- a part that begins further on
-pub goes_from : {X : Type 0} (from middle to : Spot) (l m : Lexemes) (r : Result (X × Cursor) ReadFault) → stop_of from l ≡ stop_of middle m → Goes middle to m r → Goes from to l r
+pub goes_from : {X : Type 0} (from middle to : Spot) (l m : Lexemes) (r : Result (X × Cursor) SyntaxFault) → stop_of from l ≡ stop_of middle m → Goes middle to m r → Goes from to l r
 goes_from from middle to l m (Ok x) goes rest = goes ∙ rest
 goes_from from middle to l m (Err fault) goes rest = goes_on_fault from middle l m fault goes rest
 
 -- the exit by `?`
-pub exit_goes : {X : Type 0} (from to : Spot) (l : Lexemes) (r : Result (X × Cursor) ReadFault) (fault y : ReadFault) → r ≡ Err y → y ≡ fault → IsStop fault (stop_of from l) → Goes from to l r
+pub exit_goes : {X : Type 0} (from to : Spot) (l : Lexemes) (r : Result (X × Cursor) SyntaxFault) (fault y : SyntaxFault) → r ≡ Err y → y ≡ fault → IsStop fault (stop_of from l) → Goes from to l r
 exit_goes from to l r fault y is same stop = rw (is, same) stop

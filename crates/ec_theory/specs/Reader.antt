@@ -1,5 +1,5 @@
 -- What the parts of the reader give: where a part that reads from one place in a clause to another leaves the walk.
-use Rattle.std.specs.Prelude.{◌≡◌, ℕ, Bool, true, false, Some, List, [], map, ◌∷◌, ◌++◌, Result, Ok, Err, IsTrue}
+use Rattle.std.specs.Prelude.{◌≡◌, ℕ, Bool, true, false, Option, Some, List, [], map, ◌∷◌, ◌++◌, Result, Ok, Err, IsTrue}
 use Rattle.ec_tokens.specs.declared.place.Place.{Place}
 use Rattle.ec_tokens.specs.Lexeme.{Lexeme, Lexemes, lexeme_of}
 use Rattle.ec_terms.specs.declared.pattern.PatArg.{PatArg}
@@ -12,14 +12,13 @@ use Rattle.ec_theory.specs.declared.clause.Clause.{Clause}
 use Rattle.ec_theory.specs.declared.clause.Clause.TheVariants as clause
 use Rattle.ec_theory.specs.declared.sign.Keyword.{Keyword}
 use Rattle.ec_theory.specs.declared.cursor.Cursor.{Cursor}
-use Rattle.ec_theory.specs.declared.fault.ReadFault.{ReadFault}
+use Rattle.ec_theory.specs.declared.fault.SyntaxFault.{SyntaxFault}
 use Rattle.ec_theory.specs.Sign.{Sign, Word, Variable, Number, Given, Compare, sign_of, signs_of, keyword_of, argument_of, is_word, is_compare}
 use Rattle.ec_theory.specs.declared.sign.Sign.{Sign as SignAt}
 use Rattle.ec_theory.specs.declared.sign.Sign.TheVariants as at
-use Rattle.ec_theory.specs.declared.fault.ReadFault.TheVariants.{Syntax}
+use Rattle.ec_theory.specs.declared.fault.SyntaxFault.TheVariants.{Syntax, Memory}
 use Rattle.ec_terms.specs.Spelling.{is_name}
 use Rattle.ec_theory.specs.Walk.{Spot, stop_of}
-use Rattle.ec_theory.specs.Reading.{IsStop}
 
 -- the sign that a borrowed sign shows
 unfoldable pub shown : SignAt → Sign
@@ -60,7 +59,7 @@ abbrev pub next_passes : (Sign → Bool) → Lexemes → Bool
 next_passes test l = first_passes test l.tokens
 
 -- the next token fails the test, or there is none, and the fault is at this place
-pub record Refuses (test : Sign → Bool) (l : Lexemes) (fault : ReadFault) : Type 0 where
+pub record Refuses (test : Sign → Bool) (l : Lexemes) (fault : SyntaxFault) : Type 0 where
   pub fails : next_passes test l ≡ false
   pub place : fault ≡ Syntax (next_place l)
 
@@ -71,8 +70,13 @@ pub record Steps (before : Lexemes) (s : Sign) (after : Lexemes) : Type 0 where
   pub sign : sign_of token ≡ s
   pub end : after.end ≡ before.end
 
+-- a fault of syntax is where the walk stops; want of memory says nothing
+abbrev pub IsStop : SyntaxFault → Option Place → Type 0
+IsStop Memory stop = Unit {0}
+IsStop (Syntax place) stop = stop ≡ Some place
+
 -- a part that reads from one place in a clause to another: the walk goes on there, or stops at the fault
-abbrev pub Goes : {X : Type 0} → Spot → Spot → Lexemes → Result (X × Cursor) ReadFault → Type 0
+abbrev pub Goes : {X : Type 0} → Spot → Spot → Lexemes → Result (X × Cursor) SyntaxFault → Type 0
 Goes from to before (Ok x) = stop_of from before ≡ stop_of to (left_of x.1)
 Goes from to before (Err fault) = IsStop fault (stop_of from before)
 

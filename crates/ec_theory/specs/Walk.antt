@@ -1,8 +1,9 @@
 -- The walk over the tokens of a theory: the places within a clause, and where a token at each place leads.
-use Rattle.std.specs.Prelude.{Bool, true, false, if◌then◌else◌, List, [], ◌∷◌, Option, Some, None, option_and_then}
+use Rattle.std.specs.Prelude.{◌≡◌, Bool, true, false, if◌then◌else◌, List, [], ◌∷◌, map, Option, Some, None, option_and_then, IsTrue}
+use Rattle.std.specs.List.{list_all}
 use Rattle.std.specs.Option.{option_map_or}
 use Rattle.ec_tokens.specs.declared.place.Place.{Place}
-use Rattle.ec_tokens.specs.Lexeme.{Lexeme, Lexemes}
+use Rattle.ec_tokens.specs.Lexeme.{Lexeme, Lexemes, is_spelt}
 use Rattle.ec_theory.specs.declared.sign.Symbol.TheVariants.{If, Not, Open, Close, Comma, Dot, Slash}
 use Rattle.ec_theory.specs.Sign.{Sign, sign_of, is_given, is_word, is_number, is_compare, is_argument, is_keyword, is_rule, is_exclusive, is_strong}
 
@@ -67,6 +68,12 @@ step spot s = first_move (moves spot) s
 unfoldable pub walk : Spot → List Sign → Option Spot
 walk spot [] = Some spot
 walk spot (s ∷ signs) = option_and_then (λ next. walk next signs) (step spot s)
+
+-- tokens lead from a place back to a clause's beginning
+pub record LeadsBack (spot : Spot) : Type 0 where
+  pub tokens : List Lexeme
+  pub spelt : IsTrue (list_all is_spelt tokens)
+  pub back : walk spot (map sign_of tokens) ≡ Some Beginning
 
 -- a clause may begin here
 abbrev pub is_beginning : Spot → Bool

@@ -8,7 +8,7 @@ ghost use Rattle.ec_theory.specs.Reader.{left_of, Goes, clause_added};
 
 use crate::condition::read_body;
 use crate::cursor::Cursor;
-use crate::fault::ReadFault;
+use crate::fault::SyntaxFault;
 use crate::pattern::read_pattern;
 use crate::sign::{Keyword, Symbol, name_of};
 use crate::variables::Variables;
@@ -30,7 +30,7 @@ fn read_rule<'t, 'a>(
     number: u32,
     kind: Kind,
     cursor: Cursor<'t, 'a>,
-) -> Result<(Clause, Cursor<'t, 'a>), ReadFault>
+) -> Result<(Clause, Cursor<'t, 'a>), SyntaxFault>
     ensures takes { IfOk result (λ x. (w : List ℕ) → keyword_of w ≡ Some (RuleWord kind) → TakesClause names.now number (Word w ∷ signs_of (left_of cursor.entry)) x.0 (signs_of (left_of x.1))) }
     ensures goes { Goes (PatternAt Event) Beginning (left_of cursor.entry) result }
 {
@@ -54,7 +54,7 @@ fn read_exclusive<'t, 'a>(
     names: &Variables<'a>,
     number: u32,
     cursor: Cursor<'t, 'a>,
-) -> Result<(Clause, Cursor<'t, 'a>), ReadFault>
+) -> Result<(Clause, Cursor<'t, 'a>), SyntaxFault>
     ensures takes { IfOk result (λ x. (w : List ℕ) → keyword_of w ≡ Some ExclusiveWord → TakesClause names.now number (Word w ∷ signs_of (left_of cursor.entry)) x.0 (signs_of (left_of x.1))) }
     ensures goes { Goes (PatternAt Left) Beginning (left_of cursor.entry) result }
 {
@@ -73,7 +73,7 @@ fn read_exclusive<'t, 'a>(
 fn read_strong<'t, 'a>(
     number: u32,
     cursor: Cursor<'t, 'a>,
-) -> Result<(Clause, Cursor<'t, 'a>), ReadFault>
+) -> Result<(Clause, Cursor<'t, 'a>), SyntaxFault>
     ensures takes { IfOk result (λ x. (names : List (List ℕ)) (w : List ℕ) → keyword_of w ≡ Some StrongWord → TakesClause names number (Word w ∷ signs_of (left_of cursor.entry)) x.0 (signs_of (left_of x.1))) }
     ensures goes { Goes StrongNameAt Beginning (left_of cursor.entry) result }
 {
@@ -98,7 +98,7 @@ pub fn read_clause<'t, 'a>(
     alloc: Global,
     number: u32,
     cursor: Cursor<'t, 'a>,
-) -> Result<(Clause, Cursor<'t, 'a>), ReadFault>
+) -> Result<(Clause, Cursor<'t, 'a>), SyntaxFault>
     requires { 0 < length cursor.rest.now }
     ensures takes { IfOk result (λ x. TakesClause (variables_of (signs_of (left_of cursor.entry))) number (signs_of (left_of cursor.entry)) x.0 (signs_of (left_of x.1))) }
     ensures goes { Goes Beginning Beginning (left_of cursor.entry) result }

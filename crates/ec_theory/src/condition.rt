@@ -9,7 +9,7 @@ ghost use Rattle.ec_theory.specs.Reader.{left_of, next_passes, Goes, BeginsLiter
 ghost use Rattle.ec_theory.specs.Body.{Collects};
 
 use crate::cursor::Cursor;
-use crate::fault::ReadFault;
+use crate::fault::SyntaxFault;
 use crate::pattern::{read_argument, read_pattern};
 use crate::sign::Symbol;
 use crate::variables::Variables;
@@ -74,7 +74,7 @@ fn read_literal<'t, 'a>(
     names: &Variables<'a>,
     positive: bool,
     cursor: Cursor<'t, 'a>,
-) -> Result<(Condition, Cursor<'t, 'a>), ReadFault>
+) -> Result<(Condition, Cursor<'t, 'a>), SyntaxFault>
     ensures takes { IfOk result (λ x. TakesLiteral names.now positive (left_of cursor.entry) x.0 (left_of x.1)) }
     ensures goes { Goes (PatternAt PartCondition) (AfterPattern PartCondition) (left_of cursor.entry) result }
 {
@@ -86,7 +86,7 @@ fn read_literal<'t, 'a>(
 fn read_test<'t, 'a>(
     names: &Variables<'a>,
     cursor: Cursor<'t, 'a>,
-) -> Result<(Condition, Cursor<'t, 'a>), ReadFault>
+) -> Result<(Condition, Cursor<'t, 'a>), SyntaxFault>
     requires positive { next_passes (is_given Not) (left_of cursor) ≡ false }
     requires test { BeginsTest (left_of cursor) }
     ensures takes { IfOk result (λ x. TakesCondition names.now (signs_of (left_of cursor.entry)) x.0 (signs_of (left_of x.1))) }
@@ -105,7 +105,7 @@ pub fn read_condition<'t, 'a>(
     alloc: Global,
     names: &Variables<'a>,
     cursor: Cursor<'t, 'a>,
-) -> Result<(Condition, Cursor<'t, 'a>), ReadFault>
+) -> Result<(Condition, Cursor<'t, 'a>), SyntaxFault>
     ensures takes { IfOk result (λ x. TakesCondition names.now (signs_of (left_of cursor.entry)) x.0 (signs_of (left_of x.1))) }
     ensures goes { Goes ConditionAt (AfterPattern PartCondition) (left_of cursor.entry) result }
 {
@@ -124,7 +124,7 @@ pub fn read_conditions<'t, 'a>(
     alloc: Global,
     names: &Variables<'a>,
     cursor: Cursor<'t, 'a>,
-) -> Result<(Body, Cursor<'t, 'a>), ReadFault>
+) -> Result<(Body, Cursor<'t, 'a>), SyntaxFault>
     ensures takes { IfOk result (λ x. Collects (λ cs. TakesConditions names.now (signs_of (left_of cursor.entry)) cs (signs_of (left_of x.1))) x.0) }
     ensures goes { Goes ConditionAt Beginning (left_of cursor.entry) result }
 {
@@ -148,7 +148,7 @@ pub fn read_body<'t, 'a>(
     alloc: Global,
     names: &Variables<'a>,
     cursor: Cursor<'t, 'a>,
-) -> Result<(Body, Cursor<'t, 'a>), ReadFault>
+) -> Result<(Body, Cursor<'t, 'a>), SyntaxFault>
     ensures takes { IfOk result (λ x. Collects (λ cs. TakesBody names.now (signs_of (left_of cursor.entry)) cs (signs_of (left_of x.1))) x.0) }
     ensures goes { Goes (AfterPattern Head) Beginning (left_of cursor.entry) result }
 {

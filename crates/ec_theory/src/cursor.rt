@@ -3,7 +3,7 @@ ghost use Rattle.std.specs.Prelude.{map, ◌≤◌, length, IsTrue};
 ghost use Rattle.std.specs.List.{list_all};
 ghost use Rattle.ec_tokens.specs.Lexeme.{lexeme_of, is_spelt};
 
-use crate::fault::ReadFault;
+use crate::fault::SyntaxFault;
 use crate::sign::{Keyword, Sign, Symbol, keyword_of, sign_of};
 use ec_terms::TestOp;
 use ec_tokens::{Place, Token, TokenList};
@@ -23,7 +23,7 @@ impl<'t, 'a> Cursor<'t, 'a> {
     ghost use Rattle.ec_theory.specs.Sign.{Word, Number, Given, Compare, is_word, is_number, is_compare, is_given, is_keyword};
     ghost use Rattle.ec_theory.specs.Reader.{shown, left_of, next_place, next_passes, Refuses, Steps, HasKeyword, IsNamed};
     ghost use Rattle.ec_theory.specs.declared.sign.Keyword.{Keyword};
-    ghost use Rattle.ec_theory.specs.declared.fault.ReadFault.TheVariants.{Syntax};
+    ghost use Rattle.ec_theory.specs.declared.fault.SyntaxFault.TheVariants.{Syntax};
 
     /// All tokens of a list.
     pub fn new(tokens: &'t TokenList<'a>) -> Cursor<'t, 'a>
@@ -60,14 +60,14 @@ impl<'t, 'a> Cursor<'t, 'a> {
 
     /// The fault that the next token, or the end, does not go on with the clause.
     #[tactic(auto, unfolding(crate::specs::Reader::place_at))]
-    pub fn fault(self) -> ReadFault
+    pub fn fault(self) -> SyntaxFault
         ensures { result ≡ Syntax (next_place (left_of self.entry)) }
     {
         let tokens = self.rest;
         if tokens.is_empty() {
-            ReadFault::Syntax(self.end)
+            SyntaxFault::Syntax(self.end)
         } else {
-            ReadFault::Syntax(tokens[0].place)
+            SyntaxFault::Syntax(tokens[0].place)
         }
     }
 
@@ -117,7 +117,7 @@ impl<'t, 'a> Cursor<'t, 'a> {
     }
 
     /// What is left behind a symbol, which has to come next.
-    pub fn expect(self, symbol: Symbol) -> Result<Cursor<'t, 'a>, ReadFault>
+    pub fn expect(self, symbol: Symbol) -> Result<Cursor<'t, 'a>, SyntaxFault>
         ensures ok { IfOk result (λ behind. Steps (left_of self.entry) (Given symbol) (left_of behind)) }
         ensures err { IfErr result (λ fault. Refuses (is_given symbol) (left_of self.entry) fault) }
     {

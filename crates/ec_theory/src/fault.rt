@@ -7,42 +7,42 @@ use std::fmt;
 
 /// Why a list of tokens is not read.
 #[derive(Clone, Copy, Debug, PartialEq, Eq)]
-pub enum ReadFault {
+pub enum SyntaxFault {
     /// The tokens up to this one begin no theory; or all of them begin one, and the place is their end.
     Syntax(Place),
     /// The memory for the theory was not there.
     Memory,
 }
 
-impl fmt::Display for ReadFault {
+impl fmt::Display for SyntaxFault {
     fn fmt<W: fmt::Write>(&self, f: &mut fmt::Formatter<W>) -> fmt::Result {
         match self {
-            ReadFault::Syntax(_) => write!(f, "tokens that are no clause"),
-            ReadFault::Memory => write!(f, "out of memory"),
+            SyntaxFault::Syntax(_) => write!(f, "tokens that are no clause"),
+            SyntaxFault::Memory => write!(f, "out of memory"),
         }
     }
 }
 
-impl Error for ReadFault {}
+impl Error for SyntaxFault {}
 
-impl From<NoMemory> for ReadFault {
+impl From<NoMemory> for SyntaxFault {
     ghost use Rattle.std.specs.Prelude.{◌≡◌};
-    ghost use Rattle.ec_theory.specs.declared.fault.ReadFault.TheVariants.{Memory};
+    ghost use Rattle.ec_theory.specs.declared.fault.SyntaxFault.TheVariants.{Memory};
 
     ghost from_gives = { λ _ fault. fault ≡ Memory };
 
-    fn from(_e: NoMemory) -> ReadFault {
-        ReadFault::Memory
+    fn from(_e: NoMemory) -> SyntaxFault {
+        SyntaxFault::Memory
     }
 }
 
-impl<T: Drop> From<AllocFailed<T>> for ReadFault {
+impl<T: Drop> From<AllocFailed<T>> for SyntaxFault {
     ghost use Rattle.std.specs.Prelude.{◌≡◌};
-    ghost use Rattle.ec_theory.specs.declared.fault.ReadFault.TheVariants.{Memory};
+    ghost use Rattle.ec_theory.specs.declared.fault.SyntaxFault.TheVariants.{Memory};
 
     ghost from_gives = { λ _ fault. fault ≡ Memory };
 
-    fn from(_e: AllocFailed<T>) -> ReadFault {
-        ReadFault::Memory
+    fn from(_e: AllocFailed<T>) -> SyntaxFault {
+        SyntaxFault::Memory
     }
 }

@@ -1,10 +1,11 @@
 //! Laws of the grammar and of the walk, each the contract of a function.
-ghost use Rattle.std.specs.Prelude.{◌≡◌, List, Some, None};
+ghost use Rattle.std.specs.Prelude.{◌≡◌, ◌↔◌, List, Some, None, map};
 ghost use Rattle.ec_terms.specs.declared.theory.Theory.{Theory};
-ghost use Rattle.ec_tokens.specs.Lexeme.{Lexemes};
-ghost use Rattle.ec_theory.specs.Sign.{Sign};
-ghost use Rattle.ec_theory.specs.Walk.{Spot, Beginning, walk, stop_of};
-ghost use Rattle.ec_theory.specs.Reading.{Reads};
+ghost use Rattle.ec_tokens.specs.declared.place.Place.{Place};
+ghost use Rattle.ec_tokens.specs.Lexeme.{Lexeme, Lexemes};
+ghost use Rattle.ec_theory.specs.Sign.{sign_of};
+ghost use Rattle.ec_theory.specs.Walk.{Spot, Beginning, LeadsBack, walk, stop_of};
+ghost use Rattle.ec_theory.specs.Reading.{Reads, IsReadable, GoesWrongAt};
 
 /// A list of tokens has at most one reading.
 #[tactic(auto, using(crate::proofs::Unique::reading_same))]
@@ -12,14 +13,21 @@ pub fn one_reading_law()
     ensures { (tokens : Lexemes) (a b : Theory) → Reads tokens a → Reads tokens b → a ≡ b }
 {}
 
-/// Where tokens have a reading, the walk over them stops nowhere.
-#[tactic(auto, using(crate::proofs::Readings::reading_stops_nowhere))]
+/// The walk over a list of tokens ends at a clause's beginning, and so stops nowhere, exactly when the
+/// list has a reading.
 pub fn reading_law()
-    ensures { (tokens : Lexemes) (theory : Theory) → Reads tokens theory → stop_of Beginning tokens ≡ None }
+    ensures ends { (tokens : List Lexeme) → (walk Beginning (map sign_of tokens) ≡ Some Beginning) ↔ IsReadable tokens }
+    ensures stops_nowhere { (tokens : Lexemes) → (stop_of Beginning tokens ≡ None) ↔ IsReadable tokens.tokens }
+{}
+
+/// The walk stops exactly where the tokens go wrong: at the first token with which the tokens so far
+/// begin no readable list, or at the end, when all of them begin one and are none.
+pub fn stop_law()
+    ensures { (tokens : Lexemes) (place : Place) → (stop_of Beginning tokens ≡ Some place) ↔ GoesWrongAt tokens place }
 {}
 
 /// From every place within a clause some tokens lead back to a clause's beginning.
 #[tactic(auto, using(crate::proofs::WayBack::way_back))]
 pub fn way_back_law()
-    ensures { (spot : Spot) → (signs : List Sign) × (walk spot signs ≡ Some Beginning) }
+    ensures { (spot : Spot) → LeadsBack spot }
 {}

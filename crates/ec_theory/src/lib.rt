@@ -14,7 +14,7 @@ mod tests;
 mod text;
 mod variables;
 
-pub use fault::ReadFault;
-pub use laws::{one_reading_law, reading_law, way_back_law};
+pub use fault::SyntaxFault;
+pub use laws::{one_reading_law, reading_law, stop_law, way_back_law};
 pub use reader::read_theory;
 pub use text::{Refused, accept};

@@ -7,7 +7,7 @@ ghost use Rattle.ec_theory.specs.Walk.{Part, PatternAt, AfterName, ArgumentAt, A
 ghost use Rattle.ec_theory.specs.Reader.{left_of, Refuses, Goes, TakesArgument};
 
 use crate::cursor::Cursor;
-use crate::fault::ReadFault;
+use crate::fault::SyntaxFault;
 use crate::sign::{Symbol, name_of};
 use crate::variables::Variables;
 use ec_terms::{PatArg, PatArgs, Pattern, Sequence};
@@ -18,7 +18,7 @@ use std::alloc::Global;
 pub fn read_argument<'t, 'a>(
     names: &Variables<'a>,
     cursor: Cursor<'t, 'a>,
-) -> Result<(PatArg, Cursor<'t, 'a>), ReadFault>
+) -> Result<(PatArg, Cursor<'t, 'a>), SyntaxFault>
     ensures takes { IfOk result (λ x. TakesArgument names.now (left_of cursor.entry) x.0 (left_of x.1)) }
     ensures err { IfErr result (λ fault. Refuses is_argument (left_of cursor.entry) fault) }
 {
@@ -36,7 +36,7 @@ pub fn read_arguments<'t, 'a>(
     alloc: Global,
     names: &Variables<'a>,
     cursor: Cursor<'t, 'a>,
-) -> Result<(PatArgs, Cursor<'t, 'a>), ReadFault>
+) -> Result<(PatArgs, Cursor<'t, 'a>), SyntaxFault>
     ensures takes { IfOk result (λ x. TakesArguments names.now (signs_of (left_of cursor.entry)) x.0 (signs_of (left_of x.1))) }
     ensures goes { (part : Part) → Goes (ArgumentAt part) (AfterPattern part) (left_of cursor.entry) result }
 {
@@ -60,7 +60,7 @@ pub fn read_behind_name<'t, 'a>(
     alloc: Global,
     names: &Variables<'a>,
     cursor: Cursor<'t, 'a>,
-) -> Result<(PatArgs, Cursor<'t, 'a>), ReadFault>
+) -> Result<(PatArgs, Cursor<'t, 'a>), SyntaxFault>
     ensures takes { IfOk result (λ x. (w : List ℕ) → TakesPattern names.now (Word w ∷ signs_of (left_of cursor.entry)) (record { name = w; args = x.0 }) (signs_of (left_of x.1))) }
     ensures goes { (part : Part) → Goes (AfterName part) (AfterPattern part) (left_of cursor.entry) result }
 {
@@ -75,7 +75,7 @@ pub fn read_pattern<'t, 'a>(
     alloc: Global,
     names: &Variables<'a>,
     cursor: Cursor<'t, 'a>,
-) -> Result<(Pattern, Cursor<'t, 'a>), ReadFault>
+) -> Result<(Pattern, Cursor<'t, 'a>), SyntaxFault>
     ensures takes { IfOk result (λ x. TakesPattern names.now (signs_of (left_of cursor.entry)) x.0 (signs_of (left_of x.1))) }
     ensures goes { (part : Part) → Goes (PatternAt part) (AfterPattern part) (left_of cursor.entry) result }
 {

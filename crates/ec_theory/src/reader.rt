@@ -1,11 +1,12 @@
 //! The reader of theories.
 ghost use Rattle.std.specs.Prelude.{IfOk, IfErr};
 ghost use Rattle.ec_theory.specs.Walk.{Beginning, stop_of};
-ghost use Rattle.ec_theory.specs.Reading.{Reads, IsStop, HasNoReading};
+ghost use Rattle.ec_theory.specs.Reader.{IsStop};
+ghost use Rattle.ec_theory.specs.Reading.{Reads, IsSyntaxFault, HasNoReading};
 
 use crate::clause::{push_clause, read_clause};
 use crate::cursor::Cursor;
-use crate::fault::ReadFault;
+use crate::fault::SyntaxFault;
 use ec_terms::{Sequence, Theory};
 use ec_tokens::TokenList;
 use std::alloc::Global;
@@ -15,10 +16,10 @@ use std::alloc::Global;
 ///
 /// `Syntax` comes exactly where the tokens are no theory, at the first token with which they begin
 /// none, or at their end where all of them begin one.
-#[tactic(auto, using(crate::proofs::Readings::no_reading))]
-pub fn read_theory(alloc: Global, tokens: &TokenList<'_>) -> Result<Theory, ReadFault>
+#[tactic(auto, using(crate::proofs::WalkLaws::no_reading, crate::proofs::WalkLaws::syntax_fault))]
+pub fn read_theory(alloc: Global, tokens: &TokenList<'_>) -> Result<Theory, SyntaxFault>
     ensures ok { IfOk result (λ theory. Reads tokens.now theory) }
-    ensures syntax { IfErr result (λ fault. IsStop fault (stop_of Beginning tokens.now)) }
+    ensures syntax { IfErr result (λ fault. IsSyntaxFault fault tokens.now) }
     ensures none { IfErr result (λ fault. HasNoReading fault tokens.now) }
 {
     match read_clauses(alloc, tokens) {
@@ -28,7 +29,7 @@ pub fn read_theory(alloc: Global, tokens: &TokenList<'_>) -> Result<Theory, Read
 }
 
 /// Reads the clauses one by one.
-fn read_clauses(alloc: Global, tokens: &TokenList<'_>) -> Result<Theory, ReadFault>
+fn read_clauses(alloc: Global, tokens: &TokenList<'_>) -> Result<Theory, SyntaxFault>
     ensures ok { IfOk result (λ theory. Reads tokens.now theory) }
     ensures syntax { IfErr result (λ fault. IsStop fault (stop_of Beginning tokens.now)) }
 {

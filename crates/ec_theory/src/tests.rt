@@ -1,5 +1,5 @@
 //! Texts of theories, and what is said of each.
-use crate::{ReadFault, read_theory};
+use crate::{SyntaxFault, read_theory};
 use ec_check::{CheckFault, Many, check};
 use ec_tokens::{MOST_BYTES, Place, TokenFault, tokens};
 use std::alloc::{AllocError, Global};
@@ -54,8 +54,8 @@ fn said(alloc: Global, text: &str) -> Result<String, AllocError> {
     };
     let theory = match read_theory(alloc, &list) {
         Ok(theory) => theory,
-        Err(ReadFault::Syntax(place)) => return at(alloc, place, "syntax"),
-        Err(ReadFault::Memory) => return format!(in alloc; "memory"),
+        Err(SyntaxFault::Syntax(place)) => return at(alloc, place, "syntax"),
+        Err(SyntaxFault::Memory) => return format!(in alloc; "memory"),
     };
     let rules = theory.rules.len();
     let exclusives = theory.exclusives.len();

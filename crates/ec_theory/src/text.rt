@@ -2,7 +2,7 @@
 ghost use Rattle.std.specs.Prelude.{◌≤◌, length, IfOk, IfErr};
 ghost use Rattle.ec_theory.specs.Accepted.{IsAccepted, HasFault};
 
-use crate::fault::ReadFault;
+use crate::fault::SyntaxFault;
 use crate::reader::read_theory;
 use ec_check::{CheckFault, Checked, check};
 use ec_tokens::{TokenFault, tokens};
@@ -12,7 +12,7 @@ use std::alloc::Global;
 #[derive(Clone, Copy, Debug, PartialEq, Eq)]
 pub enum Refused {
     Tokens(TokenFault),
-    Reading(ReadFault),
+    Syntax(SyntaxFault),
     Wrong(CheckFault),
 }
 
@@ -29,7 +29,7 @@ pub fn accept(alloc: Global, bytes: &[u8]) -> Result<Checked, Refused>
     };
     let theory = match read_theory(alloc, &list) {
         Ok(theory) => theory,
-        Err(fault) => return Err(Refused::Reading(fault)),
+        Err(fault) => return Err(Refused::Syntax(fault)),
     };
     match check(theory) {
         Ok(checked) => Ok(checked),

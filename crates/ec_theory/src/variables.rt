@@ -2,10 +2,10 @@
 ghost use Rattle.std.specs.Prelude.{◌≡◌, ◌<◌, ◌≤◌, ◌+◌, IfOk, IfErr, OnOk, length};
 ghost use Rattle.ec_theory.specs.Sign.{variables_of, number_of, signs_of, with_sign};
 ghost use Rattle.ec_theory.specs.Reader.{left_of, shown};
-ghost use Rattle.ec_theory.specs.declared.fault.ReadFault.TheVariants.{Memory};
+ghost use Rattle.ec_theory.specs.declared.fault.SyntaxFault.TheVariants.{Memory};
 
 use crate::cursor::Cursor;
-use crate::fault::ReadFault;
+use crate::fault::SyntaxFault;
 use crate::sign::{Sign, Symbol, sign_of};
 use indexmap::IndexSet;
 use std::alloc::Global;
@@ -30,7 +30,7 @@ impl<'a> Model for Variables<'a> {
 
 impl<'a> Variables<'a> {
     /// The variables from a cursor on, up to the next dot.
-    pub fn of(alloc: Global, cursor: Cursor<'_, 'a>) -> Result<Variables<'a>, ReadFault>
+    pub fn of(alloc: Global, cursor: Cursor<'_, 'a>) -> Result<Variables<'a>, SyntaxFault>
         ensures ok { IfOk result (λ variables. variables ≡ variables_of (signs_of (left_of cursor.entry))) }
         ensures err { IfErr result (λ fault. fault ≡ Memory) }
     {
@@ -49,7 +49,7 @@ impl<'a> Variables<'a> {
     }
 
     /// Adds a variable that is not yet there; any other token adds nothing.
-    fn add(&mut self, sign: Sign<'a>) -> Result<(), ReadFault>
+    fn add(&mut self, sign: Sign<'a>) -> Result<(), SyntaxFault>
         requires { length self.old < 1048576 }
         ensures added { OnOk result (self.new ≡ with_sign self.old (shown sign.entry)) }
         ensures err { IfErr result (λ fault. fault ≡ Memory) }
