@@ -1,2 +1,4 @@
-pub mod Firsts
+pub mod FirstFound
+pub mod FewVariables
+pub mod FirstFaults
 pub mod Matchable

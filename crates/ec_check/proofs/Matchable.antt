@@ -1,9 +1,9 @@
 -- A theory without a fault can be matched: its patterns are small, and the event of a rule gives every place of its head, tests and literals.
-use Rattle.std.proofs.Common.{◌≡◌, ℕ, ◌+◌, ◌<◌, ◌≤◌, suc, zero, Bool, true, false, ◌&&◌, not, List, [], ◌∷◌, ◌++◌, length, Option, Some, None, refl, subst, ◌⊎◌, inl, inr, ⊎_elim, arith}
+use Rattle.std.proofs.Common.{◌≡◌, ℕ, ◌+◌, ◌<◌, ◌≤◌, suc, zero, Bool, true, false, ◌&&◌, not, List, [], ◌∷◌, ◌++◌, length, Option, Some, None, refl, subst, ◌∙◌, ◌⊎◌, inl, inr, ⊎_elim, arith}
 use Rattle.std.specs.Prelude.{count_by, nat_le, nat_lt}
 use Rattle.std.specs.List.{All, list_all}
 use Rattle.std.proofs.lemmas.Bool.{and_parts, and_from, and_cases, cases_eq, eq-eqb, leb-true, ltb-true, not-false}
-use Rattle.std.proofs.lemmas.List.Elements.{All-nil, All-cons}
+use Rattle.std.proofs.lemmas.List.Elements.{All-nil, All-cons, All-head, All-tail}
 use Rattle.ec_lists.proofs.Booleans.{cond-None}
 use Rattle.ec_lists.proofs.Options.{None-from_option_map}
 use Rattle.ec_terms.specs.declared.pattern.PatArg.{PatArg}
@@ -19,7 +19,11 @@ use Rattle.ec_terms.specs.Matchable.{IsGiven, IsMatchable, IsMatchableExclusive,
 use Rattle.ec_check.specs.declared.fault.CheckFault.{CheckFault}
 use Rattle.ec_check.specs.declared.fault.CheckFault.TheVariants.{Arity, TooMany, AnyInHead, Unbound}
 use Rattle.ec_check.specs.declared.fault.Many.TheVariants.{Rules, EventRules, Tests, Literals, Variables}
-use Rattle.ec_check.specs.Faults.{each_fault, each_open, earlier_fault, exclusive_fault, first_from, first_of, first_wrong, has_few_variables, initial_fault, is_narrow, is_narrow_rule, is_no_any, is_other, is_unbound, least_unbound, rule_fault, rules_fault, same_event}
+use Rattle.ec_check.specs.declared.limits.TheConstants.{MOST_RULES, MOST_EVENT_RULES, MOST_TESTS, MOST_LITERALS}
+use Rattle.ec_check.specs.Faults.{each_open, earlier_fault, exclusive_fault, exclusive_places, first_fault, first_from, first_of, first_wrong, has_few_variables, initial_fault, is_narrow, is_narrow_rule, is_no_any, is_other, is_unbound, least_unbound, rule_fault, rule_places, same_event}
+use Rattle.ec_check.specs.Numbering.{AreWithoutGap}
+use Rattle.ec_check.specs.WellFormed.{IsWellFormed}
+use Rattle.ec_check.proofs.FewVariables.{few_in_places, few_in_exclusive, few_in_rule}
 
 -- ---- no first one
 
@@ -91,23 +95,23 @@ Gives-each_open event r small known bound =
 -- what the faults of a rule leave, where there is none
 record IsBound (r : Rule) : Type 0 where
   narrow : is_narrow_rule r ≡ true
-  small : has_few_variables r ≡ true
+  small : (list_all is_small_place r.event.args && each_open is_small_place r) ≡ true
   known : each_open is_no_any r ≡ true
   bound : least_unbound r ≡ None
 
-IsBound-no_fault : (earlier : List Rule) (r : Rule) → rule_fault earlier r ≡ None → IsBound r
+IsBound-no_fault : (earlier : List Rule) (r : Rule) → AreWithoutGap (rule_places r) → rule_fault earlier r ≡ None → IsBound r
 unfolding rule_fault
-IsBound-no_fault earlier r none =
-    let rules = cond-None (nat_le 1024 (length earlier)) (TooMany Rules r.clause) _ none in
+IsBound-no_fault earlier r full none =
+    let rules = cond-None (nat_le MOST_RULES (length earlier)) (TooMany Rules r.clause) _ none in
     let arity = cond-None (not (is_narrow_rule r)) (Arity r.clause) _ rules.1 in
-    let event_rules = cond-None (nat_le 64 (count_by (same_event r) earlier)) (TooMany EventRules r.clause) _ arity.1 in
-    let tests = cond-None (nat_lt 16 (length r.tests)) (TooMany Tests r.clause) _ event_rules.1 in
-    let literals = cond-None (nat_lt 16 (length r.literals)) (TooMany Literals r.clause) _ tests.1 in
-    let variables = cond-None (not (has_few_variables r)) (TooMany Variables r.clause) _ literals.1 in
+    let event_rules = cond-None (nat_le MOST_EVENT_RULES (count_by (same_event r) earlier)) (TooMany EventRules r.clause) _ arity.1 in
+    let tests = cond-None (nat_lt MOST_TESTS (length r.tests)) (TooMany Tests r.clause) _ event_rules.1 in
+    let literals = cond-None (nat_lt MOST_LITERALS (length r.literals)) (TooMany Literals r.clause) _ tests.1 in
+    let variables = cond-None (not (has_few_variables (rule_places r))) (TooMany Variables r.clause) _ literals.1 in
     let any = cond-None (not (each_open is_no_any r)) (AnyInHead r.clause) _ variables.1 in
     record {
       narrow = not-false _ arity.0;
-      small = not-false _ variables.0;
+      small = few_in_rule r full ∙ not-false _ variables.0;
       known = not-false _ any.0;
       bound = None-from_option_map (λ v. Unbound r.clause v) (least_unbound r) any.1;
     }
@@ -132,7 +136,7 @@ literals_given event (l ∷ list) narrow small given =
     All-cons (λ (l : Literal). IsGiven event l.prop) l list (record { small = IsSmall-from l.prop narrows.0 smalls.0; places = givens.0 }) (literals_given event list narrows.1 smalls.1 givens.1)
 
 IsMatchableRule-bound : (r : Rule) → IsBound r → IsMatchableRule r
-unfolding is_narrow_rule has_few_variables each_open
+unfolding is_narrow_rule each_open
 IsMatchableRule-bound r is_bound =
     let narrow = and_parts _ _ is_bound.narrow in
     let narrows = and_parts _ _ narrow.0 in
@@ -148,52 +152,47 @@ IsMatchableRule-bound r is_bound =
       literals = literals_given r.event r.literals narrow.1 small_open.1 given.1;
     }
 
-All-rules : (earlier rules : List Rule) → rules_fault earlier rules ≡ None → All IsMatchableRule rules
-unfolding rules_fault
-All-rules earlier [] none = All-nil IsMatchableRule
-All-rules earlier (r ∷ rules) none =
+-- where no clause of a kind has a fault, each is as that says
+All-first_fault : {A : Type 0} (fault : List A → A → Option CheckFault) (Numbered P : A → Type 0) → ((earlier : List A) (a : A) → Numbered a → fault earlier a ≡ None → P a) →
+    (earlier list : List A) → All Numbered list → first_fault fault earlier list ≡ None → All P list
+unfolding first_fault
+All-first_fault fault Numbered P one earlier [] numbered none = All-nil P
+All-first_fault fault Numbered P one earlier (a ∷ list) numbered none =
     let parts = first_of-none _ _ none in
-    All-cons IsMatchableRule r rules (IsMatchableRule-bound r (IsBound-no_fault earlier r parts.0)) (All-rules (earlier ++ r ∷ []) rules parts.1)
+    All-cons P a list (one earlier a (All-head Numbered a list numbered) parts.0) (All-first_fault fault Numbered P one (earlier ++ a ∷ []) list (All-tail Numbered a list numbered) parts.1)
 
 -- ---- declarations
 
-All-each : {A : Type 0} (fault : ℕ → A → Option CheckFault) (P : A → Type 0) → ((earlier : ℕ) (a : A) → fault earlier a ≡ None → P a) →
-    (earlier : ℕ) (list : List A) → each_fault fault earlier list ≡ None → All P list
-unfolding each_fault
-All-each fault P one earlier [] none = All-nil P
-All-each fault P one earlier (a ∷ list) none =
-    let parts = first_of-none _ _ none in
-    All-cons P a list (one earlier a parts.0) (All-each fault P one (earlier + 1) list parts.1)
-
-IsMatchableExclusive-no_fault : (earlier : ℕ) (declaration : Exclusive) → exclusive_fault earlier declaration ≡ None → IsMatchableExclusive declaration
+IsMatchableExclusive-no_fault : (earlier : List Exclusive) (declaration : Exclusive) → AreWithoutGap (exclusive_places declaration) → exclusive_fault earlier declaration ≡ None → IsMatchableExclusive declaration
 unfolding exclusive_fault
-IsMatchableExclusive-no_fault earlier declaration none =
+IsMatchableExclusive-no_fault earlier declaration full none =
     let many = cond-None _ _ _ none in
     let arity = cond-None _ _ _ many.1 in
     let variables = cond-None _ _ _ arity.1 in
     let narrows = and_parts _ _ (not-false _ arity.0) in
-    let smalls = and_parts _ _ (not-false _ variables.0) in
+    let smalls = and_parts _ _ (few_in_exclusive declaration full ∙ not-false _ variables.0) in
     record { left = IsSmall-from declaration.left narrows.0 smalls.0; right = IsSmall-from declaration.right narrows.1 smalls.1 }
 
-IsSmall-no_fault : (earlier : ℕ) (declaration : Initial) → initial_fault earlier declaration ≡ None → IsSmall declaration.prop
+IsSmall-no_fault : (earlier : List Initial) (declaration : Initial) → AreWithoutGap declaration.prop.args → initial_fault earlier declaration ≡ None → IsSmall declaration.prop
 unfolding initial_fault
-IsSmall-no_fault earlier declaration none =
+IsSmall-no_fault earlier declaration full none =
     let many = cond-None _ _ _ none in
     let arity = cond-None _ _ _ many.1 in
     let variables = cond-None _ _ _ arity.1 in
-    IsSmall-from declaration.prop (not-false _ arity.0) (not-false _ variables.0)
+    IsSmall-from declaration.prop (not-false _ arity.0) (few_in_places declaration.prop.args full ∙ not-false _ variables.0)
 
 -- ---- a theory
 
 -- every well-formed theory can be matched
-pub IsMatchable-well_formed : (theory : Theory) → first_wrong theory ≡ None → IsMatchable theory
+pub IsMatchable-well_formed : (theory : Theory) → IsWellFormed theory → IsMatchable theory
 unfolding first_wrong
-IsMatchable-well_formed theory none =
-    let rules = earlier_fault-none _ _ none in
+IsMatchable-well_formed theory well_formed =
+    let numbered = well_formed.numbered in
+    let rules = earlier_fault-none _ _ well_formed.no_fault in
     let exclusives = earlier_fault-none _ _ rules.1 in
     let strongs = earlier_fault-none _ _ exclusives.1 in
     record {
-      rules = All-rules [] theory.rules rules.0;
-      exclusives = All-each exclusive_fault IsMatchableExclusive IsMatchableExclusive-no_fault 0 theory.exclusives exclusives.0;
-      initials = All-each initial_fault (λ (initial : Initial). IsSmall initial.prop) IsSmall-no_fault 0 theory.initials strongs.1;
+      rules = All-first_fault rule_fault (λ (r : Rule). AreWithoutGap (rule_places r)) IsMatchableRule (λ earlier r full none. IsMatchableRule-bound r (IsBound-no_fault earlier r full none)) [] theory.rules numbered.rules rules.0;
+      exclusives = All-first_fault exclusive_fault (λ (e : Exclusive). AreWithoutGap (exclusive_places e)) IsMatchableExclusive IsMatchableExclusive-no_fault [] theory.exclusives numbered.exclusives exclusives.0;
+      initials = All-first_fault initial_fault (λ (i : Initial). AreWithoutGap i.prop.args) (λ (initial : Initial). IsSmall initial.prop) IsSmall-no_fault [] theory.initials numbered.initials strongs.1;
     }

@@ -1,6 +1,7 @@
--- What is wrong with a clause of a theory: its first fault in the order of the table.
-use Rattle.std.specs.Prelude.{ℕ, ◌+◌, suc, zero, Bool, true, false, ◌&&◌, ◌==◌, not, nat_lt, nat_le, if◌then◌else◌, List, [], ◌∷◌, ◌++◌, length, count_by, pos, int_le, Option, Some, None, option_map, bytes_eq}
-use Rattle.std.specs.List.{list_all}
+-- What is wrong with a clause of a theory: its first fault in the order of the table; and the first clause of a theory with a fault.
+use Rattle.std.specs.Prelude.{◌≡◌, ◌≤◌, ℕ, ◌+◌, suc, zero, Bool, true, false, ◌&&◌, ◌==◌, not, nat_eq, nat_lt, nat_le, if◌then◌else◌, List, [], ◌∷◌, ◌++◌, length, count_by, pos, int_le, Option, Some, None, option_map, bytes_eq}
+use Rattle.std.specs.List.{list_all, flat_map}
+use Rattle.std.specs.Set.{distinct_count}
 use Rattle.ec_terms.specs.declared.pattern.PatArg.{PatArg}
 use Rattle.ec_terms.specs.declared.pattern.PatArg.TheVariants.{Var, Any, Fixed}
 use Rattle.ec_terms.specs.declared.pattern.Pattern.{Pattern}
@@ -9,7 +10,8 @@ use Rattle.ec_terms.specs.declared.theory.Exclusive.{Exclusive}
 use Rattle.ec_terms.specs.declared.theory.Strong.{Strong}
 use Rattle.ec_terms.specs.declared.theory.Initial.{Initial}
 use Rattle.ec_terms.specs.declared.theory.Theory.{Theory}
-use Rattle.ec_terms.specs.Binding.{stands_in, is_small_place}
+use Rattle.ec_terms.specs.Binding.{stands_in}
+use Rattle.ec_check.specs.declared.limits.TheConstants.{MOST_RULES, MOST_EVENT_RULES, MOST_TESTS, MOST_LITERALS, MOST_EXCLUSIVES, MOST_STRONGS, MOST_INITIALS}
 use Rattle.ec_check.specs.declared.fault.CheckFault.{CheckFault}
 use Rattle.ec_check.specs.declared.fault.CheckFault.TheVariants.{Arity, TooMany, AnyInHead, Unbound}
 use Rattle.ec_check.specs.declared.fault.Many.TheVariants.{Rules, EventRules, Tests, Literals, Variables, Exclusives, Strongs, Initials}
@@ -33,9 +35,24 @@ is_narrow_rule r = is_narrow r.event && is_narrow r.head && list_all (λ l. is_n
 unfoldable pub same_event : Rule → Rule → Bool
 same_event r s = bytes_eq r.event.name s.event.name && length r.event.args == length s.event.args
 
--- the rule has at most 16 different variables: they are numbered from 0 on, so each has a number below 16
-unfoldable pub has_few_variables : Rule → Bool
-has_few_variables r = list_all is_small_place r.event.args && each_open is_small_place r
+-- the places of a rule: those of its event, its head, its tests and its literals
+unfoldable pub rule_places : Rule → List PatArg
+rule_places r = r.event.args ++ (r.head.args ++ (flat_map (λ t. t.left ∷ t.right ∷ []) r.tests ++ flat_map (λ l. l.prop.args) r.literals))
+
+-- the places of an exclusive declaration
+abbrev pub exclusive_places : Exclusive → List PatArg
+exclusive_places e = e.left.args ++ e.right.args
+
+-- the variables that stand at places, in their order
+unfoldable pub variables_in : List PatArg → List ℕ
+variables_in [] = []
+variables_in (Var v ∷ places) = v ∷ variables_in places
+variables_in (Any ∷ places) = variables_in places
+variables_in (Fixed a ∷ places) = variables_in places
+
+-- at most 16 different variables stand at the places
+unfoldable pub has_few_variables : List PatArg → Bool
+has_few_variables places = nat_le (distinct_count nat_eq (variables_in places)) 16
 
 -- no `_`
 abbrev pub is_no_any : PatArg → Bool
@@ -67,27 +84,27 @@ least_unbound r = first_from (is_unbound r) 16 0
 -- the first fault of a rule that stands behind other rules
 unfoldable pub rule_fault : List Rule → Rule → Option CheckFault
 rule_fault earlier r =
-    if nat_le 1024 (length earlier) then Some (TooMany Rules r.clause)
+    if nat_le MOST_RULES (length earlier) then Some (TooMany Rules r.clause)
     else (if not (is_narrow_rule r) then Some (Arity r.clause)
-    else (if nat_le 64 (count_by (same_event r) earlier) then Some (TooMany EventRules r.clause)
-    else (if nat_lt 16 (length r.tests) then Some (TooMany Tests r.clause)
-    else (if nat_lt 16 (length r.literals) then Some (TooMany Literals r.clause)
-    else (if not (has_few_variables r) then Some (TooMany Variables r.clause)
+    else (if nat_le MOST_EVENT_RULES (count_by (same_event r) earlier) then Some (TooMany EventRules r.clause)
+    else (if nat_lt MOST_TESTS (length r.tests) then Some (TooMany Tests r.clause)
+    else (if nat_lt MOST_LITERALS (length r.literals) then Some (TooMany Literals r.clause)
+    else (if not (has_few_variables (rule_places r)) then Some (TooMany Variables r.clause)
     else (if not (each_open is_no_any r) then Some (AnyInHead r.clause)
     else option_map (λ v. Unbound r.clause v) (least_unbound r)))))))
 
--- the first fault of an exclusive declaration behind so many others
-unfoldable pub exclusive_fault : ℕ → Exclusive → Option CheckFault
+-- the first fault of an exclusive declaration that stands behind others
+unfoldable pub exclusive_fault : List Exclusive → Exclusive → Option CheckFault
 exclusive_fault earlier e =
-    if nat_le 256 earlier then Some (TooMany Exclusives e.clause)
+    if nat_le MOST_EXCLUSIVES (length earlier) then Some (TooMany Exclusives e.clause)
     else (if not (is_narrow e.left && is_narrow e.right) then Some (Arity e.clause)
-    else (if not (list_all is_small_place e.left.args && list_all is_small_place e.right.args) then Some (TooMany Variables e.clause)
+    else (if not (has_few_variables (exclusive_places e)) then Some (TooMany Variables e.clause)
     else None))
 
--- the first fault of a strong declaration behind so many others
-unfoldable pub strong_fault : ℕ → Strong → Option CheckFault
+-- the first fault of a strong declaration that stands behind others
+unfoldable pub strong_fault : List Strong → Strong → Option CheckFault
 strong_fault earlier s =
-    if nat_le 1024 earlier then Some (TooMany Strongs s.clause)
+    if nat_le MOST_STRONGS (length earlier) then Some (TooMany Strongs s.clause)
     else (if not (int_le (pos 0) s.arity && int_le s.arity (pos 8)) then Some (Arity s.clause)
     else None)
 
@@ -95,12 +112,12 @@ strong_fault earlier s =
 unfoldable pub least_variable : Pattern → Option ℕ
 least_variable p = first_from (λ v. stands_in v p) 16 0
 
--- the first fault of an initial property behind so many others
-unfoldable pub initial_fault : ℕ → Initial → Option CheckFault
+-- the first fault of an initial property that stands behind others
+unfoldable pub initial_fault : List Initial → Initial → Option CheckFault
 initial_fault earlier i =
-    if nat_le 1024 earlier then Some (TooMany Initials i.clause)
+    if nat_le MOST_INITIALS (length earlier) then Some (TooMany Initials i.clause)
     else (if not (is_narrow i.prop) then Some (Arity i.clause)
-    else (if not (list_all is_small_place i.prop.args) then Some (TooMany Variables i.clause)
+    else (if not (has_few_variables i.prop.args) then Some (TooMany Variables i.clause)
     else (if not (list_all is_no_any i.prop.args) then Some (AnyInHead i.clause)
     else option_map (λ v. Unbound i.clause v) (least_variable i.prop))))
 
@@ -111,15 +128,10 @@ abbrev pub first_of : Option CheckFault → Option CheckFault → Option CheckFa
 first_of (Some fault) later = Some fault
 first_of None later = later
 
--- the first fault of rules that stand behind other rules
-unfoldable pub rules_fault : List Rule → List Rule → Option CheckFault
-rules_fault earlier [] = None
-rules_fault earlier (r ∷ rules) = first_of (rule_fault earlier r) (rules_fault (earlier ++ r ∷ []) rules)
-
--- the first fault of declarations that stand behind so many others
-unfoldable pub each_fault : {A : Type 0} → (ℕ → A → Option CheckFault) → ℕ → List A → Option CheckFault
-each_fault fault earlier [] = None
-each_fault fault earlier (a ∷ list) = first_of (fault earlier a) (each_fault fault (earlier + 1) list)
+-- the first fault of clauses of one kind that stand behind others
+unfoldable pub first_fault : {A : Type 0} → (List A → A → Option CheckFault) → List A → List A → Option CheckFault
+first_fault fault earlier [] = None
+first_fault fault earlier (a ∷ list) = first_of (fault earlier a) (first_fault fault (earlier ++ a ∷ []) list)
 
 -- the number of the clause that a fault is in
 unfoldable pub clause_of : CheckFault → ℕ
@@ -138,6 +150,22 @@ earlier_fault (Some a) (Some b) = if nat_lt (clause_of b) (clause_of a) then Som
 -- first fault of a theory is the earliest of the first faults of its kinds.
 unfoldable pub first_wrong : Theory → Option CheckFault
 first_wrong theory =
-    earlier_fault (rules_fault [] theory.rules)
-    (earlier_fault (each_fault exclusive_fault 0 theory.exclusives)
-    (earlier_fault (each_fault strong_fault 0 theory.strongs) (each_fault initial_fault 0 theory.initials)))
+    earlier_fault (first_fault rule_fault [] theory.rules)
+    (earlier_fault (first_fault exclusive_fault [] theory.exclusives)
+    (earlier_fault (first_fault strong_fault [] theory.strongs) (first_fault initial_fault [] theory.initials)))
+
+-- the fault is the first of one of the clauses
+pub data IsClauseFault {A : Type 0} (first : List A → A → Option CheckFault) (list : List A) (fault : CheckFault) : Type 0 where
+  in_clause : (earlier later : List A) (a : A) → list ≡ earlier ++ a ∷ later → first earlier a ≡ Some fault → IsClauseFault first list fault
+
+-- the fault is the first of one clause of the theory
+pub data IsFaultOf (theory : Theory) (fault : CheckFault) : Type 0 where
+  of_rule : IsClauseFault rule_fault theory.rules fault → IsFaultOf theory fault
+  of_exclusive : IsClauseFault exclusive_fault theory.exclusives fault → IsFaultOf theory fault
+  of_strong : IsClauseFault strong_fault theory.strongs fault → IsFaultOf theory fault
+  of_initial : IsClauseFault initial_fault theory.initials fault → IsFaultOf theory fault
+
+-- the fault is the first of the clause with the least number among those that have one
+pub record IsFirstFault (theory : Theory) (fault : CheckFault) : Type 0 where
+  pub is_fault : IsFaultOf theory fault
+  pub least : (other : CheckFault) → IsFaultOf theory other → clause_of fault ≤ clause_of other

@@ -1,8 +1,10 @@
--- A theory with no fault, and what the crates above may rely on.
+-- Well-formed theories: numbered, and without a fault.
 use Rattle.std.specs.Prelude.{◌≡◌, None}
 use Rattle.ec_terms.specs.declared.theory.Theory.{Theory}
 use Rattle.ec_check.specs.Faults.{first_wrong}
+use Rattle.ec_check.specs.Numbering.{IsNumbered}
 
--- no clause of the theory has a fault
-abbrev pub IsWellFormed : Theory → Type 0
-IsWellFormed theory = first_wrong theory ≡ None
+-- the theory is numbered, and no clause has a fault
+pub record IsWellFormed (theory : Theory) : Type 0 where
+  pub numbered : IsNumbered theory
+  pub no_fault : first_wrong theory ≡ None

@@ -1,6 +1,8 @@
 //! Theories that are well formed.
 ghost use Rattle.std.specs.Prelude.{◌≡◌, Some, None, IfOk, IfErr};
-ghost use Rattle.ec_check.specs.Faults.{first_wrong, earlier_fault};
+ghost use Rattle.ec_check.specs.Faults.{first_wrong, earlier_fault, IsFaultOf, IsFirstFault};
+ghost use Rattle.ec_check.specs.Numbering.{IsNumbered};
+ghost use Rattle.ec_check.specs.declared.fault.CheckFault.{CheckFault};
 
 use crate::clauses::{exclusives_fault, initials_fault, strongs_fault};
 use crate::fault::CheckFault;
@@ -48,6 +50,7 @@ fn earlier_fault(first: Option<CheckFault>, second: Option<CheckFault>) -> Optio
 /// The first clause of a theory with a fault, and its first fault.
 #[tactic(auto, unfolding(crate::specs::Faults::first_wrong))]
 fn first_wrong(theory: &Theory) -> Option<CheckFault>
+    requires { IsNumbered theory.now }
     ensures { result ≡ first_wrong theory.now }
 {
     let rules = rules_fault(theory.rules.as_slice());
@@ -60,11 +63,14 @@ fn first_wrong(theory: &Theory) -> Option<CheckFault>
     )
 }
 
-/// Checks that a theory is well formed. A fault comes exactly where the theory has one: the first
-/// clause with a fault is told, with its first fault. It takes no memory.
+/// Checks that a numbered theory is well formed. A fault comes exactly where the theory has one: of the
+/// clauses with a fault that with the least number is told, with its first fault. It takes no memory.
 pub fn check(theory: Theory) -> Result<Checked, CheckFault>
+    requires numbered { IsNumbered theory }
     ensures ok { IfOk result (λ checked. (checked ≡ theory) × (first_wrong theory ≡ None)) }
+    ensures sound { IfOk result (λ checked. (fault : CheckFault) → IsFaultOf theory fault → ⊥) }
     ensures err { IfErr result (λ fault. first_wrong theory ≡ Some fault) }
+    ensures first { IfErr result (λ fault. IsFirstFault theory fault) }
 {
     match first_wrong(&theory) {
         Some(fault) => Err(fault),

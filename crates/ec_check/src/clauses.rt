@@ -1,51 +1,66 @@
 //! The faults of declarations.
-ghost use Rattle.std.specs.Prelude.{◌≡◌};
-ghost use Rattle.ec_check.specs.Faults.{exclusive_fault, strong_fault, initial_fault, least_variable, each_fault};
+ghost use Rattle.std.specs.Prelude.{◌≡◌, []};
+ghost use Rattle.std.specs.List.{All};
+ghost use Rattle.ec_terms.specs.declared.theory.Exclusive.{Exclusive};
+ghost use Rattle.ec_terms.specs.declared.theory.Initial.{Initial};
+ghost use Rattle.ec_check.specs.Faults.{exclusive_fault, exclusive_places, has_few_variables, strong_fault, initial_fault, least_variable, first_fault};
+ghost use Rattle.ec_check.specs.Numbering.{AreWithoutGap};
 
 use crate::fault::{CheckFault, Many};
+use crate::limits::{MOST_EXCLUSIVES, MOST_INITIALS, MOST_STRONGS};
 use crate::rules::{
     MOST_VARIABLES, both, has_no_any, is_narrow, is_small, stands_in, unbound_fault,
 };
 use ec_terms::{Exclusive, Initial, Pattern, Strong};
 
-/// The most exclusive declarations of a theory.
-const MOST_EXCLUSIVES: usize = 256;
-
-/// The most strong declarations of a theory.
-const MOST_STRONGS: usize = 1024;
-
-/// The most initial properties of a theory.
-const MOST_INITIALS: usize = 1024;
-
 /// The most arguments of a term.
 const MOST_ARGS: i64 = 8;
 
-/// The first fault of an exclusive declaration behind so many others.
+/// Whether an exclusive declaration has at most 16 different variables.
+#[tactic(auto, using(crate::proofs::FewVariables::few_in_exclusive))]
+fn has_few_variables(declaration: &Exclusive) -> bool
+    requires { AreWithoutGap (exclusive_places declaration.now) }
+    ensures { result ≡ has_few_variables (exclusive_places declaration.now) }
+{
+    both(is_small(&declaration.left), is_small(&declaration.right))
+}
+
+/// Whether a pattern by itself has at most 16 different variables.
+#[tactic(auto, using(crate::proofs::FewVariables::few_in_places))]
+fn has_few_in_pattern(pattern: &Pattern) -> bool
+    requires { AreWithoutGap pattern.now.args }
+    ensures { result ≡ has_few_variables pattern.now.args }
+{
+    is_small(pattern)
+}
+
+/// The first fault of an exclusive declaration behind others.
 #[tactic(auto, unfolding(crate::specs::Faults::exclusive_fault))]
-fn exclusive_fault(earlier: usize, declaration: &Exclusive) -> Option<CheckFault>
-    ensures { result ≡ exclusive_fault earlier declaration.now }
+fn exclusive_fault(earlier: &[Exclusive], declaration: &Exclusive) -> Option<CheckFault>
+    requires { AreWithoutGap (exclusive_places declaration.now) }
+    ensures { result ≡ exclusive_fault earlier.now declaration.now }
 {
     let clause = declaration.clause;
     let narrow = both(is_narrow(&declaration.left), is_narrow(&declaration.right));
-    let small = both(is_small(&declaration.left), is_small(&declaration.right));
-    if earlier >= MOST_EXCLUSIVES {
+    let few = has_few_variables(declaration);
+    if earlier.len() >= MOST_EXCLUSIVES {
         Some(CheckFault::TooMany(Many::Exclusives, clause))
     } else if !narrow {
         Some(CheckFault::Arity(clause))
-    } else if !small {
+    } else if !few {
         Some(CheckFault::TooMany(Many::Variables, clause))
     } else {
         None
     }
 }
 
-/// The first fault of a strong declaration behind so many others.
+/// The first fault of a strong declaration behind others.
 #[tactic(auto, unfolding(crate::specs::Faults::strong_fault))]
-fn strong_fault(earlier: usize, declaration: &Strong) -> Option<CheckFault>
-    ensures { result ≡ strong_fault earlier declaration.now }
+fn strong_fault(earlier: &[Strong], declaration: &Strong) -> Option<CheckFault>
+    ensures { result ≡ strong_fault earlier.now declaration.now }
 {
     let clause = declaration.clause;
-    if earlier >= MOST_STRONGS {
+    if earlier.len() >= MOST_STRONGS {
         Some(CheckFault::TooMany(Many::Strongs, clause))
     } else if declaration.arity < 0 {
         Some(CheckFault::Arity(clause))
@@ -57,7 +72,7 @@ fn strong_fault(earlier: usize, declaration: &Strong) -> Option<CheckFault>
 }
 
 /// The least variable of a pattern whose variables are below 16.
-#[tactic(auto, using(crate::proofs::Firsts::first_here, crate::proofs::Firsts::first_on, crate::proofs::Firsts::first_end), unfolding(crate::specs::Faults::least_variable))]
+#[tactic(auto, using(crate::proofs::FirstFound::first_here, crate::proofs::FirstFound::first_on, crate::proofs::FirstFound::first_end), unfolding(crate::specs::Faults::least_variable))]
 fn least_variable(pattern: &Pattern) -> Option<u32>
     ensures { result ≡ least_variable pattern.now }
 {
@@ -69,17 +84,18 @@ fn least_variable(pattern: &Pattern) -> Option<u32>
     None
 }
 
-/// The first fault of an initial property behind so many others.
+/// The first fault of an initial property behind others.
 #[tactic(auto, unfolding(crate::specs::Faults::initial_fault))]
-fn initial_fault(earlier: usize, declaration: &Initial) -> Option<CheckFault>
-    ensures { result ≡ initial_fault earlier declaration.now }
+fn initial_fault(earlier: &[Initial], declaration: &Initial) -> Option<CheckFault>
+    requires { AreWithoutGap declaration.now.prop.args }
+    ensures { result ≡ initial_fault earlier.now declaration.now }
 {
     let clause = declaration.clause;
-    if earlier >= MOST_INITIALS {
+    if earlier.len() >= MOST_INITIALS {
         Some(CheckFault::TooMany(Many::Initials, clause))
     } else if !is_narrow(&declaration.prop) {
         Some(CheckFault::Arity(clause))
-    } else if !is_small(&declaration.prop) {
+    } else if !has_few_in_pattern(&declaration.prop) {
         Some(CheckFault::TooMany(Many::Variables, clause))
     } else if !has_no_any(&declaration.prop) {
         Some(CheckFault::AnyInHead(clause))
@@ -89,12 +105,13 @@ fn initial_fault(earlier: usize, declaration: &Initial) -> Option<CheckFault>
 }
 
 /// The first fault of the exclusive declarations of a theory.
-#[tactic(auto, using(crate::proofs::Firsts::each_here, crate::proofs::Firsts::each_on, crate::proofs::Firsts::each_end))]
+#[tactic(auto, using(crate::proofs::FirstFound::fault_here, crate::proofs::FirstFound::fault_on, crate::proofs::FirstFound::fault_end))]
 pub fn exclusives_fault(declarations: &[Exclusive]) -> Option<CheckFault>
-    ensures { result ≡ each_fault exclusive_fault 0 declarations.now }
+    requires { All (λ (e : Exclusive). AreWithoutGap (exclusive_places e)) declarations.now }
+    ensures { result ≡ first_fault exclusive_fault [] declarations.now }
 {
     for (place, declaration) in declarations.iter().enumerate() {
-        if let Some(fault) = exclusive_fault(place, declaration) {
+        if let Some(fault) = exclusive_fault(&declarations[..place], declaration) {
             return Some(fault);
         }
     }
@@ -102,12 +119,12 @@ pub fn exclusives_fault(declarations: &[Exclusive]) -> Option<CheckFault>
 }
 
 /// The first fault of the strong declarations of a theory.
-#[tactic(auto, using(crate::proofs::Firsts::each_here, crate::proofs::Firsts::each_on, crate::proofs::Firsts::each_end))]
+#[tactic(auto, using(crate::proofs::FirstFound::fault_here, crate::proofs::FirstFound::fault_on, crate::proofs::FirstFound::fault_end))]
 pub fn strongs_fault(declarations: &[Strong]) -> Option<CheckFault>
-    ensures { result ≡ each_fault strong_fault 0 declarations.now }
+    ensures { result ≡ first_fault strong_fault [] declarations.now }
 {
     for (place, declaration) in declarations.iter().enumerate() {
-        if let Some(fault) = strong_fault(place, declaration) {
+        if let Some(fault) = strong_fault(&declarations[..place], declaration) {
             return Some(fault);
         }
     }
@@ -115,12 +132,13 @@ pub fn strongs_fault(declarations: &[Strong]) -> Option<CheckFault>
 }
 
 /// The first fault of the initial properties of a theory.
-#[tactic(auto, using(crate::proofs::Firsts::each_here, crate::proofs::Firsts::each_on, crate::proofs::Firsts::each_end))]
+#[tactic(auto, using(crate::proofs::FirstFound::fault_here, crate::proofs::FirstFound::fault_on, crate::proofs::FirstFound::fault_end))]
 pub fn initials_fault(declarations: &[Initial]) -> Option<CheckFault>
-    ensures { result ≡ each_fault initial_fault 0 declarations.now }
+    requires { All (λ (i : Initial). AreWithoutGap i.prop.args) declarations.now }
+    ensures { result ≡ first_fault initial_fault [] declarations.now }
 {
     for (place, declaration) in declarations.iter().enumerate() {
-        if let Some(fault) = initial_fault(place, declaration) {
+        if let Some(fault) = initial_fault(&declarations[..place], declaration) {
             return Some(fault);
         }
     }

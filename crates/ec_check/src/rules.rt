@@ -1,27 +1,21 @@
 //! The faults of rules.
 ghost use Rattle.std.specs.Prelude.{◌≡◌, ◌&&◌, not, [], count_by, option_map, length};
-ghost use Rattle.std.specs.List.{list_all};
+ghost use Rattle.std.specs.List.{All, list_all};
+ghost use Rattle.ec_terms.specs.declared.theory.Rule.{Rule};
 ghost use Rattle.ec_terms.specs.Binding.{stands_in, is_small_place};
 ghost use Rattle.ec_check.specs.declared.fault.CheckFault.TheVariants.{Unbound};
-ghost use Rattle.ec_check.specs.Faults.{is_narrow, is_narrow_rule, same_event, has_few_variables, is_no_any, is_other, each_open, is_unbound, least_unbound, rule_fault, rules_fault};
+ghost use Rattle.ec_check.specs.Faults.{is_narrow, is_narrow_rule, rule_places, same_event, has_few_variables, is_no_any, is_other, each_open, is_unbound, least_unbound, rule_fault, first_fault};
+ghost use Rattle.ec_check.specs.Numbering.{AreWithoutGap};
 
 use crate::fault::{CheckFault, Many};
+use crate::limits::{MOST_EVENT_RULES, MOST_LITERALS, MOST_RULES, MOST_TESTS};
 use ec_terms::{Literal, PatArg, Pattern, Rule, Test};
 
 /// The most arguments of a pattern.
 const MOST_ARGS: usize = 8;
 
-/// The most tests, and the most literals, of a rule.
-const MOST_CONDITIONS: usize = 16;
-
 /// The most different variables of a clause.
 pub const MOST_VARIABLES: u32 = 16;
-
-/// The most rules of a theory.
-const MOST_RULES: usize = 1024;
-
-/// The most rules for events of one name and number of arguments.
-const MOST_EVENT_RULES: usize = 64;
 
 /// Whether both hold.
 pub fn both(first: bool, second: bool) -> bool
@@ -201,10 +195,11 @@ fn same_event(rule: &Rule, other: &Rule) -> bool
     same_name && same_count
 }
 
-/// Whether all variables of a rule are below 16.
-#[tactic(auto, unfolding(crate::specs::Faults::has_few_variables, crate::specs::Faults::each_open))]
+/// Whether a rule has at most 16 different variables: numbered from 0 on, they are then all below 16.
+#[tactic(auto, using(crate::proofs::FewVariables::few_in_rule), unfolding(crate::specs::Faults::each_open))]
 fn has_few_variables(rule: &Rule) -> bool
-    ensures { result ≡ has_few_variables rule.now }
+    requires { AreWithoutGap (rule_places rule.now) }
+    ensures { result ≡ has_few_variables (rule_places rule.now) }
 {
     let open = both(
         both(is_small(&rule.head), tests_are_small(rule)),
@@ -246,7 +241,7 @@ fn is_unbound(rule: &Rule, variable: u32) -> bool
 }
 
 /// The least unbound variable of a rule whose variables are below 16.
-#[tactic(auto, using(crate::proofs::Firsts::first_here, crate::proofs::Firsts::first_on, crate::proofs::Firsts::first_end), unfolding(crate::specs::Faults::least_unbound))]
+#[tactic(auto, using(crate::proofs::FirstFound::first_here, crate::proofs::FirstFound::first_on, crate::proofs::FirstFound::first_end), unfolding(crate::specs::Faults::least_unbound))]
 fn least_unbound(rule: &Rule) -> Option<u32>
     ensures { result ≡ least_unbound rule.now }
 {
@@ -261,6 +256,7 @@ fn least_unbound(rule: &Rule) -> Option<u32>
 /// The first fault of a rule behind other rules.
 #[tactic(auto, unfolding(crate::specs::Faults::rule_fault))]
 fn rule_fault(earlier: &[Rule], rule: &Rule) -> Option<CheckFault>
+    requires { AreWithoutGap (rule_places rule.now) }
     ensures { result ≡ rule_fault earlier.now rule.now }
 {
     let clause = rule.clause;
@@ -270,9 +266,9 @@ fn rule_fault(earlier: &[Rule], rule: &Rule) -> Option<CheckFault>
         Some(CheckFault::Arity(clause))
     } else if event_rules(earlier, rule) >= MOST_EVENT_RULES {
         Some(CheckFault::TooMany(Many::EventRules, clause))
-    } else if rule.tests.len() > MOST_CONDITIONS {
+    } else if rule.tests.len() > MOST_TESTS {
         Some(CheckFault::TooMany(Many::Tests, clause))
-    } else if rule.literals.len() > MOST_CONDITIONS {
+    } else if rule.literals.len() > MOST_LITERALS {
         Some(CheckFault::TooMany(Many::Literals, clause))
     } else if !has_few_variables(rule) {
         Some(CheckFault::TooMany(Many::Variables, clause))
@@ -304,9 +300,10 @@ pub fn unbound_fault(clause: u32, variable: Option<u32>) -> Option<CheckFault>
 }
 
 /// The first fault of the rules of a theory.
-#[tactic(auto, using(crate::proofs::Firsts::rules_here, crate::proofs::Firsts::rules_on, crate::proofs::Firsts::rules_end))]
+#[tactic(auto, using(crate::proofs::FirstFound::fault_here, crate::proofs::FirstFound::fault_on, crate::proofs::FirstFound::fault_end))]
 pub fn rules_fault(rules: &[Rule]) -> Option<CheckFault>
-    ensures { result ≡ rules_fault [] rules.now }
+    requires { All (λ (r : Rule). AreWithoutGap (rule_places r)) rules.now }
+    ensures { result ≡ first_fault rule_fault [] rules.now }
 {
     for (place, rule) in rules.iter().enumerate() {
         if let Some(fault) = rule_fault(&rules[..place], rule) {

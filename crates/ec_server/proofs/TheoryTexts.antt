@@ -5,13 +5,12 @@ use Rattle.ec_terms.specs.declared.theory.Theory.{Theory}
 use Rattle.ec_tokens.specs.declared.fault.TokenFault.TheVariants as token
 use Rattle.ec_tokens.specs.Lexeme.{Lexemes}
 use Rattle.ec_check.specs.Faults.{first_wrong}
-use Rattle.ec_theory.specs.declared.fault.ReadFault.TheVariants as reading
+use Rattle.ec_theory.specs.declared.fault.SyntaxFault.TheVariants as syntax_fault
 use Rattle.ec_theory.specs.declared.text.Refused.{Refused}
 use Rattle.ec_theory.specs.declared.text.Refused.TheVariants as refused
 use Rattle.ec_theory.specs.Accepted.{IsAccepted, HasFault}
 use Rattle.ec_theory.specs.Reading.{Reads}
-use Rattle.ec_theory.specs.Walk.{Beginning, stop_of}
-use Rattle.ec_theory.proofs.Readings.{reading_stops_nowhere}
+use Rattle.ec_theory.proofs.WalkLaws.{stop_of_reads, stop_of_wrong}
 use Rattle.ec_theory.proofs.Unique.{reading_same}
 use Rattle.ec_outside.specs.Files.{Files, HasFile, IsMissing, IsTooLong}
 use Rattle.ec_server.specs.declared.theory_file.NoTheory.{NoTheory}
@@ -20,24 +19,24 @@ use Rattle.ec_server.specs.declared.status.Status.{Status}
 use Rattle.ec_server.specs.declared.status.Status.TheVariants as status
 use Rattle.ec_server.specs.Loading.{IsBytesReason, IsFaulty, IsReason, IsRefusal, IsSaid}
 use Rattle.ec_server.specs.Outcomes.{Wrote}
-use Rattle.ec_server.specs.TheoryFiles.{HasTheory, IsNoTheory, IsNotServed, too_long, faulty, no_theory, unbuilt, is_served, most_theory_bytes, fault_text, token_text, reading_text, theory_line}
+use Rattle.ec_server.specs.TheoryFiles.{HasTheory, IsNoTheory, IsNotServed, too_long, faulty, no_theory, unbuilt, is_served, most_theory_bytes, fault_text, token_text, syntax_text, theory_line}
 
 -- ---- texts
 
 -- an accepted text has no fault of which anything is said
 pub accepted_not_faulty : {bytes : List ℕ} {theory : Theory} → IsAccepted bytes theory → (text : List ℕ) (fault : Refused) → HasFault bytes fault → fault_text fault ≡ Some text → ⊥
-unfolding fault_text token_text reading_text
+unfolding fault_text token_text syntax_text
 accepted_not_faulty accepted text (refused.Tokens (token.BadByte place)) has is = let both = sym accepted.cut ∙ has in cc
 accepted_not_faulty accepted text (refused.Tokens (token.LongName place)) has is = let both = sym accepted.cut ∙ has in cc
 accepted_not_faulty accepted text (refused.Tokens (token.BigNumber place)) has is = let both = sym accepted.cut ∙ has in cc
 accepted_not_faulty accepted text (refused.Tokens token.Memory) has is = cc
-accepted_not_faulty {theory = theory} accepted text (refused.Reading (reading.Syntax place)) has is =
+accepted_not_faulty {theory = theory} accepted text (refused.Syntax (syntax_fault.Syntax place)) has is =
     let both = sym has.cut ∙ accepted.cut in
     let same : has.tokens ≡ accepted.tokens = cc in
-    let none : stop_of Beginning has.tokens ≡ None = ap (λ (l : Lexemes). stop_of Beginning l) same ∙ reading_stops_nowhere accepted.tokens theory accepted.reads in
-    let stop = has.stop in
+    let stop = (stop_of_wrong has.tokens place).1 has.syntax in
+    let none = (stop_of_reads has.tokens).1 (record { theory = theory; reads = subst (λ (l : Lexemes). Reads l theory) (sym same) accepted.reads }) in
     let stops = sym stop ∙ none in cc
-accepted_not_faulty accepted text (refused.Reading reading.Memory) has is = cc
+accepted_not_faulty accepted text (refused.Syntax syntax_fault.Memory) has is = cc
 accepted_not_faulty {theory = theory} accepted text (refused.Wrong fault) has is =
     let both = sym has.cut ∙ accepted.cut in
     let same : has.tokens ≡ accepted.tokens = cc in

@@ -9,8 +9,8 @@ use Rattle.ec_check.specs.declared.fault.Many.{Many}
 use Rattle.ec_check.specs.declared.fault.Many.TheVariants as many
 use Rattle.ec_check.specs.declared.fault.CheckFault.{CheckFault}
 use Rattle.ec_check.specs.declared.fault.CheckFault.TheVariants as wrong
-use Rattle.ec_theory.specs.declared.fault.ReadFault.{ReadFault}
-use Rattle.ec_theory.specs.declared.fault.ReadFault.TheVariants as reading
+use Rattle.ec_theory.specs.declared.fault.SyntaxFault.{SyntaxFault}
+use Rattle.ec_theory.specs.declared.fault.SyntaxFault.TheVariants as syntax_fault
 use Rattle.ec_theory.specs.declared.text.Refused.{Refused}
 use Rattle.ec_theory.specs.declared.text.Refused.TheVariants as refused
 use Rattle.ec_theory.specs.Accepted.{IsAccepted, HasFault}
@@ -43,9 +43,9 @@ token_text (token.BigNumber place) = Some (at_place place (codes "number"))
 token_text token.Memory = None
 
 -- a fault of the syntax; none for want of memory
-unfoldable pub reading_text : ReadFault → Option (List ℕ)
-reading_text (reading.Syntax place) = Some (at_place place (codes "syntax"))
-reading_text reading.Memory = None
+unfoldable pub syntax_text : SyntaxFault → Option (List ℕ)
+syntax_text (syntax_fault.Syntax place) = Some (at_place place (codes "syntax"))
+syntax_text syntax_fault.Memory = None
 
 -- of what there is too much
 unfoldable pub many_text : Many → List ℕ
@@ -68,7 +68,7 @@ wrong_text (wrong.Unbound clause v) = in_clause clause (codes "unbound")
 -- what is said of bytes with a fault; none for want of memory
 unfoldable pub fault_text : Refused → Option (List ℕ)
 fault_text (refused.Tokens fault) = token_text fault
-fault_text (refused.Reading fault) = reading_text fault
+fault_text (refused.Syntax fault) = syntax_text fault
 fault_text (refused.Wrong fault) = Some (wrong_text fault)
 
 -- the line about a theory

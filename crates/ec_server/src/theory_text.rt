@@ -1,11 +1,11 @@
 //! What is said of a theory: that it is accepted, or why it is not.
 ghost use Rattle.std.specs.Prelude.{◌≡◌, ◌≤◌, length, IfSome};
-ghost use Rattle.ec_server.specs.TheoryFiles.{accepted_line, at_place, fault_text, in_clause, many_text, place_text, reading_text, theory_line, token_text, wrong_text};
+ghost use Rattle.ec_server.specs.TheoryFiles.{accepted_line, at_place, fault_text, in_clause, many_text, place_text, syntax_text, theory_line, token_text, wrong_text};
 
 use ec_check::{CheckFault, Many};
 use ec_lines::ReplyText;
 use ec_terms::Theory;
-use ec_theory::{ReadFault, Refused};
+use ec_theory::{Refused, SyntaxFault};
 use ec_tokens::{Place, TokenFault};
 
 /// A fault of that name at a place.
@@ -52,15 +52,15 @@ fn token_text(fault: TokenFault) -> Option<ReplyText>
     }
 }
 
-/// The name of a fault of the syntax; none for want of memory.
-#[tactic(auto, unfolding(crate::specs::TheoryFiles::reading_text))]
-fn reading_text(fault: ReadFault) -> Option<ReplyText>
-    ensures text { result ≡ reading_text fault }
+/// The name of a fault of syntax; none for want of memory.
+#[tactic(auto, unfolding(crate::specs::TheoryFiles::syntax_text))]
+fn syntax_text(fault: SyntaxFault) -> Option<ReplyText>
+    ensures text { result ≡ syntax_text fault }
     ensures short { IfSome result (λ text. length text ≤ 62) }
 {
     match fault {
-        ReadFault::Syntax(place) => Some(at_place(place, b"syntax")),
-        ReadFault::Memory => None,
+        SyntaxFault::Syntax(place) => Some(at_place(place, b"syntax")),
+        SyntaxFault::Memory => None,
     }
 }
 
@@ -104,7 +104,7 @@ pub(crate) fn fault_text(refused: Refused) -> Option<ReplyText>
 {
     match refused {
         Refused::Tokens(fault) => token_text(fault),
-        Refused::Reading(fault) => reading_text(fault),
+        Refused::Syntax(fault) => syntax_text(fault),
         Refused::Wrong(fault) => Some(wrong_text(fault)),
     }
 }

@@ -1,6 +1,6 @@
-use Rattle.std.proofs.Common.{◌≡◌, drop}
-use Rattle.ec_check.specs.Faults.{each_fault, strong_fault}
+use Rattle.std.proofs.Common.{◌≡◌, [], take, drop}
+use Rattle.ec_check.specs.Faults.{first_fault, strong_fault}
 use Rattle.ec_check.proofs.clauses.strongs_fault.Given as goal
 
 abbrev pub invariant-loop-place : goal.invariant-loop-place
-invariant-loop-place l = each_fault strong_fault l.place (drop l.place l.declarations) ≡ each_fault strong_fault 0 l.declarations
+invariant-loop-place l = first_fault strong_fault (take l.place l.declarations) (drop l.place l.declarations) ≡ first_fault strong_fault [] l.declarations
