@@ -12,3 +12,6 @@ pub mod Unique
 pub mod WayBack
 pub mod GrammarFromWalk
 pub mod WalkLaws
+pub mod NumberedClauses
+pub mod NumberedVariables
+pub mod NumberedReadings

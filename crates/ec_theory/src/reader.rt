@@ -3,6 +3,7 @@ ghost use Rattle.std.specs.Prelude.{IfOk, IfErr};
 ghost use Rattle.ec_theory.specs.Walk.{Beginning, stop_of};
 ghost use Rattle.ec_theory.specs.Reader.{IsStop};
 ghost use Rattle.ec_theory.specs.Reading.{Reads, IsSyntaxFault, HasNoReading};
+ghost use Rattle.ec_check.specs.Numbering.{IsNumbered};
 
 use crate::clause::{push_clause, read_clause};
 use crate::cursor::Cursor;
@@ -16,9 +17,10 @@ use std::alloc::Global;
 ///
 /// `Syntax` comes exactly where the tokens are no theory, at the first token with which they begin
 /// none, or at their end where all of them begin one.
-#[tactic(auto, using(crate::proofs::WalkLaws::no_reading, crate::proofs::WalkLaws::syntax_fault))]
+#[tactic(auto, using(crate::proofs::WalkLaws::no_reading, crate::proofs::WalkLaws::syntax_fault, crate::proofs::NumberedReadings::reads_numbered))]
 pub fn read_theory(alloc: Global, tokens: &TokenList<'_>) -> Result<Theory, SyntaxFault>
     ensures ok { IfOk result (λ theory. Reads tokens.now theory) }
+    ensures numbered { IfOk result (λ theory. IsNumbered theory) }
     ensures syntax { IfErr result (λ fault. IsSyntaxFault fault tokens.now) }
     ensures none { IfErr result (λ fault. HasNoReading fault tokens.now) }
 {
