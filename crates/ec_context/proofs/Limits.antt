@@ -16,7 +16,7 @@ use Rattle.ec_terms.specs.Matching.{Values, binding_of, fits, fits_some}
 use Rattle.ec_terms.specs.Domain.{entries_from, entries_of, entry_of, meets}
 use Rattle.ec_terms.proofs.MatchingLemmas.{fits-other_length}
 use Rattle.ec_check.specs.declared.fault.CheckFault.{CheckFault}
-use Rattle.ec_check.specs.Faults.{earlier_fault, first_of, first_wrong, rule_fault, rules_fault, is_narrow_rule, same_event}
+use Rattle.ec_check.specs.Faults.{earlier_fault, first_of, first_wrong, rule_fault, first_fault, is_narrow_rule, same_event}
 use Rattle.ec_check.specs.WellFormed.{IsWellFormed}
 
 -- the rule has at most 16 literals
@@ -53,8 +53,8 @@ IsWithin-no_fault earlier rule none =
     let literals = else_none (nat_lt 16 (length rule.literals)) _ _ tests.1 in
     record { rules = grind (arith, rules.0); literals = grind (arith, literals.0); event_rules = grind (arith, event_rules.0) }
 
-rules_within : (earlier rules : List Rule) → rules_fault earlier rules ≡ None → length earlier ≤ 1024 → length earlier + length rules ≤ 1024
-unfolding rules_fault
+rules_within : (earlier rules : List Rule) → first_fault rule_fault earlier rules ≡ None → length earlier ≤ 1024 → length earlier + length rules ≤ 1024
+unfolding first_fault
 rules_within earlier [] none few = omega (arith, few)
 rules_within earlier (rule ∷ rules) none few =
     let parts = first_of-none _ _ none in
@@ -62,8 +62,8 @@ rules_within earlier (rule ∷ rules) none few =
     let one_more = length-append earlier (rule ∷ []) in
     let rest = rules_within (earlier ++ rule ∷ []) rules parts.1 (omega (arith, within.rules, one_more)) in omega (arith, rest, one_more)
 
-literals_within : (earlier rules : List Rule) → rules_fault earlier rules ≡ None → All HasFewLiterals rules
-unfolding rules_fault
+literals_within : (earlier rules : List Rule) → first_fault rule_fault earlier rules ≡ None → All HasFewLiterals rules
+unfolding first_fault
 literals_within earlier [] none = All-nil HasFewLiterals
 literals_within earlier (rule ∷ rules) none =
     let parts = first_of-none _ _ none in
@@ -73,12 +73,12 @@ literals_within earlier (rule ∷ rules) none =
 pub few_rules : (theory : Theory) → IsWellFormed theory → length theory.rules ≤ 1024
 unfolding first_wrong
 few_rules theory well_formed =
-    let within = rules_within [] theory.rules (first-none _ _ well_formed) (omega arith) in omega (arith, within)
+    let within = rules_within [] theory.rules (first-none _ _ well_formed.no_fault) (omega arith) in omega (arith, within)
 
 -- and at most 16 literals in each
 pub few_literals : (theory : Theory) → IsWellFormed theory → All HasFewLiterals theory.rules
 unfolding first_wrong
-few_literals theory well_formed = literals_within [] theory.rules (first-none _ _ well_formed)
+few_literals theory well_formed = literals_within [] theory.rules (first-none _ _ well_formed.no_fault)
 
 -- ---- the entries of one event
 
@@ -141,9 +141,9 @@ one_more_met event earlier rule none few =
     (λ not_met. let last = ap (λ b. length (cond b (rule ∷ []) [])) not_met in omega (arith, all, few, last))
     (cases_Bool (meets rule event))
 
-few_met : (event : Ground) (earlier rules : List Rule) → rules_fault earlier rules ≡ None → length (met_rules event earlier) ≤ 64 →
+few_met : (event : Ground) (earlier rules : List Rule) → first_fault rule_fault earlier rules ≡ None → length (met_rules event earlier) ≤ 64 →
     length (met_rules event (earlier ++ rules)) ≤ 64
-unfolding rules_fault
+unfolding first_fault
 few_met event earlier [] none few = subst (λ rs. length (met_rules event rs) ≤ 64) (sym (append-nil earlier)) few
 few_met event earlier (rule ∷ rules) none few =
     let parts = first_of-none _ _ none in
@@ -162,5 +162,5 @@ length-entries_from number (rule ∷ rules) event =
 pub few_entries : (theory : Theory) (event : Ground) → IsWellFormed theory → length (entries_of theory event) ≤ 64
 unfolding first_wrong met_rules
 few_entries theory event well_formed =
-    let few = few_met event [] theory.rules (first-none _ _ well_formed) (omega arith) in
+    let few = few_met event [] theory.rules (first-none _ _ well_formed.no_fault) (omega arith) in
     let same = length-entries_from 1 theory.rules event in omega (arith, few, same)

@@ -3,77 +3,26 @@ ghost use Rattle.std.specs.Prelude.{◌≡◌, ◌<◌};
 
 use crate::{Entry, EntryList, EntryLiteral, entries_of, evaluate};
 use ec_axioms::{Current, Event, Steps};
-use ec_check::{Checked, check};
+use ec_check::Checked;
 use ec_moment::Tick;
 use ec_props::PropTable;
-use ec_terms::{
-    Kind, Literal, Literals, Name, NoMemory, PatArg, PatArgs, Pattern, PropId, Rule, Sequence,
-    Test, TestOp, Tests, Theory, read_ground,
-};
+use ec_terms::{Kind, Name, NoMemory, PropId, read_ground};
+use ec_theory::accept;
 use std::alloc::Global;
 use std::marker::Brand;
 use std::process::Abort;
 use std::sync::ledger::{Blank, Ledger};
 use std::test::Fail;
 
-/// A pattern, by its name and its variables.
-type Shape = (&'static [u8], &'static [u32]);
-
-/// A rule: its kind, its event, its head, its literals, and the variables that are to have the same value.
-type Clause = (
-    Kind,
-    Shape,
-    Shape,
-    &'static [(bool, Shape)],
-    &'static [(u32, u32)],
-);
-
 /// A lamp that is lit or put out by a push where it is powered, persons who move, a push of a thing by itself, and a
 /// move of a place to itself.
-const RULES: [Clause; 6] = [
-    (
-        Kind::Initiates,
-        (b"push", &[0, 1]),
-        (b"lit", &[1]),
-        &[(true, (b"powered", &[1])), (false, (b"lit", &[1]))],
-        &[],
-    ),
-    (
-        Kind::Terminates,
-        (b"push", &[0, 1]),
-        (b"lit", &[1]),
-        &[(true, (b"lit", &[1]))],
-        &[],
-    ),
-    (
-        Kind::Initiates,
-        (b"plug", &[0]),
-        (b"powered", &[0]),
-        &[],
-        &[],
-    ),
-    (
-        Kind::Initiates,
-        (b"move", &[0, 1]),
-        (b"at", &[0, 1]),
-        &[],
-        &[],
-    ),
-    (
-        Kind::Initiates,
-        (b"push", &[0, 1]),
-        (b"moved", &[0]),
-        &[],
-        &[(0, 1)],
-    ),
-    (
-        Kind::Initiates,
-        (b"move", &[0, 0]),
-        (b"still", &[0]),
-        &[],
-        &[],
-    ),
-];
+const RULES: &[u8] = b"initiates push(P,L) lit(L) if powered(L), not lit(L).
+terminates push(P,L) lit(L) if lit(L).
+initiates plug(L) powered(L).
+initiates move(P,Y) at(P,Y).
+initiates push(P,L) moved(P) if P = L.
+initiates move(P,P) still(P).
+";
 
 /// An entry that is wanted: the number of its rule, its kind, its head and its literals.
 type Wanted = (u16, Kind, &'static [u8], &'static [(bool, &'static [u8])]);
@@ -124,74 +73,6 @@ const ROWS: [Row; 7] = [
     (b"push(bob)", &[]),
     (b"ring", &[]),
 ];
-
-fn pattern(rt: &impl Abort, alloc: Global, shape: Shape) -> Result<Pattern, NoMemory> {
-    let (name, variables) = shape;
-    let mut args = PatArgs::new(alloc);
-    for variable in variables {
-        args.push(PatArg::Var(*variable))?;
-    }
-    let name = Name::from_bytes(name).expect(rt, "a name");
-    Ok(Pattern { name, args })
-}
-
-fn literals(
-    rt: &impl Abort,
-    alloc: Global,
-    conditions: &[(bool, Shape)],
-) -> Result<Literals, NoMemory> {
-    let mut literals = Literals::new(alloc);
-    for (positive, prop) in conditions {
-        literals.push(Literal {
-            positive: *positive,
-            prop: pattern(rt, alloc, *prop)?,
-        })?;
-    }
-    Ok(literals)
-}
-
-/// Tests that variables have the same value.
-fn same_values(alloc: Global, same: &[(u32, u32)]) -> Result<Tests, NoMemory> {
-    let mut tests = Tests::new(alloc);
-    for (left, right) in same {
-        tests.push(Test {
-            op: TestOp::Same,
-            left: PatArg::Var(*left),
-            right: PatArg::Var(*right),
-        })?;
-    }
-    Ok(tests)
-}
-
-fn rule(rt: &impl Abort, alloc: Global, clause: &Clause) -> Result<Rule, NoMemory> {
-    let (kind, event, head, conditions, same) = clause;
-    let event = pattern(rt, alloc, *event)?;
-    let head = pattern(rt, alloc, *head)?;
-    let tests = same_values(alloc, *same)?;
-    let literals = literals(rt, alloc, *conditions)?;
-    Ok(Rule {
-        clause: 1,
-        kind: *kind,
-        event,
-        head,
-        tests,
-        literals,
-    })
-}
-
-fn theory(rt: &impl Abort, alloc: Global, clauses: &[Clause]) -> Result<Checked, NoMemory> {
-    let mut rules = Sequence::new(alloc);
-    for clause in clauses {
-        rules.push(rule(rt, alloc, clause)?)?;
-    }
-    let checked = check(Theory {
-        rules,
-        exclusives: Sequence::new(alloc),
-        strongs: Sequence::new(alloc),
-        initials: Sequence::new(alloc),
-    });
-    Ok(checked.ok().expect(rt, "a theory without a fault"))
-}
 
 fn event(rt: &impl Abort, alloc: Global, spelt: &[u8]) -> Result<Event<Tick>, NoMemory> {
     let (term, _) = read_ground(spelt).expect(rt, "a term");
@@ -295,7 +176,7 @@ fn rows_stand(
 
 #[test]
 fn events_have_their_entries(rt: HostRuntime) -> Result<(), Fail> {
-    let checked = theory(&rt, rt.alloc(), &RULES)?;
+    let checked = accept(rt.alloc(), RULES)?;
     // lit(l1), powered(l1), at(bob,home), at(home,home), still(home), lit(l2), powered(l2), moved(l2)
     assert!(rt; rows_stand(&rt, rt.alloc(), &checked, &ROWS, 8)?);
     Ok(())
@@ -385,7 +266,7 @@ fn cases_stand<L: Ledger>(
 
 #[test]
 fn entries_are_active_where_their_literals_agree(rt: HostRuntime) -> Result<(), Fail> {
-    let checked = theory(&rt, rt.alloc(), &RULES)?;
+    let checked = accept(rt.alloc(), RULES)?;
     assert!(rt; cases_stand::<Brand>(&rt, rt.alloc(), &checked, &CASES, Blank::new(1))?);
     Ok(())
 }

@@ -41,7 +41,7 @@ accepted_not_faulty {theory = theory} accepted text (refused.Wrong fault) has is
     let both = sym has.cut ∙ accepted.cut in
     let same : has.tokens ≡ accepted.tokens = cc in
     let theories : has.theory ≡ theory = reading_same has.reads (subst (λ (l : Lexemes). Reads l theory) (sym same) accepted.reads) in
-    let none : first_wrong has.theory ≡ None = ap first_wrong theories ∙ accepted.well_formed in
+    let none : first_wrong has.theory ≡ None = ap first_wrong theories ∙ accepted.well_formed.no_fault in
     let wrong = sym has.wrong ∙ none in cc
 
 -- ---- files

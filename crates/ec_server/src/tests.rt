@@ -1,21 +1,14 @@
 //! Lines through a desk, with ample memory.
 use super::*;
-use ec_check::check;
 use ec_lines::Feed;
 use ec_moment::Tick;
 use ec_outside::MemSink;
-use ec_terms::{Sequence, Theory};
+use ec_theory::accept;
 use std::test::Fail;
 
 #[test]
 fn lines_are_answered_in_order(rt: HostRuntime) -> Result<(), Fail> {
-    let theory = Theory {
-        rules: Sequence::new(rt.alloc()),
-        exclusives: Sequence::new(rt.alloc()),
-        strongs: Sequence::new(rt.alloc()),
-        initials: Sequence::new(rt.alloc()),
-    };
-    let mut desk: Desk<Tick> = Desk::new(rt.alloc(), check(theory)?);
+    let mut desk: Desk<Tick> = Desk::new(rt.alloc(), accept(rt.alloc(), b"")?);
     let mut feed = Feed::new(rt.alloc())?;
     let mut out = MemSink::new(rt.alloc(), 1000, 1000, &[], &[])?;
     let lines =
