@@ -3,6 +3,7 @@ use Rattle.std.proofs.Common.{◌≡◌, ℤ, Bool, ◌&&◌, List, [], ◌∷�
 use Rattle.std.specs.Bool.{beq}
 use Rattle.std.specs.List.{list_all}
 use Rattle.std.specs.Ordering.{int_eq}
+use Rattle.ec_lists.proofs.Integers.{int_eq-is}
 use Rattle.ec_terms.specs.declared.ground.Ground.{Ground}
 use Rattle.ec_terms.specs.declared.theory.Theory.{Theory}
 use Rattle.ec_terms.specs.Term.{term_eq}
@@ -11,7 +12,6 @@ use Rattle.ec_terms.proofs.DomainLemmas.{term_eq-refl}
 use Rattle.ec_axioms.specs.Plain.{events_at}
 use Rattle.ec_axioms.specs.Calculus.{PlainEvent, Effect, Currency, effects_of, effects_at, agrees, is_active, is_current}
 use Rattle.ec_axioms.proofs.Members.{IsMember, IsMember-from_map, IsMember-from_filter, filter_agree, member-list_any}
-use Rattle.ec_axioms.proofs.Ranks.{int_eq-is}
 use Rattle.ec_changes.proofs.JoinedMembers.{IsMember-from_flat_map}
 use Rattle.ec_changes.specs.Differences.{differs, entries_at, reads}
 

@@ -5,6 +5,7 @@ use Rattle.std.specs.List.{list_all}
 use Rattle.std.proofs.lemmas.Bool.{or_left, or_right, cases_Bool, and_parts, and_from, false≢true}
 use Rattle.std.proofs.lemmas.Bool.Decides.{nat_tests}
 use Rattle.std.proofs.lemmas.Int.{ints}
+use Rattle.ec_lists.proofs.Integers.{int_le-same, each_of_stretch}
 use Rattle.ec_terms.specs.declared.ground.Ground.{Ground}
 use Rattle.ec_terms.specs.declared.theory.Theory.{Theory}
 use Rattle.ec_terms.specs.Domain.{is_initial, is_strong}
@@ -13,7 +14,6 @@ use Rattle.ec_axioms.specs.Calculus.{PlainEvent, instants_of, is_current, timeli
 use Rattle.ec_axioms.specs.Marks.{PlainMark, mark_at, is_marked, mark_initiates, mark_terminates, mark_breaks}
 use Rattle.ec_axioms.specs.Changes.{is_history}
 use Rattle.ec_axioms.proofs.Rounds.{is_current-equation}
-use Rattle.ec_axioms.proofs.Ranks.{int_le-same, each_of_stretch}
 use Rattle.ec_axioms.proofs.Members.{filter_none, list_all-member}
 use Rattle.ec_axioms.proofs.Instants.{is_ascending-instants_of}
 use Rattle.ec_axioms.proofs.HistoryMarks.{timeline_of-marks, AreAllMarked-mark_at}

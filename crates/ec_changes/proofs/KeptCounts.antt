@@ -8,6 +8,7 @@ use Rattle.std.proofs.lemmas.Bool.{cases_Bool, cond-true, cond-false, false≢tr
 use Rattle.std.proofs.lemmas.Bool.Decides.{Decides-int_eq}
 use Rattle.std.proofs.lemmas.Int.{ints}
 use Rattle.std.proofs.lemmas.List.Elements.{filter-append}
+use Rattle.ec_lists.proofs.Filters.{filter-filter, filter_comm}
 use Rattle.ec_terms.specs.declared.theory.Theory.{Theory}
 use Rattle.ec_terms.specs.Domain.{GroundLiteral}
 use Rattle.ec_axioms.specs.Plain.{events_at}
@@ -23,11 +24,6 @@ use Rattle.ec_changes.proofs.Tallies.{sum_by-agree, length-by_keys, length-filte
 use Rattle.ec_changes.proofs.Quiet.{IsQuiet-same, stretch-differs, quiet-active, add_step, add_none}
 
 -- ---- filters
-
--- a filter by two tests is one behind the other
-filter-filter_and : {X : Type 0} (p q : X → Bool) (xs : List X) → filter (λ x. p x && q x) xs ≡ filter q (filter p xs)
-filter-filter_and p q [] = refl
-filter-filter_and p q (x ∷ xs) = let rest = filter-filter_and p q xs in grind arith
 
 -- a test that is one of two others, which never both pass, counts as they do together
 length-filter_either : {X : Type 0} (p q either test : X → Bool) (xs : List X) → ((x : X) → either x ≡ (p x || q x)) → ((x : X) → (p x && q x) ≡ false)
@@ -60,7 +56,7 @@ kept_effects_at : (theory : Theory) (old new : List PlainEvent) (test : Effect �
     → filter (λ effect. int_eq effect.event.rank t && test effect) (kept_effects theory old new) ≡ filter test (entries_at theory (kept_events old new) t)
 unfolding kept_effects
 kept_effects_at theory old new test t =
-    filter-filter_and (λ (effect : Effect). int_eq effect.event.rank t) test (flat_map (effects_of theory) (kept_events old new))
+    sym (filter-filter test (λ (effect : Effect). int_eq effect.event.rank t) _ (flat_map (effects_of theory) (kept_events old new)) (λ effect. refl))
     ∙ ap (filter test) (filter-effects_of theory (λ e. int_eq e.rank t) (kept_events old new))
 
 -- ---- counts
@@ -182,12 +178,9 @@ kept_effects-sum theory old new test instants once there =
     length-filter_once int_eq Decides-int_eq instants effect.event.rank once (list_all-member (λ (e : PlainEvent). list_any (int_eq e.rank) instants) (kept_events old new) effect.event there event))
     ∙ sum_by-agree _ _ instants
     (λ t member. ap length
-    (sym (filter-filter_and test (λ (effect : Effect). int_eq effect.event.rank t) (kept_effects theory old new))
-    ∙ filter_agree _ (λ (effect : Effect). int_eq effect.event.rank t && test effect) (kept_effects theory old new) (λ effect own. and_flip (test effect) (int_eq effect.event.rank t))
+    (filter_comm (λ (effect : Effect). int_eq effect.event.rank t) test (kept_effects theory old new)
+    ∙ filter-filter test (λ (effect : Effect). int_eq effect.event.rank t) _ (kept_effects theory old new) (λ effect. refl)
     ∙ kept_effects_at theory old new test t))
-  where
-    and_flip : (a b : Bool) → (a && b) ≡ (b && a)
-    and_flip a b = grind arith
 
 -- the law
 pub CountsAreSums-law : CountsAreSums

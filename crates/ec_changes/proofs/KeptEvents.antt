@@ -5,13 +5,13 @@ use Rattle.std.specs.List.{list_all}
 use Rattle.std.specs.Ordering.{int_eq, is_lt}
 use Rattle.std.proofs.lemmas.Bool.{and_parts, false≢true}
 use Rattle.std.proofs.lemmas.Slice.Eq.{bytes_eq-Decides}
+use Rattle.ec_lists.proofs.Integers.{int_eq-is, int_eq-same, int_lt-same}
 use Rattle.ec_terms.specs.declared.ground.Ground.{Ground}
 use Rattle.std.proofs.lemmas.Cmp.{nat_list_cmp_total, tied_itself}
 use Rattle.ec_terms.specs.Term.{term_eq, name_cmp}
 use Rattle.ec_terms.proofs.OrderLemmas.{term_eq-Decides}
 use Rattle.ec_axioms.specs.Calculus.{PlainEvent}
 use Rattle.ec_axioms.specs.Changes.{comes_before, is_history, event_eq, has_event, kept_events}
-use Rattle.ec_axioms.proofs.Ranks.{int_eq-is, int_eq-same, int_lt-same}
 use Rattle.ec_axioms.proofs.Members.{IsMember, IsMember-filter, IsMember-from_filter, IsPairwise, IsPairwise-filter, list_all-member, list_any-member, member-list_any}
 use Rattle.ec_axioms.proofs.Histories.{comes_before-trans}
 use Rattle.ec_changes.specs.TurnLaws.{KeptIsOfBoth, SameEventsSameHistory}

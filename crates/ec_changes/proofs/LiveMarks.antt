@@ -7,8 +7,9 @@ use Rattle.std.specs.Ordering.{int_eq}
 use Rattle.std.proofs.lemmas.Bool.{cases_Bool, and_parts, or_parts, or_left, or_right, false≢true}
 use Rattle.std.proofs.lemmas.List.{length-map}
 use Rattle.std.proofs.lemmas.List.Concat.{length-flat_map}
-use Rattle.std.proofs.lemmas.List.Filters.{length-filter_both, sum_by-filter_both}
+use Rattle.std.proofs.lemmas.List.Filters.{sum_by-filter_both}
 use Rattle.std.proofs.lemmas.List.Sums.{sum_by-le-sum_by}
+use Rattle.ec_lists.proofs.Filters.{filter_comm, filter-filter_wider, length-filter_le}
 use Rattle.ec_terms.specs.declared.ground.Ground.{Ground}
 use Rattle.ec_terms.specs.declared.theory.Theory.{Theory}
 use Rattle.ec_terms.specs.Term.{term_eq}
@@ -19,10 +20,9 @@ use Rattle.ec_axioms.specs.Timeline.{Timeline, begin_at, is_start, is_current_on
 use Rattle.ec_axioms.specs.Calculus.{PlainEvent, Effect, Currency, effects_of, effects_at, is_active, has_effect, is_initiated, is_current, is_initiating, is_terminating, is_clashing, timeline_by, timeline_of, intervals_of, broken_of}
 use Rattle.ec_axioms.specs.Links.{entry_mentions, event_mentions, mentions_of, is_live}
 use Rattle.ec_axioms.specs.Marks.{PlainMark, mark_at}
-use Rattle.ec_axioms.proofs.Effects.{filter-filter_wider}
 use Rattle.ec_axioms.proofs.Rounds.{is_current-equation}
 use Rattle.ec_axioms.proofs.HistoryMarks.{instant-mark_at}
-use Rattle.ec_axioms.proofs.Members.{IsMember, IsMember-from_map, IsMember-from_filter, filter_agree, filter_comm, filter_none, member-list_any}
+use Rattle.ec_axioms.proofs.Members.{IsMember, IsMember-from_map, IsMember-from_filter, filter_agree, filter_none, member-list_any}
 use Rattle.ec_changes.specs.Differences.{differs, entries_at}
 use Rattle.ec_changes.specs.LiveLaws.{HasLive, neighbour_inits, ClashesAreInitiations, IsUnknown, NotLiveIsUnknown, NotLiveIsGathered, WhatDiffersIsLive, MarksAreSmall}
 use Rattle.ec_changes.proofs.JoinedMembers.{IsMember-from_flat_map, IsMember-flat_map, empty_from_members}
@@ -204,10 +204,6 @@ WhatDiffersIsLive-law theory old new p t differ =
 
 -- ---- how large
 
--- a filter keeps no more than there is
-kept_le : {X : Type 0} (p : X → Bool) (xs : List X) (n : ℕ) → length xs ≤ n → length (filter p xs) ≤ n
-kept_le p xs n few = omega (arith, length-filter_both p (λ x. not (p x)) (λ x. refl) xs)
-
 -- entries of some events are no more than the mentions of all
 length-entries_at_le : (theory : Theory) (events : List PlainEvent) (t : ℤ) → length (entries_at theory events t) ≤ length (mentions_of theory events)
 unfolding mentions_of effects_of
@@ -232,7 +228,9 @@ length-effects_at_le : (theory : Theory) (events : List PlainEvent) (current : C
     → length (effects_at theory events current wanted t) ≤ length (mentions_of theory events)
 unfolding effects_at
 length-effects_at_le theory events current wanted t =
-    kept_le (is_active current) _ _ (kept_le (λ (effect : Effect). wanted effect.entry) (entries_at theory events t) _ (length-entries_at_le theory events t))
+    let all = entries_at theory events t in
+    let chosen = filter (λ (effect : Effect). wanted effect.entry) all in
+    omega (arith, length-filter_le (is_active current) chosen, length-filter_le (λ (effect : Effect). wanted effect.entry) all, length-entries_at_le theory events t)
 
 -- the law
 pub MarksAreSmall-law : MarksAreSmall

@@ -4,6 +4,8 @@ use Rattle.std.specs.Prelude.{int_lt, int_le}
 use Rattle.std.specs.Ordering.{int_eq}
 use Rattle.std.proofs.lemmas.Bool.{false_from_ne_true, cases_Bool, false≢true, not_from_false}
 use Rattle.std.proofs.lemmas.Int.{ints}
+use Rattle.ec_lists.proofs.Integers.{int_le-from, int_lt-not_after, int_lt-same}
+use Rattle.ec_lists.proofs.Filters.{filter_comm, filter-filter_wider}
 use Rattle.ec_terms.specs.declared.ground.Ground.{Ground}
 use Rattle.ec_terms.specs.declared.theory.Theory.{Theory}
 use Rattle.ec_terms.specs.Domain.{GroundEntry}
@@ -12,13 +14,12 @@ use Rattle.ec_axioms.specs.Timeline.{is_start}
 use Rattle.ec_axioms.specs.Calculus.{PlainEvent, instants_of, effects_at, is_initiated, has_break, is_current, timeline_by, timeline_of}
 use Rattle.ec_axioms.specs.Marks.{PlainMark, mark_at, marks_of, is_marked}
 use Rattle.ec_axioms.specs.Changes.{is_history, has_event, kept_events, events_only_in}
-use Rattle.ec_axioms.proofs.Effects.{filter-filter_wider, is_initiated-same, has_break-same}
+use Rattle.ec_axioms.proofs.Effects.{is_initiated-same, has_break-same}
 use Rattle.ec_axioms.proofs.Rounds.{is_current-past, effects_at-past, is_current-equation}
-use Rattle.ec_axioms.proofs.Ranks.{le_int_le, int_lt-not_after, int_lt-same}
-use Rattle.ec_axioms.proofs.Members.{IsMember, IsMember-filter, IsMember-from_filter, IsMember-from_map, IsPairwise, IsPairwise-filter, IsPairwise-map, IsPairwise-weaker, filter_all, filter_comm, list_all-member}
+use Rattle.ec_axioms.proofs.Members.{IsMember, IsMember-filter, IsMember-from_filter, IsMember-from_map, IsPairwise, IsPairwise-filter, IsPairwise-map, IsPairwise-weaker, filter_all, list_all-member, IsMember-map, IsMember-append_right}
 use Rattle.ec_axioms.proofs.Instants.{IsPairwise-from_ascending, is_ascending-instants_of}
 use Rattle.ec_axioms.proofs.HistoryMarks.{instant-mark_at, AreAllMarked-mark_at}
-use Rattle.ec_changes.proofs.JoinedMembers.{IsMember-map, IsMember-append_left, IsMember-append_right}
+use Rattle.ec_changes.proofs.JoinedMembers.{IsMember-append_left}
 use Rattle.ec_changes.specs.QuietLaws.{single_events, EventsStay, PastStays, DifferFrom, marks_before}
 use Rattle.ec_changes.proofs.Activity.{is_active-each}
 use Rattle.ec_changes.proofs.KeptEvents.{kept_events-both, same_from_members}
@@ -163,7 +164,7 @@ PastStays-law theory old new t history_old history_new late = record {
     same = events_before-same old new t history_old history_new late
 
     current : (p : Ground) (s : ℤ) → s ≤ℤ t → is_current theory old p s ≡ is_current theory new p s
-    current p s within = is_current-past theory old new t s p same (le_int_le s t within)
+    current p s within = is_current-past theory old new t s p same (int_le-from s t within)
 
     effects : (s : ℤ) → s <ℤ t → (wanted : GroundEntry → Bool)
         → effects_at theory old (is_current theory old) wanted s ≡ effects_at theory new (is_current theory new) wanted s

@@ -7,6 +7,7 @@ use Rattle.std.specs.Ordering.{int_eq}
 use Rattle.std.proofs.lemmas.Bool.{cond-false, cases_Bool, false≢true}
 use Rattle.std.proofs.lemmas.Bool.Decides.{nat_tests}
 use Rattle.std.proofs.lemmas.Int.{ints}
+use Rattle.ec_lists.proofs.Integers.{int_lt-next}
 use Rattle.ec_terms.specs.declared.ground.Ground.{Ground}
 use Rattle.ec_terms.specs.declared.theory.Theory.{Theory}
 use Rattle.ec_terms.specs.Domain.{GroundEntry, is_initial, is_strong}
@@ -14,7 +15,6 @@ use Rattle.ec_axioms.specs.Calculus.{PlainEvent, Effect, Currency, effects_at, i
 use Rattle.ec_axioms.specs.Marks.{PlainMark, mark_at, is_marked, mark_initiates, mark_breaks}
 use Rattle.ec_axioms.proofs.Effects.{any_before, any_before-same, breaks_between, current_by, is_current_on-by, effects_at-events, effects_at-none}
 use Rattle.ec_axioms.proofs.Rounds.{is_current-equation}
-use Rattle.ec_axioms.proofs.Ranks.{int_lt-next}
 use Rattle.ec_axioms.proofs.LastInstant.{is_current-last}
 use Rattle.ec_axioms.proofs.Members.{IsMember-from_contains, IsMember, filter_none, list_any-false}
 use Rattle.ec_changes.specs.Differences.{differs, entries_at, reads, IsQuiet, IsQuietStretch}

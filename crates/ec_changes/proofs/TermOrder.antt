@@ -6,6 +6,7 @@ use Rattle.std.specs.declared.cmp.Ordering.{Ordering}
 use Rattle.std.specs.declared.cmp.Ordering.TheVariants.{Less, Equal, Greater}
 use Rattle.std.proofs.lemmas.Bool.{cond_both, false≢true, false_from_ne_true}
 use Rattle.std.proofs.lemmas.Cmp.{tied_itself}
+use Rattle.ec_lists.proofs.Orderings.{Less-from_is_lt}
 use Rattle.ec_terms.specs.declared.ground.Ground.{Ground}
 use Rattle.ec_terms.specs.Term.{term_eq, term_cmp}
 use Rattle.ec_terms.proofs.OrderLemmas.{term_cmp-total, term_cmp-Equal, term_eq-Decides}
@@ -24,15 +25,6 @@ IsBelow-itself p below = let same = tied_itself term_cmp-total p in let apart : 
 -- of two not both are below the other
 IsBelow-one_way : (p q : Ground) → IsBelow p q → IsBelow q p → ⊥
 IsBelow-one_way p q below above = IsBelow-itself p (term_cmp-total.trans p q p below above)
-
--- the test of the order
-below_from : (p q : Ground) → IsTrue (is_lt (term_cmp p q)) → IsBelow p q
-below_from p q below = by_order (term_cmp p q) below
-  where
-    by_order : (r : Ordering) → IsTrue (is_lt r) → r ≡ Less
-    by_order Less lt = refl
-    by_order Equal lt = absurd (false≢true lt)
-    by_order Greater lt = absurd (false≢true lt)
 
 -- a property that is not another, and not below it, is above it
 above_from : (p q : Ground) → IsFalse (term_eq p q) → IsFalse (is_lt (term_cmp p q)) → IsBelow q p
@@ -80,7 +72,7 @@ IsPairwise-with_property p (r ∷ properties) ascend =
     (λ different. cond_both (is_lt (term_cmp p r)) (p ∷ r ∷ properties) (r ∷ with_property p properties)
     (IsPairwise IsBelow)
     (λ below.
-    let first : IsBelow p r = below_from p r below in
+    let first : IsBelow p r = Less-from_is_lt (term_cmp p r) below in
     (λ q. ⊎_elim (λ same. subst (IsBelow p) same first) (λ later. term_cmp-total.trans p r q first (ascend.0 q later)), ascend))
     (λ not_below. (
       λ q member. ⊎_elim (λ new. subst (IsBelow r) new (above_from p r different not_below)) (λ old. ascend.0 q old) (IsMember-from_with_property p properties q member),
@@ -141,7 +133,7 @@ length-filter-with_property test p (r ∷ properties) ascend =
     (λ different. cond_both (is_lt (term_cmp p r)) (p ∷ r ∷ properties) (r ∷ with_property p properties)
     (λ list. length (filter test list) ≡ length (filter test (r ∷ properties)) + cond (term_eq p r || list_any (term_eq p) properties) 0 (cond (test p) 1 0))
     (λ below.
-    let first : IsBelow p r = below_from p r below in
+    let first : IsBelow p r = Less-from_is_lt (term_cmp p r) below in
     let absent = not_below_all p properties (λ q later. term_cmp-total.trans p r q first (ascend.0 q later)) in
     let nowhere : (term_eq p r || list_any (term_eq p) properties) ≡ false = grind arith in grind arith)
     (λ not_below. let rest = length-filter-with_property test p properties ascend.1 in grind arith))

@@ -4,13 +4,14 @@ use Rattle.std.specs.List.{sum_by}
 use Rattle.std.specs.Bool.{beq}
 use Rattle.std.specs.Ordering.{int_eq}
 use Rattle.std.proofs.lemmas.List.Filters.{sum_by-filter_both}
+use Rattle.ec_lists.proofs.Filters.{filter_comm}
 use Rattle.ec_terms.specs.declared.theory.Theory.{Theory}
 use Rattle.ec_terms.specs.Domain.{GroundLiteral, GroundEntry}
 use Rattle.ec_axioms.specs.Plain.{events_at}
 use Rattle.ec_axioms.specs.Calculus.{PlainEvent, Currency, is_active, effects_at, is_current, is_initiating, is_terminating, is_clashing}
 use Rattle.ec_axioms.specs.Marks.{mark_at}
 use Rattle.ec_axioms.specs.Changes.{has_event, kept_events, events_only_in, sees_change}
-use Rattle.ec_axioms.proofs.Members.{filter_comm, list_any-false, list_any-member, member-list_any}
+use Rattle.ec_axioms.proofs.Members.{list_any-false, list_any-member, member-list_any}
 use Rattle.ec_changes.specs.Differences.{differs, reads}
 use Rattle.ec_changes.specs.Turns.{kept_entries_at, gained, lost}
 use Rattle.ec_terms.specs.Term.{term_eq}

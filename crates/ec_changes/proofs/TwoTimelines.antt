@@ -4,8 +4,8 @@ use Rattle.std.specs.Prelude.{int_lt, int_le}
 use Rattle.std.specs.List.{cons_option}
 use Rattle.std.proofs.lemmas.Bool.{cases_Bool, and_parts, false≢true}
 use Rattle.std.proofs.lemmas.Int.{ints}
+use Rattle.ec_lists.proofs.Integers.{int_lt-same, int_lt-not_after, int_le-not_before}
 use Rattle.ec_axioms.specs.Timeline.{Timeline, Begin, begin_at, is_current_on, is_start, initial_begins, begins_of, next_break, interval_from, broken_from, intervals_on, broken_on}
-use Rattle.ec_axioms.proofs.Ranks.{int_lt-same, int_lt-not_after, int_le-not_before}
 use Rattle.ec_axioms.proofs.Members.{IsMember, IsMember-filter, IsMember-from_filter, IsPairwise-filter}
 use Rattle.ec_axioms.proofs.Instants.{is_ascending, IsPairwise-from_ascending}
 use Rattle.ec_axioms.proofs.TimelineLaws.{IsBegin, IsBegin-from_member, next_break-is, broken_between, next_break-least}
