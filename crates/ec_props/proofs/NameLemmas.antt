@@ -10,7 +10,7 @@ use Rattle.ec_terms.specs.declared.ground.ArgRef.{ArgRef}
 use Rattle.ec_terms.specs.declared.ground.GroundRef.{GroundRef}
 use Rattle.ec_terms.specs.Term.{arg_of, ground_of, is_argument, names_are_names}
 use Rattle.ec_terms.proofs.Names.{is_name-bytes}
-use Rattle.ec_terms.proofs.Runs.{take_while-all, take_while-is_take}
+use Rattle.ec_lists.proofs.Fronts.{take_while-all, take_while-is_take}
 
 -- a name is its own run
 run-whole : (bytes : List ℕ) → is_name bytes ≡ true → name_run bytes ≡ bytes
