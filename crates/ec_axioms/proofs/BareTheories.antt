@@ -1,8 +1,7 @@
 -- Rules and declarations without arguments can be matched.
-use Rattle.std.proofs.Common.{◌≡◌, ◌≤◌, ◌++◌, ◌∷◌, [], Bool, List, Result, Ok, Err, OnOk, OnErr, true, length, IsTrue, refl, sym, ap, subst, arith}
+use Rattle.std.proofs.Common.{◌≡◌, ◌++◌, ◌∷◌, [], List, Result, Ok, Err, OnOk, OnErr, length, sym, ap, subst, arith}
 use Rattle.std.specs.List.{All, list_all}
-use Rattle.std.proofs.lemmas.List.Elements.{All-push, All-from_get_or}
-use Rattle.ec_terms.specs.declared.pattern.PatArg.{PatArg}
+use Rattle.std.proofs.lemmas.List.Elements.{All-push}
 use Rattle.ec_terms.specs.declared.pattern.Pattern.{Pattern}
 use Rattle.ec_terms.specs.Binding.{IsSmall, is_small_place}
 use Rattle.ec_terms.specs.Matchable.{IsGiven, is_given_place}

@@ -1,7 +1,6 @@
 -- What the events at an instant do to a property, rule by rule.
-use Rattle.std.proofs.Common.{◌≡◌, ℕ, ◌+◌, ◌<◌, ◌≤◌, ◌∷◌, [], ◌++◌, Bool, List, ℤ, Option, Some, None, true, false, not, ◌&&◌, ◌||◌, length, get_or, take, filter, flat_map, map, IsTrue, inl, inr, refl, sym, ap, ap₂, ◌∙◌, arith}
+use Rattle.std.proofs.Common.{◌≡◌, ℕ, ◌+◌, ◌<◌, ◌≤◌, ◌∷◌, [], Bool, List, ℤ, Option, Some, None, true, false, not, ◌&&◌, ◌||◌, length, get_or, take, filter, flat_map, map, IsTrue, inl, inr, refl, sym, ap, ap₂, ◌∙◌, arith}
 use mathlib.Core.Path.{fun_ext}
-use Rattle.std.specs.Prelude.{nat_lt}
 use Rattle.std.specs.List.{list_any, list_all, cons_option}
 use Rattle.std.specs.Option.{option_map_or}
 use Rattle.std.specs.Ordering.{int_eq}
@@ -15,7 +14,7 @@ use Rattle.ec_terms.specs.declared.theory.Theory.{Theory}
 use Rattle.ec_terms.specs.Domain.{GroundEntry, GroundLiteral, entry_of, entries_from, entries_of, ground_literal_of, is_strong, meets}
 use Rattle.ec_terms.specs.Matching.{Values, binding_of, filled, fits_some, test_holds}
 use Rattle.ec_terms.specs.Term.{term_eq, is_argument, names_are_names}
-use Rattle.ec_terms.proofs.OrderLemmas.{term_eq-Decides}
+use Rattle.ec_terms.proofs.DomainLemmas.{term_eq-refl}
 use Rattle.std.proofs.lemmas.Bool.{cases_Bool, and_parts, and_from, or_from, not-true, not-false}
 use Rattle.std.proofs.lemmas.List.{length-map, take_all}
 use Rattle.std.proofs.lemmas.List.Folds.{list_any_at, list_any_more, list_all_at, list_all_more, list_all-map}
@@ -23,42 +22,12 @@ use Rattle.std.proofs.Math.ListN.{get_or-map}
 use Rattle.ec_terms.specs.declared.ground.Arg.{Arg}
 use Rattle.ec_terms.specs.declared.ground.Arg.TheVariants.{Int, Word}
 use Rattle.ec_terms.specs.Term.{is_argument, names_are_names}
+use Rattle.ec_lists.proofs.Tests.{nat_lt-filter, list_any-filter, list_any-flat_map, list_any-map, list_any-or, list_any-and, list_any-same}
 use Rattle.ec_axioms.specs.declared.currency.Change.{Change}
 use Rattle.ec_axioms.specs.declared.currency.Change.TheVariants.{Initiation, Termination, Break}
 use Rattle.ec_axioms.specs.Calculus.{PlainEvent, Currency, effects_of, effects_at, agrees, is_active, is_current, has_effect, has_break, is_initiating, is_terminating, is_clashing}
 use Rattle.ec_axioms.specs.Plain.{events_at, would_change, does_change, does_change_by, changes_at}
-use Rattle.ec_axioms.proofs.Members.{list_any-filter}
-use Rattle.ec_axioms.proofs.Ranks.{int_eq-is}
-
--- ---- lists
-
-nat_lt-filter : {A : Type 0} (p : A → Bool) (xs : List A) → nat_lt 0 (length (filter p xs)) ≡ list_any p xs
-nat_lt-filter p [] = refl
-nat_lt-filter p (x ∷ xs) = let ih = nat_lt-filter p xs in grind arith
-
-list_any-append : {A : Type 0} (f : A → Bool) (xs ys : List A) → list_any f (xs ++ ys) ≡ (list_any f xs || list_any f ys)
-list_any-append f [] ys = refl
-list_any-append f (x ∷ xs) ys = let ih = list_any-append f xs ys in grind arith
-
-list_any-flat_map : {A B : Type 0} (f : B → Bool) (g : A → List B) (xs : List A) → list_any f (flat_map g xs) ≡ list_any (λ x. list_any f (g x)) xs
-list_any-flat_map f g [] = refl
-list_any-flat_map f g (x ∷ xs) = list_any-append f (g x) (flat_map g xs) ∙ ap (λ b. list_any f (g x) || b) (list_any-flat_map f g xs)
-
-pub list_any-map : {A B : Type 0} (f : B → Bool) (g : A → B) (xs : List A) → list_any f (map g xs) ≡ list_any (λ x. f (g x)) xs
-list_any-map f g [] = refl
-list_any-map f g (x ∷ xs) = ap (λ b. f (g x) || b) (list_any-map f g xs)
-
-list_any-or : {A : Type 0} (f g : A → Bool) (xs : List A) → (list_any f xs || list_any g xs) ≡ list_any (λ x. f x || g x) xs
-list_any-or f g [] = refl
-list_any-or f g (x ∷ xs) = let ih = list_any-or f g xs in grind arith
-
-list_any-and : {A : Type 0} (b : Bool) (f : A → Bool) (xs : List A) → (b && list_any f xs) ≡ list_any (λ x. b && f x) xs
-list_any-and true f xs = refl
-list_any-and false f [] = refl
-list_any-and false f (x ∷ xs) = list_any-and false f xs
-
-list_any-same : {A : Type 0} (f g : A → Bool) (xs : List A) → ((x : A) → f x ≡ g x) → list_any f xs ≡ list_any g xs
-list_any-same f g xs same = ap (λ h. list_any h xs) (fun_ext same)
+use Rattle.ec_lists.proofs.Integers.{int_eq-is}
 
 -- tests that agree on events at t
 list_any-at : (f g : PlainEvent → Bool) (t : ℤ) (events : List PlainEvent) → ((e : PlainEvent) → e.rank ≡ t → f e ≡ g e) →
@@ -97,8 +66,9 @@ some_effect-or : (theory : Theory) (events : List PlainEvent) (current : Currenc
 unfolding some_effect
 some_effect-or theory events current t v w =
     list_any-or _ _ (events_at t events)
-    ∙ list_any-same _ _ (events_at t events)
-    (λ e. list_any-or _ _ (entries_of theory e.term) ∙ list_any-same _ _ (entries_of theory e.term) (λ entry. split (v entry) (w entry) (list_all (agrees current t) entry.literals)))
+    ∙ list_any-same _ _
+    (λ e. list_any-or _ _ (entries_of theory e.term) ∙ list_any-same _ _ (λ entry. split (v entry) (w entry) (list_all (agrees current t) entry.literals)) (entries_of theory e.term))
+    (events_at t events)
   where
     split : (x y z : Bool) → ((x && z) || (y && z)) ≡ ((x || y) && z)
     split x y z = grind arith
@@ -109,8 +79,9 @@ some_effect-and : (theory : Theory) (events : List PlainEvent) (current : Curren
 unfolding some_effect
 some_effect-and theory events current t b w =
     list_any-and b _ (events_at t events)
-    ∙ list_any-same _ _ (events_at t events)
-    (λ e. list_any-and b _ (entries_of theory e.term) ∙ list_any-same _ _ (entries_of theory e.term) (λ entry. regroup b (w entry) (list_all (agrees current t) entry.literals)))
+    ∙ list_any-same _ _
+    (λ e. list_any-and b _ (entries_of theory e.term) ∙ list_any-same _ _ (λ entry. regroup b (w entry) (list_all (agrees current t) entry.literals)) (entries_of theory e.term))
+    (events_at t events)
   where
     regroup : (x y z : Bool) → (x && (y && z)) ≡ ((x && y) && z)
     regroup x y z = grind arith
@@ -120,10 +91,6 @@ some_effect-same : (theory : Theory) (events : List PlainEvent) (current : Curre
 some_effect-same theory events current t v w same = ap (some_effect theory events current t) (fun_ext same)
 
 -- ---- the changes by kind and head
-
--- a term is the same as itself
-term_eq-refl : (p : Ground) → term_eq p p ≡ true
-term_eq-refl p = (term_eq-Decides p p).1 refl
 
 would-Initiation : (theory : Theory) (p : Ground) (entry : GroundEntry) → is_initiating p entry ≡ would_change theory p Initiation entry.kind entry.head
 unfolding is_initiating
@@ -213,7 +180,7 @@ pub changes_at-events : (theory : Theory) (events : List PlainEvent) (p : Ground
     list_any (λ (e : PlainEvent). list_any (does_change_by theory events p change t e.term) theory.rules) (events_at t events) ≡ changes_at theory events p change t
 unfolding some_effect
 changes_at-events theory events p change t =
-    list_any-same _ _ (events_at t events) (λ e. sym (list_any-entries_from theory events p change t e.term 1 theory.rules))
+    list_any-same _ _ (λ e. sym (list_any-entries_from theory events p change t e.term 1 theory.rules)) (events_at t events)
     ∙ sym (changes_at-some theory events p change t)
 
 -- ---- one rule

@@ -4,7 +4,6 @@ use Rattle.std.specs.Prelude.{int_lt, nat_lt}
 use Rattle.std.specs.List.{list_any, list_all}
 use Rattle.std.specs.Ordering.{int_eq}
 use Rattle.std.specs.Bool.{beq}
-use Rattle.std.proofs.lemmas.Int.{ints}
 use Rattle.std.proofs.lemmas.List.Elements.{filter-append}
 use Rattle.ec_terms.specs.declared.ground.Ground.{Ground}
 use Rattle.ec_terms.specs.declared.theory.Theory.{Theory}
@@ -12,15 +11,11 @@ use Rattle.ec_terms.specs.Domain.{GroundLiteral, GroundEntry, entries_of, is_ini
 use Rattle.ec_axioms.specs.Laws.{events_before}
 use Rattle.ec_axioms.specs.Timeline.{Timeline, is_current_on, instants_before, instants_between, carries, carries_initially}
 use Rattle.ec_axioms.specs.Calculus.{PlainEvent, Effect, Currency, with_instant, instants_of, effects_of, agrees, is_active, effects_at, is_initiating, is_terminating, is_clashing, has_effect, is_initiated, has_break, timeline_by}
-use Rattle.ec_axioms.proofs.Members.{list_any-filter}
-use Rattle.ec_axioms.proofs.Ranks.{int_eq-is}
+pub use Rattle.ec_lists.proofs.Filters.{filter-filter_wider}
+use Rattle.ec_lists.proofs.Tests.{list_any-filter}
+use Rattle.ec_lists.proofs.Integers.{int_eq-is}
 
--- ---- lists
-
--- two filters, the first of which keeps all that the second keeps
-pub filter-filter_wider : {A : Type 0} (q p : A → Bool) (xs : List A) → ((x : A) → q x ≡ true → p x ≡ true) → filter q (filter p xs) ≡ filter q xs
-filter-filter_wider q p [] wider = refl
-filter-filter_wider q p (x ∷ xs) wider = let ih = filter-filter_wider q p xs wider in let here = wider x in grind arith
+-- ---- instants
 
 -- a test among the instants with one more
 list_any-with_instant : (f : ℤ → Bool) (t : ℤ) (us : List ℤ) → list_any f (with_instant t us) ≡ (f t || list_any f us)

@@ -1,40 +1,15 @@
 -- A property is broken wherever one that is exclusive to it begins, in both directions.
-use Rattle.std.proofs.Common.{◌≡◌, ℤ, Bool, not, ◌&&◌, ◌||◌, List, filter, flat_map, IsTrue, ap₂, sym, subst, arith}
-use Rattle.std.specs.List.{list_any}
+use Rattle.std.proofs.Common.{◌≡◌, ℤ, Bool, List, filter, flat_map, IsTrue, sym, subst, arith}
 use Rattle.std.specs.Ordering.{int_eq}
-use Rattle.std.proofs.lemmas.Bool.Decides.{same_from_decides, Decides-like}
 use Rattle.std.proofs.lemmas.Bool.{and_parts, and_from}
-use mathlib.Core.Path.{fun_ext}
 use Rattle.ec_terms.specs.declared.ground.Ground.{Ground}
-use Rattle.ec_terms.specs.declared.theory.Exclusive.{Exclusive}
 use Rattle.ec_terms.specs.declared.theory.Theory.{Theory}
 use Rattle.ec_terms.specs.Term.{term_eq}
-use Rattle.ec_terms.specs.Domain.{GroundEntry, are_exclusive, excludes, both_fit}
+use Rattle.ec_terms.specs.Domain.{GroundEntry, are_exclusive}
 use Rattle.ec_axioms.specs.Calculus.{PlainEvent, Effect, Currency, effects_of, effects_at, has_effect, has_break, is_active, is_initiated, timeline_by, timeline_of, is_current, is_initiating, is_clashing}
 use Rattle.ec_axioms.proofs.Members.{IsMember-filter, IsMember-from_filter, length_member, member_length}
 use Rattle.ec_axioms.proofs.TimelineLaws.{IsBrokenBy, initiated_at}
 use Rattle.ec_terms.proofs.OrderLemmas.{term_eq-Decides}
-
--- ---- exclusive properties
-
--- terms are the same in either order
-term_eq-comm : (p q : Ground) → term_eq p q ≡ term_eq q p
-term_eq-comm p q = same_from_decides (term_eq p q) (term_eq q p) (term_eq-Decides p q) (Decides-like (term_eq q p) sym sym (term_eq-Decides q p))
-
--- one or the other, in either order
-or_comm : (a b : Bool) → (a || b) ≡ (b || a)
-or_comm a b = grind arith
-
--- a declaration speaks of two properties in either order
-excludes-comm : (p q : Ground) (declaration : Exclusive) → excludes p q declaration ≡ excludes q p declaration
-unfolding excludes
-excludes-comm p q declaration = or_comm (both_fit declaration.left declaration.right p q) (both_fit declaration.left declaration.right q p)
-
--- two properties are exclusive in either order
-pub are_exclusive-comm : (theory : Theory) (p q : Ground) → are_exclusive theory p q ≡ are_exclusive theory q p
-unfolding are_exclusive
-are_exclusive-comm theory p q =
-    ap₂ (λ same test. not same && list_any test theory.exclusives) (term_eq-comm p q) (fun_ext (excludes-comm p q))
 
 -- ---- clashes
 

@@ -1,54 +1,22 @@
 -- A history stays one under updates: an event of a new identity in its place, or an event less.
 use Rattle.std.proofs.Common.{◌≡◌, ℕ, Bool, true, false, cond, not, ◌&&◌, ◌||◌, List, [], ◌∷◌, ◌⊎◌, ℤ, IsTrue, IsFalse, refl, sym, ap, subst, ◌∙◌, inl, inr, ⊎_elim}
 use Rattle.std.specs.Prelude.{int_lt, filter, bytes_eq}
-use Rattle.std.specs.List.{list_any, list_all}
+use Rattle.std.specs.List.{list_all}
 use Rattle.std.specs.Ordering.{int_eq, is_lt, ordering_reverse}
 use Rattle.std.specs.declared.cmp.Ordering.{Ordering}
 use Rattle.std.specs.declared.cmp.Ordering.TheVariants.{Less, Equal, Greater}
 use Rattle.std.proofs.lemmas.Cmp.{nat_list_cmp_total}
 use Rattle.std.specs.FinMap.{nat_cmp-IsAntisymmetric, slice_cmp-IsAntisymmetric}
-use Rattle.std.proofs.lemmas.Bool.{cases_Bool, and_parts, and_from, false≢true}
+use Rattle.std.proofs.lemmas.Bool.{and_parts, and_from, or_cases, or_parts, or_from, or_left, or_right, not-true, not_from_false, false≢true}
 use Rattle.std.proofs.lemmas.Slice.Eq.{bytes_eq-Decides}
+use Rattle.ec_lists.proofs.Numbers.{bytes_eq_comm}
+use Rattle.ec_lists.proofs.Orderings.{Less-from_is_lt}
+use Rattle.ec_lists.proofs.Tests.{list_any-filter_none}
 use Rattle.ec_terms.specs.Term.{name_cmp}
 use Rattle.ec_axioms.specs.Calculus.{PlainEvent}
 use Rattle.ec_axioms.specs.Changes.{has_id, comes_before, is_history, with_event, without_event}
-use Rattle.ec_axioms.proofs.Ranks.{int_lt-trans, int_eq-is, int_eq-same, cases_int}
+use Rattle.ec_lists.proofs.Integers.{int_lt-trans, int_eq-is, int_eq-same, cases_int}
 use Rattle.ec_axioms.proofs.Members.{list_all-member, list_all-from_members, IsMember-from_filter}
-
--- ---- tests
-
-or_cases : (x y : Bool) → IsTrue (x || y) → IsTrue x ⊎ IsTrue y
-or_cases true y some = inl refl
-or_cases false y some = inr some
-
-or_left : (x y : Bool) → IsTrue x → IsTrue (x || y)
-or_left true y left = refl
-or_left false y left = absurd (false≢true left)
-
-or_right : (x y : Bool) → IsTrue y → IsTrue (x || y)
-or_right true y right = refl
-or_right false y right = right
-
-or_none : (x y : Bool) → IsFalse (x || y) → IsFalse x × IsFalse y
-or_none true y none = absurd (false≢true (sym none))
-or_none false y none = (refl, none)
-
-or_false : (x y : Bool) → IsFalse x → IsFalse y → IsFalse (x || y)
-or_false true y none_x none_y = none_x
-or_false false y none_x none_y = none_y
-
-not_false : (x : Bool) → IsFalse x → IsTrue (not x)
-not_false true none = absurd (false≢true (sym none))
-not_false false none = refl
-
-not_true : (x : Bool) → IsTrue (not x) → IsFalse x
-not_true true none = absurd (false≢true none)
-not_true false none = refl
-
-is_lt-Less : (r : Ordering) → IsTrue (is_lt r) → r ≡ Less
-is_lt-Less Less lt = refl
-is_lt-Less Equal lt = absurd (false≢true lt)
-is_lt-Less Greater lt = absurd (false≢true lt)
 
 -- ---- the order of events
 
@@ -59,7 +27,7 @@ IsBefore e f = IsTrue (int_lt e.rank f.rank) ⊎ ((e.rank ≡ f.rank) × (name_c
 IsBefore-from : (e f : PlainEvent) → IsTrue (comes_before e f) → IsBefore e f
 unfolding comes_before
 IsBefore-from e f before =
-    ⊎_elim inl (λ at_once. let parts = and_parts (int_eq e.rank f.rank) (is_lt (name_cmp e.id f.id)) at_once in inr (int_eq-is e.rank f.rank parts.0, is_lt-Less (name_cmp e.id f.id) parts.1))
+    ⊎_elim inl (λ at_once. let parts = and_parts (int_eq e.rank f.rank) (is_lt (name_cmp e.id f.id)) at_once in inr (int_eq-is e.rank f.rank parts.0, Less-from_is_lt (name_cmp e.id f.id) parts.1))
     (or_cases (int_lt e.rank f.rank) (int_eq e.rank f.rank && is_lt (name_cmp e.id f.id)) before)
 
 comes_before-from : (e f : PlainEvent) → IsBefore e f → IsTrue (comes_before e f)
@@ -103,14 +71,14 @@ comes_before-total e f different not_before = comes_before-from f e (by_rank (ca
 pub has_id-with_event : (id : List ℕ) (e : PlainEvent) (events : List PlainEvent) → IsFalse (bytes_eq e.id id) → IsFalse (has_id id events)
     → IsFalse (has_id id (with_event e events))
 unfolding has_id with_event
-has_id-with_event id e [] other absent = or_false (bytes_eq e.id id) false other refl
+has_id-with_event id e [] other absent = or_from (bytes_eq e.id id) false other refl
 has_id-with_event id e (f ∷ events) other absent =
-    by_place (comes_before e f) (has_id-with_event id e events other (or_none (bytes_eq f.id id) (has_id id events) absent).1)
+    by_place (comes_before e f) (has_id-with_event id e events other (or_parts (bytes_eq f.id id) (has_id id events) absent).1)
   where
     by_place : (before : Bool) → IsFalse (has_id id (with_event e events)) → IsFalse (has_id id (cond before (e ∷ f ∷ events) (f ∷ with_event e events)))
-    by_place true rest = or_false (bytes_eq e.id id) (bytes_eq f.id id || has_id id events) other absent
+    by_place true rest = or_from (bytes_eq e.id id) (bytes_eq f.id id || has_id id events) other absent
     by_place false rest =
-        or_false (bytes_eq f.id id) (has_id id (with_event e events)) (or_none (bytes_eq f.id id) (has_id id events) absent).0 rest
+        or_from (bytes_eq f.id id) (has_id id (with_event e events)) (or_parts (bytes_eq f.id id) (has_id id events) absent).0 rest
 
 -- what passes at the event and at each of a list passes at each of the list with the event
 pub list_all-with_event : (p : PlainEvent → Bool) (e : PlainEvent) (events : List PlainEvent) → IsTrue (p e) → IsTrue (list_all p events)
@@ -125,30 +93,15 @@ list_all-with_event p e (f ∷ events) here all =
     by_place true parts rest = and_from (p e) (p f && list_all p events) here all
     by_place false parts rest = and_from (p f) (list_all p (with_event e events)) parts.0 rest
 
--- what fails at each of a list fails at each of a part of it
-filter_absent : (p q : PlainEvent → Bool) (events : List PlainEvent) → IsFalse (list_any p events) → IsFalse (list_any p (filter q events))
-filter_absent p q [] none = none
-filter_absent p q (f ∷ events) none = by_test (q f) (filter_absent p q events (or_none (p f) (list_any p events) none).1)
-  where
-    by_test : (keeps : Bool) → IsFalse (list_any p (filter q events)) → IsFalse (list_any p (cond keeps (f ∷ filter q events) (filter q events)))
-    by_test true rest = or_false (p f) (list_any p (filter q events)) (or_none (p f) (list_any p events) none).0 rest
-    by_test false rest = rest
-
--- the identities differ the other way round too
-other_id : (e f : PlainEvent) → IsFalse (bytes_eq f.id e.id) → IsFalse (bytes_eq e.id f.id)
-other_id e f differ =
-    ⊎_elim (λ same. absurd (false≢true (sym differ ∙ (bytes_eq-Decides f.id e.id).1 (sym ((bytes_eq-Decides e.id f.id).0 same))))) (λ differ. differ)
-    (cases_Bool (bytes_eq e.id f.id))
-
 -- an identity that is absent from a list is not that of its first event, and is absent from the rest
 absent_parts : (id : List ℕ) (f : PlainEvent) (events : List PlainEvent) → IsFalse (has_id id (f ∷ events)) → IsFalse (bytes_eq f.id id) × IsFalse (has_id id events)
 unfolding has_id
-absent_parts id f events none = or_none (bytes_eq f.id id) (has_id id events) none
+absent_parts id f events none = or_parts (bytes_eq f.id id) (has_id id events) none
 
 -- an identity that is absent from a list is absent from a part of it
 filter_absent_id : (id : List ℕ) (q : PlainEvent → Bool) (events : List PlainEvent) → IsFalse (has_id id events) → IsFalse (has_id id (filter q events))
 unfolding has_id
-filter_absent_id id q events none = filter_absent (λ f. bytes_eq f.id id) q events none
+filter_absent_id id q events none = list_any-filter_none (λ f. bytes_eq f.id id) q events none
 
 -- the three parts of a history
 history_parts : (e : PlainEvent) (events : List PlainEvent) → IsTrue (is_history (e ∷ events))
@@ -157,14 +110,14 @@ unfolding is_history
 history_parts e events history =
     let outer = and_parts (list_all (comes_before e) events && not (has_id e.id events)) (is_history events) history in
     let inner = and_parts (list_all (comes_before e) events) (not (has_id e.id events)) outer.0 in
-    (inner.0, not_true (has_id e.id events) inner.1, outer.1)
+    (inner.0, not-true (has_id e.id events) inner.1, outer.1)
 
 history_from : (e : PlainEvent) (events : List PlainEvent) → IsTrue (list_all (comes_before e) events) → IsFalse (has_id e.id events)
     → IsTrue (is_history events) → IsTrue (is_history (e ∷ events))
 unfolding is_history
 history_from e events all absent history =
     and_from (list_all (comes_before e) events && not (has_id e.id events)) (is_history events)
-    (and_from (list_all (comes_before e) events) (not (has_id e.id events)) all (not_false (has_id e.id events) absent)) history
+    (and_from (list_all (comes_before e) events) (not (has_id e.id events)) all (not_from_false (has_id e.id events) absent)) history
 
 -- a history with an event of a new identity in its place is a history
 pub is_history-with_event : (e : PlainEvent) (events : List PlainEvent) → IsTrue (is_history events) → IsFalse (has_id e.id events)
@@ -185,8 +138,8 @@ is_history-with_event e (f ∷ events) history absent =
         absent history
     by_place false after parts other rest =
         history_from f (with_event e events)
-        (list_all-with_event (comes_before f) e events (comes_before-total e f (other_id e f other.0) after) parts.0)
-        (has_id-with_event f.id e events (other_id e f other.0) parts.1) rest
+        (list_all-with_event (comes_before f) e events (comes_before-total e f (bytes_eq_comm e.id f.id ∙ other.0) after) parts.0)
+        (has_id-with_event f.id e events (bytes_eq_comm e.id f.id ∙ other.0) parts.1) rest
 
 -- a history without the event of an identity is a history
 pub is_history-without_event : (id : List ℕ) (events : List PlainEvent) → IsTrue (is_history events) → IsTrue (is_history (without_event id events))

@@ -2,18 +2,19 @@
 use Rattle.std.proofs.Common.{◌≤ℤ◌, IsTrue, ap, sym, ◌∙◌}
 use Rattle.std.specs.Prelude.{int_le}
 use Rattle.ec_terms.specs.Domain.{is_strong, is_initial}
+use Rattle.ec_terms.proofs.DomainLemmas.{are_exclusive-comm}
 use Rattle.ec_axioms.specs.Timeline.{begin_at, is_current_on, begins_of, next_break, intervals_on, broken_on}
 use Rattle.ec_axioms.specs.Calculus.{timeline_of, timeline_by, instants_of, intervals_of, broken_of, holds_at, holds_through, reason_of}
 use Rattle.ec_axioms.specs.Marks.{mark_at, marks_of}
 use Rattle.ec_axioms.specs.Laws.{CurrencyIsOfTheLastMark, SpansAreTheIntervals, IntervalsAreDisjoint, AtMostOneIntervalCovers, ExclusivesShareOnlyABeginning, ThroughIsEachInstant, HoldingIsTheReasonYes}
 use Rattle.ec_axioms.proofs.Rounds.{is_current-equation}
-use Rattle.ec_axioms.proofs.Ranks.{int_le-is, le_int_le}
+use Rattle.ec_lists.proofs.Integers.{int_le-is, int_le-from}
 use Rattle.ec_axioms.proofs.Members.{IsMember-from_contains, IsSomeAnd-weaker}
 use Rattle.ec_axioms.proofs.Instants.{is_ascending-instants_of}
 use Rattle.ec_axioms.proofs.TimelineLaws.{IsBegin-from_member, next_break-start, is_held_at-reason_on, is_held_through-each, covers-same, covers-same_begin}
 use Rattle.ec_axioms.proofs.MarkLaws.{is_current_on-last_mark, spans_of-marks_at, broken_spans_of-marks_at}
 use Rattle.ec_axioms.proofs.HistoryMarks.{instant-mark_at, timeline_of-marks, AreAllMarked-mark_at}
-use Rattle.ec_axioms.proofs.ExclusiveLaws.{are_exclusive-comm, IsBrokenBy-timeline_of}
+use Rattle.ec_axioms.proofs.ExclusiveLaws.{IsBrokenBy-timeline_of}
 
 -- ---- marks
 
@@ -77,8 +78,8 @@ ExclusivesShareOnlyABeginning-law theory events p q t i j history exclusive has_
 pub ThroughIsEachInstant-law : ThroughIsEachInstant
 unfolding timeline_of timeline_by holds_at holds_through intervals_of
 ThroughIsEachInstant-law theory events p a b history stretch =
-    let each = is_held_through-each (timeline_of theory events p) (is_ascending-instants_of events history) a b (le_int_le a b stretch) in (
-      λ through t from_a to_b. each.0 through t (le_int_le a t from_a) (le_int_le t b to_b),
+    let each = is_held_through-each (timeline_of theory events p) (is_ascending-instants_of events history) a b (int_le-from a b stretch) in (
+      λ through t from_a to_b. each.0 through t (int_le-from a t from_a) (int_le-from t b to_b),
       λ held. each.1 (λ t from_a to_b. held t (int_le-is a t from_a) (int_le-is t b to_b)),
     )
 

@@ -10,7 +10,7 @@ use Rattle.ec_terms.specs.Domain.{GroundEntry, is_initial, is_strong}
 use Rattle.ec_axioms.specs.Calculus.{PlainEvent, Effect, Currency, effects_at, has_effect, has_break, timeline_by, timeline_of, is_current, instants_of, is_initiating, is_terminating, is_clashing}
 use Rattle.ec_axioms.specs.Marks.{mark_at}
 use Rattle.ec_axioms.proofs.Effects.{effects_at-none, list_any-instants}
-use Rattle.ec_axioms.proofs.Ranks.{int_eq-is}
+use Rattle.ec_lists.proofs.Integers.{int_eq-is}
 use Rattle.ec_axioms.proofs.Members.{IsMember, list_any-member, list_any-false, filter_none}
 use Rattle.ec_axioms.proofs.MarkLaws.{AreAllMarked, marked_timeline}
 

@@ -1,5 +1,5 @@
 -- A property holds where it is current and goes on, or ends by a termination.
-use Rattle.std.proofs.Common.{◌≡◌, ℕ, ◌<◌, ◌≤◌, ℤ, zero, suc, ◌∷◌, [], ◌++◌, Bool, List, Option, Some, None, true, false, not, ◌&&◌, ◌||◌, length, filter, map, find, IsTrue, IsFalse, IsSomeAnd, inl, inr, ⊎_elim, refl, sym, ap, ◌∙◌, subst, arith}
+use Rattle.std.proofs.Common.{◌≡◌, ℕ, ◌<◌, ◌≤◌, ℤ, zero, suc, ◌++◌, Bool, List, Option, Some, None, true, false, not, ◌&&◌, ◌||◌, length, filter, map, find, IsTrue, IsFalse, IsSomeAnd, inl, inr, ⊎_elim, refl, sym, ap, ◌∙◌, subst, arith}
 use mathlib.Core.Path.{fun_ext}
 use Rattle.std.specs.Prelude.{int_lt, int_le, nat_lt}
 use Rattle.std.specs.List.{list_any}
@@ -11,8 +11,10 @@ use Rattle.ec_axioms.specs.Timeline.{Timeline, Begin, before_all, begin_at, is_a
 use Rattle.ec_axioms.specs.Calculus.{holds_at, intervals_of, timeline_of, timeline_by}
 use Rattle.ec_axioms.specs.Plain.{ends_well, HoldsWhereCurrent}
 use Rattle.ec_axioms.proofs.Instants.{is_ascending, is_ascending-instants_of}
-use Rattle.ec_axioms.proofs.Members.{IsMember, IsMember-append_right, IsMember-map, IsMember-filter, IsMember-from_filter, list_any-member, member-list_any, list_any-false, list_any-filter_map, find-Some, find-filter, find_agree_members, length_member}
-use Rattle.ec_axioms.proofs.Ranks.{cases_int}
+use Rattle.ec_lists.proofs.Finds.{find-filter}
+use Rattle.ec_lists.proofs.Tests.{list_any-filter_map}
+use Rattle.ec_axioms.proofs.Members.{IsMember, IsMember-append_right, IsMember-map, IsMember-filter, IsMember-from_filter, list_any-member, member-list_any, list_any-false, find-Some, find_agree_members, length_member}
+use Rattle.ec_lists.proofs.Integers.{cases_int}
 use Rattle.ec_axioms.proofs.Rounds.{is_current-equation, length-below_lt}
 use Rattle.ec_axioms.proofs.TimelineLaws.{is_after-later, IsBegin-from_member, broken_between, next_break-least}
 

@@ -7,7 +7,7 @@ use Rattle.std.proofs.lemmas.Int.{ints}
 use Rattle.std.proofs.lemmas.Bool.{cond_both, and_parts, and_from, false≢true}
 use Rattle.ec_axioms.specs.Calculus.{PlainEvent, with_instant, instants_of}
 use Rattle.ec_axioms.specs.Changes.{comes_before, is_history}
-use Rattle.ec_axioms.proofs.Ranks.{int_lt-trans, int_le-same, int_le-from_lt, int_lt-from_le}
+use Rattle.ec_lists.proofs.Integers.{int_lt-trans, int_le-same, int_le-from_lt, int_lt-from_le}
 use Rattle.ec_axioms.proofs.Members.{IsMember, IsMember-from_filter, IsPairwise, list_all-member, list_all-from_members}
 
 -- each instant is before all that stand behind it

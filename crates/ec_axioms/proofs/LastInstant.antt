@@ -16,7 +16,7 @@ use Rattle.ec_axioms.specs.Changes.{is_history, comes_before}
 use Rattle.ec_axioms.specs.Laws.{events_before}
 use Rattle.ec_axioms.specs.Plain.{IsLastBefore}
 use Rattle.ec_axioms.proofs.Effects.{any_before, any_before-same, breaks_between, current_by, current_by-past, is_current_on-by}
-use Rattle.ec_axioms.proofs.Ranks.{int_eq-is}
+use Rattle.ec_lists.proofs.Integers.{int_eq-is}
 use Rattle.ec_axioms.proofs.Rounds.{is_current-equation}
 use Rattle.ec_axioms.proofs.OrderedEvents.{comes_before-rank}
 

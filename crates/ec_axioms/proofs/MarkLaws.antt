@@ -9,8 +9,10 @@ use Rattle.std.proofs.lemmas.Bool.Decides.{nat_tests}
 use mathlib.Core.Path.{fun_ext}
 use Rattle.ec_axioms.specs.Timeline.{Timeline, Begin, begin_at, is_current_on, is_after, is_start, initial_begins, begins_of, next_break, interval_from, broken_from, intervals_on, broken_on}
 use Rattle.ec_axioms.specs.Marks.{PlainMark, is_marked, last_mark_before, mark_initiates, mark_terminates, mark_breaks, current_after, mark_starts, row_starts, row_begins, row_mark, row_timeline, spans_of, broken_spans_of}
-use Rattle.ec_axioms.proofs.Ranks.{int_lt-same, int_lt-not_after, int_eq-is, int_eq-same}
-use Rattle.ec_axioms.proofs.Members.{IsMember, IsMember-from_filter, find-filter, find-map, find-Some, find-None, find_agree, filter-map, filter_comm, filter_all, filter_none, list_any_agree, filter_agree}
+use Rattle.ec_lists.proofs.Integers.{int_lt-same, int_lt-not_after, int_eq-is, int_eq-same}
+use Rattle.ec_lists.proofs.Filters.{filter-map, filter_comm}
+use Rattle.ec_lists.proofs.Finds.{find-filter, find-map, find_agree}
+use Rattle.ec_axioms.proofs.Members.{IsMember, IsMember-from_filter, find-Some, find-None, filter_all, filter_none, list_any_agree, filter_agree}
 use Rattle.ec_axioms.proofs.Instants.{is_ascending, is_ascending-head, is_ascending-tail, is_ascending-filter}
 
 -- ---- marks

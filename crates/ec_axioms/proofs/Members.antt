@@ -1,11 +1,13 @@
 -- Lemmas on the members of lists: what a filter, a search and a test over a list say of them, and lists whose members stand in an order.
-use Rattle.std.proofs.Common.{◌≡◌, ◌⊎◌, ℕ, zero, suc, ◌<◌, Bool, true, false, cond, ◌&&◌, ◌||◌, List, [], ◌∷◌, ◌++◌, length, get_or, nat_lt, map, filter, find, filter_map, Option, Some, None, option_map, Contains, IsTrue, IsFalse, IsSomeAnd, refl, ap, ap₂, sym, subst, ◌∙◌, inl, inr, ⊎_elim, arith}
+use Rattle.std.proofs.Common.{◌≡◌, ◌⊎◌, ℕ, zero, suc, ◌<◌, Bool, true, false, cond, ◌||◌, List, [], ◌∷◌, ◌++◌, length, get_or, nat_lt, map, filter, find, filter_map, Option, Some, None, Contains, IsTrue, IsFalse, IsSomeAnd, refl, ap, ap₂, sym, subst, ◌∙◌, inl, inr, ⊎_elim, arith}
 use Rattle.std.specs.Bool.{⊤}
 use Rattle.std.specs.List.{list_any, list_all, last_or, cons_option}
 use Rattle.std.specs.Option.{option_map_or}
 use Rattle.std.proofs.lemmas.Bool.{cond_both, cond-true, false≢true, or_cases, or_left, or_right, and_parts, and_from, lt-ltb}
 use Rattle.std.proofs.lemmas.Option.{none-some}
-use mathlib.Core.Path.{fun_ext}
+pub use Rattle.ec_lists.proofs.Filters.{filter_comm, filter-map}
+pub use Rattle.ec_lists.proofs.Tests.{list_any-filter, list_any-filter_map}
+pub use Rattle.ec_lists.proofs.Finds.{find-filter, find_agree, find-map}
 
 -- ---- members
 
@@ -110,16 +112,6 @@ pub filter_none : {X : Type 0} (p : X → Bool) (xs : List X) → ((x : X) → I
 filter_none p [] each = refl
 filter_none p (x ∷ xs) each = let rest = filter_none p xs (λ y later. each y (inr later)) in let here = each x (inl refl) in grind arith
 
--- two filters may change places
-pub filter_comm : {X : Type 0} (p q : X → Bool) (xs : List X) → filter p (filter q xs) ≡ filter q (filter p xs)
-filter_comm p q [] = refl
-filter_comm p q (x ∷ xs) = let rest = filter_comm p q xs in grind arith
-
--- a filter of the values of a function keeps those of the members that pass
-pub filter-map : {X Y : Type 0} (p : Y → Bool) (f : X → Y) (xs : List X) → filter p (map f xs) ≡ map f (filter (λ x. p (f x)) xs)
-filter-map p f [] = refl
-filter-map p f (x ∷ xs) = let rest = filter-map p f xs in grind arith
-
 -- ---- tests over a list
 
 -- some member passes
@@ -158,38 +150,13 @@ pub list_any_agree : {X : Type 0} (p q : X → Bool) (xs : List X) → ((x : X) 
 list_any_agree p q [] agree = refl
 list_any_agree p q (x ∷ xs) agree = ap₂ (λ a b. a || b) (agree x (inl refl)) (list_any_agree p q xs (λ y later. agree y (inr later)))
 
--- some of what is kept passes where some member passes both tests
-pub list_any-filter : {X : Type 0} (p q : X → Bool) (xs : List X) → list_any p (filter q xs) ≡ list_any (λ x. q x && p x) xs
-list_any-filter p q [] = refl
-list_any-filter p q (x ∷ xs) = let rest = list_any-filter p q xs in grind arith
-
--- some of what a function gives passes where it passes at some member
-pub list_any-filter_map : {X Y : Type 0} (p : Y → Bool) (h : X → Option Y) (xs : List X)
-    → list_any p (filter_map h xs) ≡ list_any (λ x. option_map_or p (h x) false) xs
-list_any-filter_map p h [] = refl
-list_any-filter_map p h (x ∷ xs) = let rest = list_any-filter_map p h xs in grind arith
-
 -- ---- the first that passes
-
--- the first of what is kept is the first that passes both tests
-pub find-filter : {X : Type 0} (p q : X → Bool) (xs : List X) → find p (filter q xs) ≡ find (λ x. q x && p x) xs
-find-filter p q [] = refl
-find-filter p q (x ∷ xs) = let rest = find-filter p q xs in grind arith
-
--- tests that agree find the same
-pub find_agree : {X : Type 0} (p q : X → Bool) → ((x : X) → p x ≡ q x) → (xs : List X) → find p xs ≡ find q xs
-find_agree p q agree xs = ap (λ test. find test xs) (fun_ext agree)
 
 -- tests that agree at each member find the same
 pub find_agree_members : {X : Type 0} (p q : X → Bool) (xs : List X) → ((x : X) → IsMember xs x → p x ≡ q x) → find p xs ≡ find q xs
 find_agree_members p q [] agree = refl
 find_agree_members p q (x ∷ xs) agree =
     let here = agree x (inl refl) in let rest = find_agree_members p q xs (λ y later. agree y (inr later)) in grind arith
-
--- the first of the values of a function that passes is the value at the first that does
-pub find-map : {X Y : Type 0} (p : Y → Bool) (f : X → Y) (xs : List X) → find p (map f xs) ≡ option_map f (find (λ x. p (f x)) xs)
-find-map p f [] = refl
-find-map p f (x ∷ xs) = let rest = find-map p f xs in grind arith
 
 -- what is found is a member that passes
 pub find-Some : {X : Type 0} (p : X → Bool) (xs : List X) (x : X) → find p xs ≡ Some x → IsMember xs x × IsTrue (p x)

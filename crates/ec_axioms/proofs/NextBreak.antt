@@ -1,9 +1,9 @@
 -- The first break from a time on, found among the events.
-use Rattle.std.proofs.Common.{◌≡◌, ℕ, ◌+◌, ◌<◌, ◌≤◌, ℤ, zero, suc, ◌∷◌, [], Bool, List, Option, Some, None, true, false, cond, ◌&&◌, length, get_or, take, map, find, option_map, refl, sym, ap, ◌∙◌, arith}
+use Rattle.std.proofs.Common.{◌≡◌, ℕ, ◌+◌, ◌<◌, ◌≤◌, ℤ, ◌∷◌, [], Bool, List, Option, Some, None, true, false, cond, ◌&&◌, length, get_or, take, map, find, option_map, refl, sym, ap, ◌∙◌, arith}
 use Rattle.std.specs.Prelude.{int_le}
 use Rattle.std.specs.List.{list_any}
 use Rattle.std.specs.Option.{option_map_or}
-use Rattle.std.proofs.lemmas.Bool.{or_from, or_parts}
+use Rattle.std.proofs.lemmas.Bool.{or_from}
 use Rattle.std.proofs.lemmas.List.{length-map, take_all}
 use Rattle.std.proofs.lemmas.List.Folds.{list_any_more}
 use Rattle.std.proofs.Math.ListN.{get_or-map}
@@ -11,8 +11,8 @@ use Rattle.ec_terms.specs.declared.ground.Ground.{Ground}
 use Rattle.ec_terms.specs.declared.theory.Theory.{Theory}
 use Rattle.ec_axioms.specs.Calculus.{PlainEvent, Currency, with_instant, instants_of, is_current, is_terminated, has_break, timeline_by, timeline_of}
 use Rattle.ec_axioms.specs.Plain.{ends_well, events_from}
-use Rattle.ec_axioms.proofs.Ranks.{int_eq-is}
-use Rattle.ec_axioms.proofs.Members.{find-filter}
+use Rattle.ec_lists.proofs.Integers.{int_eq-is}
+use Rattle.ec_lists.proofs.Finds.{find-filter, find-none, find_here}
 
 -- the first of the instants with one more
 find-with_instant : (test : ℤ → Bool) (t : ℤ) (us : List ℤ) → find test (with_instant t us) ≡ cond (test t) (Some t) (find test us)
@@ -55,18 +55,6 @@ ends_well-events theory events p t =
 
 -- ---- a search from the front
 
-find_here : {X : Type 0} (test : X → Bool) (xs : List X) (i : ℕ) (d : X) → i < length xs → list_any test (take i xs) ≡ false → test (get_or xs i d) ≡ true →
-    find test xs ≡ Some (get_or xs i d)
-find_here test [] i d within none here = absurd (omega arith)
-find_here test (x ∷ xs) zero d within none here = grind arith
-find_here test (x ∷ xs) (suc i) d within none here =
-    let parts = or_parts (test x) (list_any test (take i xs)) none in
-    let ih = find_here test xs i d (omega arith) parts.1 here in grind arith
-
-find_nowhere : {X : Type 0} (test : X → Bool) (xs : List X) → list_any test xs ≡ false → find test xs ≡ None
-find_nowhere test [] none = refl
-find_nowhere test (x ∷ xs) none = let parts = or_parts (test x) (list_any test xs) none in let ih = find_nowhere test xs parts.1 in grind arith
-
 module _ {E : Type 0} (f : E → PlainEvent) (items : List E) (theory : Theory) (events : List PlainEvent) (p : Ground) (t : ℤ) (i : ℕ) (item : E) where
   -- the event at i is the first that breaks the property
   pub break_found : (broken ends : Bool) → map f items ≡ events_from t events → i < length items → item ≡ get_or items i item →
@@ -103,5 +91,5 @@ break_absent f items theory events p t i all past none =
     let test : PlainEvent → Bool = λ e. has_break theory events (is_current theory events) p e.rank in
     let whole : take i (map f items) ≡ map f items = take_all i (map f items) (omega (arith, length-map items f)) in
     ap (λ o. option_map_or (λ (e : PlainEvent). is_terminated theory events (is_current theory events) p e.rank) o true)
-    (sym (ap (find test) (sym all) ∙ find_nowhere test (map f items) (sym (ap (list_any test) whole) ∙ none)))
+    (sym (ap (find test) (sym all) ∙ find-none test (map f items) (sym (ap (list_any test) whole) ∙ none)))
     ∙ sym (ends_well-events theory events p t)

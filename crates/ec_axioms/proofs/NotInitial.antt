@@ -1,5 +1,5 @@
 -- What is not initial: it is current by an initiation alone, begins at an instant alone, and is live by a mention alone.
-use Rattle.std.proofs.Common.{◌≡◌, ℤ, Bool, true, false, not, ◌&&◌, ◌||◌, List, [], length, IsTrue, IsFalse, Contains, refl, ap, sym, subst, ◌∙◌, ⊎_elim, arith}
+use Rattle.std.proofs.Common.{◌≡◌, ℤ, Bool, not, List, [], length, IsTrue, IsFalse, refl, ap, sym, subst, ◌∙◌, ⊎_elim, arith}
 use Rattle.std.specs.Prelude.{int_lt, nat_lt, filter, map, ◌++◌}
 use Rattle.std.specs.List.{list_any}
 use Rattle.std.specs.Ordering.{int_eq}
@@ -12,10 +12,10 @@ use Rattle.ec_terms.proofs.OrderLemmas.{term_eq-Decides}
 use Rattle.ec_axioms.specs.Timeline.{Timeline, before_all, begin_at, instants_before, instants_between, carries, carries_initially, is_current_on, is_start, initial_begins, begins_of}
 use Rattle.ec_axioms.specs.Calculus.{PlainEvent, Currency, instants_of, is_initiating, is_terminating, is_clashing, has_effect, has_break, timeline_by, timeline_of, is_current}
 use Rattle.ec_axioms.specs.Links.{mentions_of, is_live}
-use Rattle.ec_axioms.specs.Laws.{IsCarriedOver, CurrentOnlyIfCarriedOver, BegunOnlyByAStart, LiveOnlyIfMentioned}
+use Rattle.ec_axioms.specs.Laws.{CurrentOnlyIfCarriedOver, BegunOnlyByAStart, LiveOnlyIfMentioned}
 use Rattle.ec_axioms.proofs.Effects.{events_at, effects_at-none}
 use Rattle.ec_axioms.proofs.Members.{IsMember, IsMember-from_contains, Contains-from_member, IsMember-filter, IsMember-from_filter, list_any-member, member-list_any, list_any-false}
-use Rattle.ec_axioms.proofs.Ranks.{int_eq-is, int_lt-is, lt_int_lt}
+use Rattle.ec_lists.proofs.Integers.{int_eq-is, int_lt-is, int_lt-from}
 use Rattle.ec_axioms.proofs.Rounds.{events_at-no_instant, is_current-equation}
 use Rattle.ec_axioms.proofs.TimelineLaws.{IsBegin-from_member}
 
@@ -111,13 +111,13 @@ CurrentOnlyIfCarriedOver-law theory events p t never =
             since = found.0;
             before = int_lt-is found.0 t carried.1;
             initiated = carried.2;
-            unbroken = λ u after before. has_break-each theory events c p u (λ inside. carried.3 u inside (lt_int_lt found.0 u after) (lt_int_lt u t before));
+            unbroken = λ u after before. has_break-each theory events c p u (λ inside. carried.3 u inside (int_lt-from found.0 u after) (int_lt-from u t before));
           },
       λ over.
           equation
           ∙ carried_current line never t over.since (
             instant_of_effect theory events c _ over.since over.initiated,
-            lt_int_lt over.since t over.before,
+            int_lt-from over.since t over.before,
             over.initiated,
             λ u inside after before. over.unbroken u (int_lt-is over.since u after) (int_lt-is u t before),
           ),

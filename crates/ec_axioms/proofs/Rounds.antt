@@ -1,17 +1,20 @@
 -- The rounds of currency settle: at an instant, after as many rounds as there are instants before it.
-use Rattle.std.proofs.Common.{◌≡◌, ℕ, ◌<◌, ◌≤◌, ℤ, zero, suc, ◌∷◌, [], Bool, List, true, false, not, ◌&&◌, ◌||◌, length, filter, refl, sym, ap, ◌∙◌, ⊎_elim, arith}
+use Rattle.std.proofs.Common.{◌≡◌, ℕ, ◌<◌, ◌≤◌, ℤ, zero, suc, ◌∷◌, [], Bool, List, true, false, not, ◌&&◌, ◌||◌, length, filter, sym, ap, ◌∙◌, ⊎_elim, arith}
 use Rattle.std.specs.Prelude.{int_lt, int_le}
 use Rattle.std.specs.List.{list_any}
 use Rattle.std.specs.Ordering.{int_eq}
 use Rattle.std.proofs.lemmas.Bool.{cases_Bool}
 use Rattle.std.proofs.lemmas.Int.{ints}
+use Rattle.std.proofs.lemmas.List.{nil_from_length}
 use Rattle.ec_terms.specs.declared.ground.Ground.{Ground}
 use Rattle.ec_terms.specs.declared.theory.Theory.{Theory}
 use Rattle.ec_terms.specs.Domain.{GroundEntry, is_initial}
 use Rattle.ec_axioms.specs.Laws.{SolvesEquation, CurrencyIsTheSolution, PastIsClosed, events_before, events_up_to}
 use Rattle.ec_axioms.specs.Timeline.{Timeline, is_current_on, carries}
 use Rattle.ec_axioms.specs.Calculus.{PlainEvent, Currency, instants_of, effects_at, is_initiated, has_break, timeline_by, round_current, is_current}
-use Rattle.ec_axioms.proofs.Effects.{list_any-instants, filter-filter_wider, current_by, is_current_on-by, current_by-same, current_by-past, events_at, is_active-same, effects_at-same, effects_at-events, effects_at-none, is_initiated-same, has_break-same}
+use Rattle.ec_lists.proofs.Filters.{filter-filter_wider, filter-none, length-filter_le, length-filter_wider}
+use Rattle.ec_lists.proofs.Integers.{int_lt-trans}
+use Rattle.ec_axioms.proofs.Effects.{list_any-instants, current_by, is_current_on-by, current_by-same, current_by-past, events_at, is_active-same, effects_at-same, effects_at-events, effects_at-none, is_initiated-same, has_break-same}
 
 -- ---- how many instants lie before
 
@@ -19,36 +22,19 @@ use Rattle.ec_axioms.proofs.Effects.{list_any-instants, filter-filter_wider, cur
 abbrev pub depth_at : List PlainEvent → ℤ → ℕ
 depth_at events t = length (filter (λ s. int_lt s t) (instants_of events))
 
--- fewer of the numbers are less than a smaller one
-length-below_le : (us : List ℤ) (s t : ℤ) → int_lt s t ≡ true → length (filter (λ u. int_lt u s) us) ≤ length (filter (λ u. int_lt u t) us)
-length-below_le [] s t before = omega arith
-length-below_le (u ∷ us) s t before =
-    let ih = length-below_le us s t before in
-    let step : int_lt u s ≡ true → int_lt u t ≡ true = λ e. grind (arith, ints) in grind arith
-
--- and strictly fewer where the smaller one is among them
+-- fewer of the numbers are less than a smaller one that is among them
 pub length-below_lt : (us : List ℤ) (s t : ℤ) → int_lt s t ≡ true → list_any (λ u. int_eq u s) us ≡ true →
     length (filter (λ u. int_lt u s) us) < length (filter (λ u. int_lt u t) us)
 length-below_lt [] s t before there = grind arith
 length-below_lt (u ∷ us) s t before there =
-    let le = length-below_le us s t before in
+    let le = length-filter_wider (λ u. int_lt u s) (λ u. int_lt u t) (λ u sooner. int_lt-trans u s t sooner before) us in
     let ih = length-below_lt us s t before in
     let step : int_lt u s ≡ true → int_lt u t ≡ true = λ e. grind (arith, ints) in
     let here : int_eq u s ≡ true → (int_lt u s ≡ false) × (int_lt u t ≡ true) = λ e. (grind (arith, ints), grind (arith, ints)) in grind arith
 
--- where no event passes a test, the list of those that do is empty
-filter-none : {A : Type 0} (p : A → Bool) (xs : List A) → list_any p xs ≡ false → filter p xs ≡ []
-filter-none p [] none = refl
-filter-none p (x ∷ xs) none = let ih = filter-none p xs in grind arith
-
 -- a time that is no instant has no event
 pub events_at-no_instant : (events : List PlainEvent) (s : ℤ) → list_any (λ u. int_eq u s) (instants_of events) ≡ false → events_at s events ≡ []
 events_at-no_instant events s none = filter-none (λ e. int_eq e.rank s) events (sym (list_any-instants (λ u. int_eq u s) events) ∙ none)
-
--- no instant before t
-filter-no_depth : {A : Type 0} (xs : List A) → length xs ≤ 0 → xs ≡ []
-filter-no_depth [] none = refl
-filter-no_depth (x ∷ xs) none = absurd (omega arith)
 
 -- ---- one round
 
@@ -73,7 +59,7 @@ next_round-first : (theory : Theory) (events : List PlainEvent) (c : Currency) (
 unfolding timeline_by
 next_round-first theory events c p t none =
     let line : Timeline = timeline_by theory events c p in
-    let empty : filter (λ s. int_lt s t) (instants_of events) ≡ [] = filter-no_depth _ none in
+    let empty : filter (λ s. int_lt s t) (instants_of events) ≡ [] = nil_from_length (filter (λ s. int_lt s t) (instants_of events)) (omega arith) in
     ap (λ us. list_any (carries line t) us || (line.initial && not (list_any line.breaks us))) empty ∙ and-true (is_initial theory p)
   where
     and-true : (b : Bool) → (b && true) ≡ b
@@ -103,11 +89,6 @@ round_current-settled theory events zero p t deep = sym (next_round-first theory
 round_current-settled theory events (suc n) p t deep =
     next_round-deeper theory events (round_current theory events n) (round_current theory events (suc n)) n p t deep
     (λ s before shallow q. round_current-settled theory events n q s shallow)
-
--- a filter keeps no more than there is
-length-filter_le : {A : Type 0} (p : A → Bool) (xs : List A) → length (filter p xs) ≤ length xs
-length-filter_le p [] = omega arith
-length-filter_le p (x ∷ xs) = let ih = length-filter_le p xs in grind arith
 
 -- The currency of a history is what the timelines say whose contexts read it.
 pub is_current-equation : (theory : Theory) (events : List PlainEvent) → SolvesEquation theory events (is_current theory events)

@@ -8,8 +8,10 @@ use Rattle.std.proofs.lemmas.Bool.{cond_both, and_parts, and_from, and_right, or
 use Rattle.std.proofs.lemmas.Option.{cond_some, same_Some}
 use Rattle.ec_axioms.specs.Timeline.{Timeline, Begin, before_all, begin_at, Interval, instants_before, instants_between, carries, carries_initially, is_current_on, is_after, begins_at, is_start, initial_begins, begins_of, next_break, interval_from, intervals_on, is_within_end, covers, is_held_at, has_begin, is_followed, is_held_through, last_begin, reason_from, reason_by, reason_on}
 use Rattle.ec_axioms.specs.Laws.{is_yes}
-use Rattle.ec_axioms.proofs.Ranks.{cases_int, int_lt-trans, int_le-same, int_le-from_lt, int_le_lt-trans, int_le-not_before, int_lt-next, int_le-next, int_eq-is, int_eq-same, cases_next, cases_int_le, each_of_stretch}
-use Rattle.ec_axioms.proofs.Members.{IsMember, IsMember-append_cases, IsMember-from_map, IsMember-filter, IsMember-from_filter, IsMember-from_filter_map, list_any-member, member-list_any, list_any-false, list_all-member, list_all-from_members, list_any-filter, list_any-filter_map, list_any_agree, find-filter, find-Some, IsPairwise, IsPairwise-weaker, IsPairwise-filter, IsPairwise-map, list_any-last, IsSomeAnd-weaker}
+use Rattle.ec_lists.proofs.Integers.{cases_int, int_lt-trans, int_le-same, int_le-from_lt, int_le_lt-trans, int_le-not_before, int_lt-next, int_le-next, int_eq-is, int_eq-same, cases_next, cases_int_le, each_of_stretch}
+use Rattle.ec_lists.proofs.Finds.{find-filter}
+use Rattle.ec_lists.proofs.Tests.{list_any-filter, list_any-filter_map}
+use Rattle.ec_axioms.proofs.Members.{IsMember, IsMember-append_cases, IsMember-from_map, IsMember-filter, IsMember-from_filter, IsMember-from_filter_map, list_any-member, member-list_any, list_any-false, list_all-member, list_all-from_members, list_any_agree, find-Some, IsPairwise, IsPairwise-weaker, IsPairwise-filter, IsPairwise-map, list_any-last, IsSomeAnd-weaker}
 use Rattle.ec_axioms.proofs.Instants.{is_ascending, IsPairwise-from_ascending, find-least}
 
 -- ---- begins

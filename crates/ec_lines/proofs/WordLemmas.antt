@@ -1,7 +1,8 @@
 -- How the words of a line are taken one after another.
 use Rattle.std.proofs.Common.{◌≡◌, ℕ, ◌-◌, eqb, arith, Bool, true, false, not, List, [], ◌∷◌, length, take, drop, filter, take_while, refl, sym, ap, ◌∙◌, ⊎_elim}
-use Rattle.std.proofs.lemmas.Bool.{cond-true, cond-false, cases_Bool, false≢true, eqb-true}
-use Rattle.std.proofs.lemmas.List.{take_rest}
+use Rattle.std.proofs.lemmas.Bool.{cond-true, cond-false, cases_Bool, false≢true, eqb-true, not-false}
+use Rattle.std.proofs.lemmas.List.{nil_from_length, take_rest}
+use Rattle.ec_lists.proofs.Fronts.{take_while-is_take}
 use Rattle.std.proofs.lemmas.List.Sums.{take_while-cons}
 use Rattle.ec_terms.specs.Pieces.{pieces_between, before_first_piece}
 use Rattle.ec_terms.specs.Spelling.{begins_with}
@@ -80,11 +81,7 @@ behind_word-begins (b ∷ bytes) =
 words_of-pieces_behind : (bytes : List ℕ) → begins_with is_no_blank bytes ≡ false → filter is_word (pieces_behind bytes) ≡ words_of bytes
 unfolding words_of pieces_between pieces_behind begins_with
 words_of-pieces_behind [] ends = refl
-words_of-pieces_behind (b ∷ bytes) ends = ap (λ pieces. filter is_word pieces) (sym (cond-true _ _ _ (not_false (is_blank b) ends)))
-  where
-    not_false : (b : Bool) → not b ≡ false → b ≡ true
-    not_false true e = refl
-    not_false false e = sym e
+words_of-pieces_behind (b ∷ bytes) ends = ap (λ pieces. filter is_word pieces) (sym (cond-true _ _ _ (not-false (is_blank b) ends)))
 
 -- the words are those of the first piece and those behind it
 words_of-split : (bytes : List ℕ) → words_of bytes ≡ filter is_word (take_while is_no_blank bytes ∷ pieces_behind (behind_word bytes))
@@ -109,25 +106,10 @@ unfolding words_of pieces_between begins_with
 words_of-none [] other none = refl
 words_of-none (b ∷ bytes) other none = absurd (false≢true (ap (λ front. is_word front) (sym none ∙ take_while-cons is_no_blank b bytes ∙ cond-true _ _ _ (ap not other))))
 
--- the front that passes a test is as many bytes as it has
-pub take-take_while : (p : ℕ → Bool) (bytes : List ℕ) → take (length (take_while p bytes)) bytes ≡ take_while p bytes
-take-take_while p [] = refl
-take-take_while p (b ∷ bytes) =
-    ⊎_elim
-    (λ passes. ap (λ (front : List ℕ). take (length front) (b ∷ bytes)) (take_while-cons p b bytes ∙ cond-true _ _ _ passes)
-    ∙ ap (λ front. b ∷ front) (take-take_while p bytes) ∙ sym (take_while-cons p b bytes ∙ cond-true _ _ _ passes))
-    (λ other. ap (λ (front : List ℕ). take (length front) (b ∷ bytes)) (take_while-cons p b bytes ∙ cond-false _ _ _ other)
-    ∙ sym (take_while-cons p b bytes ∙ cond-false _ _ _ other))
-    (cases_Bool (p b))
-
--- bytes that are not none are a word, and none are none
+-- bytes that are not none are a word
 some_is_word : (word : List ℕ) → eqb (length word) 0 ≡ false → is_word word ≡ true
 some_is_word [] some = absurd (false≢true (sym some))
 some_is_word (b ∷ word) some = refl
-
-none_is_empty : (word : List ℕ) → eqb (length word) 0 ≡ true → word ≡ []
-none_is_empty [] none = refl
-none_is_empty (b ∷ word) none = absurd (omega (arith, eqb-true (length (b ∷ word)) 0 none))
 
 -- the next word, as it is found from where its blanks and its bytes end
 module _ (bytes : List ℕ) (blanks count : ℕ) (word rest : List ℕ)
@@ -144,7 +126,7 @@ module _ (bytes : List ℕ) (blanks count : ℕ) (word rest : List ℕ)
   front_is : word ≡ take_while is_no_blank (behind_blanks bytes)
   front_is =
       word_is ∙ ap (λ tail. take count tail) tail_is ∙ ap (λ (n : ℕ). take n (behind_blanks bytes)) size_is
-      ∙ take-take_while is_no_blank (behind_blanks bytes)
+      ∙ sym (take_while-is_take is_no_blank (behind_blanks bytes))
 
   back_is : rest ≡ behind_word (behind_blanks bytes)
   back_is = rest_is ∙ ap (λ tail. drop count tail) tail_is ∙ ap (λ (n : ℕ). drop n (behind_blanks bytes)) size_is
@@ -161,4 +143,4 @@ module _ (bytes : List ℕ) (blanks count : ℕ) (word rest : List ℕ)
   pub words_of-not_found : eqb (length word) 0 ≡ true → words_of bytes ≡ []
   words_of-not_found none =
       words_of-behind_blanks bytes
-      ∙ words_of-none (behind_blanks bytes) (behind_blanks-begins bytes) (sym front_is ∙ none_is_empty word none)
+      ∙ words_of-none (behind_blanks bytes) (behind_blanks-begins bytes) (sym front_is ∙ nil_from_length word (eqb-true (length word) 0 none))

@@ -1,5 +1,5 @@
 -- The order of whole numbers, by its tests.
-use Rattle.std.proofs.Common.{◌≡◌, ◌⊎◌, ℕ, zero, suc, ℤ, pos, negsuc, ◌+ℤ◌, ◌-ℤ◌, ◌≤ℤ◌, true, false, not, ◌&&◌, refl, subst, arith}
+use Rattle.std.proofs.Common.{◌≡◌, ◌⊎◌, ℕ, zero, suc, ℤ, pos, negsuc, ◌+ℤ◌, ◌-ℤ◌, ◌≤ℤ◌, ◌<ℤ◌, true, false, not, ◌&&◌, refl, subst, arith}
 use Rattle.std.specs.Prelude.{int_lt, int_le}
 use Rattle.std.specs.Ordering.{int_eq}
 use Rattle.std.proofs.lemmas.Int.{ints}
@@ -10,6 +10,14 @@ use Rattle.std.proofs.lemmas.Bool.Decides.{Decides-int_eq}
 -- no number is before itself
 pub int_lt-same : (s : ℤ) → int_lt s s ≡ false
 int_lt-same s = grind (arith, ints)
+
+-- the test says what the order says
+pub int_lt-is : (s t : ℤ) → int_lt s t ≡ true → s <ℤ t
+int_lt-is s t before = grind (arith, ints)
+
+-- and passes where the order says so
+pub int_lt-from : (s t : ℤ) → s <ℤ t → int_lt s t ≡ true
+int_lt-from s t before = grind (arith, ints)
 
 -- before what is before is before
 pub int_lt-trans : (r s t : ℤ) → int_lt r s ≡ true → int_lt s t ≡ true → int_lt r t ≡ true

@@ -19,6 +19,6 @@ returns g c =
     subst (λ es. IsTrue (is_history es)) (sym is_rest) (is_history-filter (λ e. int_le t e.rank) (map plain events) c.requires.ordered) in
     let parted = IsPartitionedBy-up_to plain rest t ordered in
     let point = IsPartitionPoint-from_clause (λ e. int_le (plain e).rank t) _ _ c.partition_point-end.ensures.partitioned parted (λ a r q k. search rules) in
-    sym (filter-front plain (λ e. int_le e.rank t) rest c.partition_point-end.result c.partition_point-end.ensures.bound point)
+    sym (filter-front plain (λ e. int_le e.rank t) rest c.partition_point-end.result point)
     ∙ ap (filter (λ e. int_le e.rank t)) is_rest
     ∙ events_at-from t (map plain events)

@@ -12,4 +12,4 @@ returns g c =
     let t = g.T.Moment.rank c.args.at in
     let parted = IsPartitionedBy-before plain c.args.events.now t c.requires.ordered in
     let point = IsPartitionPoint-from_clause (λ e. int_lt (plain e).rank t) _ _ c.partition_point-end.ensures.partitioned parted (λ a r q k. search rules) in
-    sym (filter-front plain (λ e. int_lt e.rank t) c.args.events.now c.partition_point-end.result c.partition_point-end.ensures.bound point)
+    sym (filter-front plain (λ e. int_lt e.rank t) c.args.events.now c.partition_point-end.result point)

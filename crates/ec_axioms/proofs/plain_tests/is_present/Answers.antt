@@ -6,7 +6,7 @@ use Rattle.std.proofs.lemmas.List.{take_all}
 use Rattle.std.proofs.lemmas.List.Folds.{list_any_at}
 use Rattle.ec_axioms.specs.Changes.{has_id}
 use Rattle.ec_axioms.specs.Events.{event_of}
-use Rattle.ec_axioms.proofs.Changing.{list_any-map}
+use Rattle.ec_lists.proofs.Tests.{list_any-map}
 use Rattle.ec_axioms.proofs.plain_tests.is_present.Goals as goal
 
 pub returns-then-eq : goal.returns-then-eq
