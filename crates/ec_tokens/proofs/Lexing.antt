@@ -14,7 +14,7 @@ use Rattle.ec_tokens.specs.Tokens.{start, next_place, place_behind, piece_of, pi
 use Rattle.ec_tokens.proofs.Pieces.{behind_piece, IsSpelt, piece_facts, drop_front}
 
 -- the bytes of a piece are skipped
-skipped : (n : ℕ) (place : Place) (bytes : List ℕ) → tokens_from n place bytes ≡ tokens_from 0 (place_behind place (take n bytes)) (drop n bytes)
+pub skipped : (n : ℕ) (place : Place) (bytes : List ℕ) → tokens_from n place bytes ≡ tokens_from 0 (place_behind place (take n bytes)) (drop n bytes)
 unfolding tokens_from place_behind
 skipped zero place [] = refl
 skipped zero place (b ∷ bytes) = refl

@@ -75,7 +75,7 @@ module _ (p : ℕ → Bool) (fails : p 10 ≡ false) where
       ∙ sym (cond-false (eqb b 10) _ _ other)
 
 -- what passes a test all along passes it as a list
-passes_run : (p : ℕ → Bool) (bytes : List ℕ) → list_all p (take (prefix_len p bytes) bytes) ≡ true
+pub passes_run : (p : ℕ → Bool) (bytes : List ℕ) → list_all p (take (prefix_len p bytes) bytes) ≡ true
 passes_run p [] = refl
 passes_run p (b ∷ bytes) = passes_step (p b) refl (passes_run p bytes)
   where

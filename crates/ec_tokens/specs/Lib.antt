@@ -1,2 +1,3 @@
 pub mod Lexeme
 pub mod Tokens
+pub mod CutText

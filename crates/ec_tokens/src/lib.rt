@@ -2,6 +2,7 @@
 #![tactic(auto)]
 
 mod fault;
+mod laws;
 mod lexer;
 mod piece;
 mod place;
@@ -11,6 +12,7 @@ mod token;
 mod token_list;
 
 pub use fault::TokenFault;
+pub use laws::cut_law;
 pub use lexer::tokens;
 pub use place::Place;
 pub use token::{Token, TokenKind};
