@@ -1,22 +1,15 @@
 -- Tables in which terms were kept: what is new in them, and how they are without it.
 use Rattle.std.proofs.Common.{◌≡◌, ◌<◌, ℕ, Bool, true, false, ◌||◌, List, [], ◌∷◌, ◌++◌, length, Option, Some, None, refl, sym, ap, subst, ◌∙◌, ⊎_elim, is_some, IfSome, IsSome, arith}
 use Rattle.std.specs.Prelude.{option_map, ◌==◌}
-use Rattle.std.proofs.lemmas.Bool.{cases_Bool, false≢true}
+use Rattle.std.proofs.lemmas.Bool.{cases_Bool, eqb-true, eq-eqb, false≢true, or_from, or_parts}
 use Rattle.ec_terms.specs.declared.ground.Ground.{Ground}
 use Rattle.ec_terms.specs.declared.ids.PropId.{PropId}
 use Rattle.ec_props.specs.Table.{KeptProp, prop_at, mentions_at, prop_of, is_in_order, with_prop, without_prop}
-use Rattle.ec_props.proofs.KeptLemmas.{same_number, itself, turned_other}
+use Rattle.ec_lists.proofs.Numbers.{eqb_comm}
 use Rattle.ec_context.specs.Widened.{AreUnmentioned, HasKept, IsWidened, KeepsAll, is_among, without_props}
 use Rattle.ec_context.proofs.Tables.{is_among-push, length-with_prop, mentions_at-with_prop, prop_at-without_props, without-with_prop, without_props-none, without_props-push}
 
 -- ---- new numbers
-
-or_both-false : (a b : Bool) → (a || b) ≡ false → (a ≡ false) × (b ≡ false)
-or_both-false true b none = cc
-or_both-false false b none = (refl, none)
-
-or_from-false : (a b : Bool) → a ≡ false → b ≡ false → (a || b) ≡ false
-or_from-false a b first second = grind arith
 
 -- what is mentioned is there
 some-mentioned : (o : Option KeptProp) (n : ℕ) → option_map (λ (k : KeptProp). k.mentions) o ≡ Some n → is_some o ≡ true
@@ -28,9 +21,9 @@ not_among : (props : List PropId) (id : ℕ) (table : List KeptProp) → AreUnme
 unfolding AreUnmentioned
 not_among [] id table all free = refl
 not_among (p ∷ props) id table all free =
-    or_from-false (p.0 == id) (is_among id props)
+    or_from (p.0 == id) (is_among id props)
     (⊎_elim
-    (λ e. let both : Some 0 ≡ None = sym all.0 ∙ ap (λ n. mentions_at n table) (same_number p.0 id e) ∙ ap (option_map (λ (k : KeptProp). k.mentions)) free in cc)
+    (λ e. let both : Some 0 ≡ None = sym all.0 ∙ ap (λ n. mentions_at n table) (eqb-true p.0 id e) ∙ ap (option_map (λ (k : KeptProp). k.mentions)) free in cc)
     (λ e. e) (cases_Bool (p.0 == id)))
     (not_among props id table all.1.1 free)
 
@@ -39,7 +32,7 @@ unmentioned-among : (props : List PropId) (id : ℕ) (table : List KeptProp) →
 unfolding AreUnmentioned
 unmentioned-among [] id table all there = cc
 unmentioned-among (p ∷ props) id table all there =
-    ⊎_elim (λ e. ap (λ n. mentions_at n table) (sym (same_number p.0 id e)) ∙ all.0)
+    ⊎_elim (λ e. ap (λ n. mentions_at n table) (sym (eqb-true p.0 id e)) ∙ all.0)
     (λ e. unmentioned-among props id table all.1.1 (sym (ap (λ b. b || is_among id props) e) ∙ there)) (cases_Bool (p.0 == id))
 
 -- they stay so where all that is kept stays
@@ -57,8 +50,8 @@ AreUnmentioned-push : (props : List PropId) (p : PropId) (table : List KeptProp)
 unfolding AreUnmentioned
 AreUnmentioned-push [] p table all mentions other = (mentions, (refl, tt))
 AreUnmentioned-push (q ∷ props) p table all mentions other =
-    let parts = or_both-false (q.0 == p.0) (is_among p.0 props) other in
-    (all.0, (is_among-push q.0 props p ∙ or_from-false _ _ all.1.0 (turned_other q.0 p.0 parts.0), AreUnmentioned-push props p table all.1.1 mentions parts.1))
+    let parts = or_parts (q.0 == p.0) (is_among p.0 props) other in
+    (all.0, (is_among-push q.0 props p ∙ or_from _ _ all.1.0 (eqb_comm p.0 q.0 ∙ parts.0), AreUnmentioned-push props p table all.1.1 mentions parts.1))
 
 -- the last of them is mentioned 0 times
 pub unmentioned-last : (props : List PropId) (p : PropId) (table : List KeptProp) → AreUnmentioned (props ++ p ∷ []) table → mentions_at p.0 table ≡ Some 0
@@ -72,8 +65,8 @@ pub AreUnmentioned-pop : (props : List PropId) (p : PropId) (before after : List
 unfolding AreUnmentioned
 AreUnmentioned-pop [] p before after all others = tt
 AreUnmentioned-pop (q ∷ props) p before after all others =
-    let parts = or_both-false (is_among q.0 props) (p.0 == q.0) (sym (is_among-push q.0 props p) ∙ all.1.0) in (
-      ap (option_map (λ (k : KeptProp). k.mentions)) (others q.0 (λ same. false≢true (sym parts.1 ∙ ap (λ n. p.0 == n) same ∙ itself p.0))) ∙ all.0,
+    let parts = or_parts (is_among q.0 props) (p.0 == q.0) (sym (is_among-push q.0 props p) ∙ all.1.0) in (
+      ap (option_map (λ (k : KeptProp). k.mentions)) (others q.0 (λ same. false≢true (sym parts.1 ∙ ap (λ n. p.0 == n) same ∙ eq-eqb p.0 p.0 refl))) ∙ all.0,
       (parts.0, AreUnmentioned-pop props p before after all.1.1 others),
     )
 

@@ -16,26 +16,15 @@ use Rattle.ec_terms.specs.Matching.{Values, binding_of, fits, fits_some}
 use Rattle.ec_terms.specs.Domain.{entries_from, entries_of, entry_of, meets}
 use Rattle.ec_terms.proofs.MatchingLemmas.{fits-other_length}
 use Rattle.ec_check.specs.declared.fault.CheckFault.{CheckFault}
-use Rattle.ec_check.specs.Faults.{earlier_fault, first_of, first_wrong, rule_fault, first_fault, is_narrow_rule, same_event}
+use Rattle.ec_check.specs.Faults.{first_wrong, rule_fault, first_fault, is_narrow_rule, same_event}
+use Rattle.ec_check.proofs.Matchable.{earlier_fault-none, first_of-none}
+use Rattle.ec_lists.proofs.Booleans.{cond-None}
+use Rattle.ec_lists.proofs.Filters.{length-filter_wider}
 use Rattle.ec_check.specs.WellFormed.{IsWellFormed}
 
 -- the rule has at most 16 literals
 abbrev pub HasFewLiterals : Rule → Type 0
 HasFewLiterals rule = length rule.literals ≤ 16
-
-else_none : {A : Type 0} (test : Bool) (a : A) (rest : Option A) → (if test then Some a else rest) ≡ None → (test ≡ false) × (rest ≡ None)
-else_none true a rest none = cc
-else_none false a rest none = (refl, none)
-
-first_of-none : (first later : Option CheckFault) → first_of first later ≡ None → (first ≡ None) × (later ≡ None)
-first_of-none None later none = (refl, none)
-first_of-none (Some fault) later none = cc
-
-first-none : (first second : Option CheckFault) → earlier_fault first second ≡ None → first ≡ None
-unfolding earlier_fault
-first-none None second none = refl
-first-none (Some a) None none = cc
-first-none (Some a) (Some b) none = let parts = else_none _ b (Some a) none in cc
 
 -- what a rule without a fault keeps to
 record IsWithin (earlier : List Rule) (rule : Rule) : Type 0 where
@@ -46,11 +35,11 @@ record IsWithin (earlier : List Rule) (rule : Rule) : Type 0 where
 IsWithin-no_fault : (earlier : List Rule) (rule : Rule) → rule_fault earlier rule ≡ None → IsWithin earlier rule
 unfolding rule_fault
 IsWithin-no_fault earlier rule none =
-    let rules = else_none (nat_le 1024 (length earlier)) _ _ none in
-    let arity = else_none (not (is_narrow_rule rule)) _ _ rules.1 in
-    let event_rules = else_none (nat_le 64 (count_by (same_event rule) earlier)) _ _ arity.1 in
-    let tests = else_none (nat_lt 16 (length rule.tests)) _ _ event_rules.1 in
-    let literals = else_none (nat_lt 16 (length rule.literals)) _ _ tests.1 in
+    let rules = cond-None (nat_le 1024 (length earlier)) _ _ none in
+    let arity = cond-None (not (is_narrow_rule rule)) _ _ rules.1 in
+    let event_rules = cond-None (nat_le 64 (count_by (same_event rule) earlier)) _ _ arity.1 in
+    let tests = cond-None (nat_lt 16 (length rule.tests)) _ _ event_rules.1 in
+    let literals = cond-None (nat_lt 16 (length rule.literals)) _ _ tests.1 in
     record { rules = grind (arith, rules.0); literals = grind (arith, literals.0); event_rules = grind (arith, event_rules.0) }
 
 rules_within : (earlier rules : List Rule) → first_fault rule_fault earlier rules ≡ None → length earlier ≤ 1024 → length earlier + length rules ≤ 1024
@@ -73,12 +62,12 @@ literals_within earlier (rule ∷ rules) none =
 pub few_rules : (theory : Theory) → IsWellFormed theory → length theory.rules ≤ 1024
 unfolding first_wrong
 few_rules theory well_formed =
-    let within = rules_within [] theory.rules (first-none _ _ well_formed.no_fault) (omega arith) in omega (arith, within)
+    let within = rules_within [] theory.rules (earlier_fault-none _ _ well_formed.no_fault).0 (omega arith) in omega (arith, within)
 
 -- and at most 16 literals in each
 pub few_literals : (theory : Theory) → IsWellFormed theory → All HasFewLiterals theory.rules
 unfolding first_wrong
-few_literals theory well_formed = literals_within [] theory.rules (first-none _ _ well_formed.no_fault)
+few_literals theory well_formed = literals_within [] theory.rules (earlier_fault-none _ _ well_formed.no_fault).0
 
 -- ---- the entries of one event
 
@@ -116,17 +105,6 @@ same_event-met event r s first second =
     let b = IsFor-met s event second in
     and_from _ _ ((bytes_eq-Decides r.event.name s.event.name).1 (a.name ∙ sym b.name)) ((Decides-eqb (length r.event.args) (length s.event.args)).1 (a.arity ∙ sym b.arity))
 
-longer-weaker : {X : Type 0} (a b : Bool) (x : X) (ys zs : List X) → (a ≡ true → b ≡ true) → length ys ≤ length zs → length (cond a (x ∷ ys) ys) ≤ length (cond b (x ∷ zs) zs)
-longer-weaker true true x ys zs weaker less = omega (arith, less)
-longer-weaker true false x ys zs weaker less = let e = weaker refl in cc
-longer-weaker false true x ys zs weaker less = omega (arith, less)
-longer-weaker false false x ys zs weaker less = less
-
--- no more pass a test than a weaker one
-length-filter_weaker : {X : Type 0} (p q : X → Bool) → ((x : X) → p x ≡ true → q x ≡ true) → (xs : List X) → length (filter p xs) ≤ length (filter q xs)
-length-filter_weaker p q weaker [] = omega arith
-length-filter_weaker p q weaker (x ∷ xs) = longer-weaker (p x) (q x) x (filter p xs) (filter q xs) (weaker x) (length-filter_weaker p q weaker xs)
-
 -- one rule more that an event meets, or does not
 one_more_met : (event : Ground) (earlier : List Rule) (rule : Rule) → rule_fault earlier rule ≡ None → length (met_rules event earlier) ≤ 64 →
     length (met_rules event (earlier ++ rule ∷ [])) ≤ 64
@@ -134,7 +112,7 @@ unfolding met_rules
 one_more_met event earlier rule none few =
     let all = ap length (filter-append (λ (r : Rule). meets r event) earlier (rule ∷ [])) ∙ length-append (met_rules event earlier) (met_rules event (rule ∷ [])) in
     ⊎_elim
-    (λ met. let fewer = length-filter_weaker (λ (r : Rule). meets r event) (same_event rule) (λ s is. same_event-met event rule s met is) earlier in
+    (λ met. let fewer = length-filter_wider (λ (r : Rule). meets r event) (same_event rule) (λ s is. same_event-met event rule s met is) earlier in
     let counted = length-filter (same_event rule) earlier in
     let within = (IsWithin-no_fault earlier rule none).event_rules in
     let last = ap (λ b. length (cond b (rule ∷ []) [])) met in omega (arith, all, fewer, counted, within, last))
@@ -162,5 +140,5 @@ length-entries_from number (rule ∷ rules) event =
 pub few_entries : (theory : Theory) (event : Ground) → IsWellFormed theory → length (entries_of theory event) ≤ 64
 unfolding first_wrong met_rules
 few_entries theory event well_formed =
-    let few = few_met event [] theory.rules (first-none _ _ well_formed.no_fault) (omega arith) in
+    let few = few_met event [] theory.rules (earlier_fault-none _ _ well_formed.no_fault).0 (omega arith) in
     let same = length-entries_from 1 theory.rules event in omega (arith, few, same)

@@ -3,7 +3,8 @@ use Rattle.std.proofs.Common.{◌≡◌, ℕ, Bool, true, false, ◌||◌, List,
 use Rattle.std.specs.Prelude.{◌==◌}
 use Rattle.std.specs.List.{list_any}
 use Rattle.std.specs.Option.{option_to_list}
-use Rattle.std.proofs.lemmas.Bool.{cases_Bool, false≢true}
+use Rattle.std.proofs.lemmas.Bool.{cases_Bool, false≢true, or_left}
+use Rattle.std.proofs.Math.Bool.{or-false}
 use Rattle.std.proofs.lemmas.List.{append-nil}
 use Rattle.std.proofs.lemmas.List.Folds.{list_any-append}
 use Rattle.ec_terms.specs.declared.ids.PropId.{PropId}
@@ -14,19 +15,13 @@ use Rattle.ec_context.specs.Entries.{NamesAllNew, is_named, is_of}
 use Rattle.ec_context.specs.Widened.{AddsOnly, HasKept, is_among, without_props}
 use Rattle.ec_context.proofs.Tables.{is_among-push, prop_at-without_props, without_props-none}
 
-or_first : (a b : Bool) → a ≡ true → (a || b) ≡ true
-or_first a b first = grind arith
-
-or_none : (b : Bool) → (b || false) ≡ b
-or_none b = grind arith
-
 or_three : (a b c d : Bool) → (b ≡ true → (a || c) ≡ true) → (b || d) ≡ true → (a || (c || d)) ≡ true
 or_three a true c d first second = let e = first refl in grind arith
 or_three a false c d first second = grind arith
 
 -- nothing is new where the list is the same
 pub AddsOnly-same : (test : ℕ → Bool) (before after : List PropId) → after ≡ before → AddsOnly test before after
-AddsOnly-same test before after same id there = or_first (is_among id before) (test id) (ap (is_among id) (sym same) ∙ there)
+AddsOnly-same test before after same id there = or_left (is_among id before) (test id) (ap (is_among id) (sym same) ∙ there)
 
 -- one number more
 pub AddsOnly-push : (before after : List PropId) (p : PropId) → after ≡ before ++ p ∷ [] → AddsOnly (λ id. p.0 == id) before after
@@ -41,23 +36,18 @@ AddsOnly-then test next first second third before after id there = or_three (is_
 AddsOnly-by : (test other : ℕ → Bool) (before after : List PropId) → ((id : ℕ) → test id ≡ other id) → AddsOnly test before after → AddsOnly other before after
 AddsOnly-by test other before after same adds id there = ap (λ b. is_among id before || b) (sym (same id)) ∙ adds id there
 
--- one member more of a list that passes
-any-push : {X : Type 0} (test : X → Bool) (xs more : List X) (x : X) → more ≡ xs ++ x ∷ [] → (list_any test xs || test x) ≡ list_any test more
-any-push test xs more x is =
-    ap (λ b. list_any test xs || b) (sym (or_none (test x))) ∙ sym (list_any-append test xs (x ∷ [])) ∙ ap (list_any test) (sym is)
-
 -- a literal more
 pub AddsOnly-literal : (first second third : List PropId) (literals more : List EntryLiteral) (literal : EntryLiteral) → more ≡ literals ++ literal ∷ [] →
     AddsOnly (λ id. list_any (is_of id) literals) first second → AddsOnly (λ id. is_of id literal) second third → AddsOnly (λ id. list_any (is_of id) more) first third
 AddsOnly-literal first second third literals more literal is before after =
-    AddsOnly-by (λ id. list_any (is_of id) literals || is_of id literal) (λ id. list_any (is_of id) more) first third (λ id. any-push (is_of id) literals more literal is)
+    AddsOnly-by (λ id. list_any (is_of id) literals || is_of id literal) (λ id. list_any (is_of id) more) first third (λ id. ap (λ b. list_any (is_of id) literals || b) (sym (or-false (is_of id literal))) ∙ sym (list_any-append (is_of id) literals (literal ∷ [])) ∙ ap (list_any (is_of id)) (sym is))
     (AddsOnly-then (λ id. list_any (is_of id) literals) (λ id. is_of id literal) first second third before after)
 
 -- one entry
 pub AddsOnly-one : (entry : Entry) (before after : List PropId) → AddsOnly (λ id. is_named id entry) before after →
     AddsOnly (λ id. list_any (is_named id) (option_to_list (Some entry))) before after
 AddsOnly-one entry before after adds =
-    AddsOnly-by (λ id. is_named id entry) (λ id. list_any (is_named id) (entry ∷ [])) before after (λ id. sym (or_none (is_named id entry))) adds
+    AddsOnly-by (λ id. is_named id entry) (λ id. list_any (is_named id) (entry ∷ [])) before after (λ id. sym (or-false (is_named id entry))) adds
 
 module _ (first second third : List PropId) (entries : List Entry) (met : Option Entry) where
   entries_then : AddsOnly (λ id. list_any (is_named id) entries) first second → AddsOnly (λ id. list_any (is_named id) (option_to_list met)) second third →

@@ -2,7 +2,7 @@
 use Rattle.std.proofs.Common.{◌≡◌, ◌<◌, ◌+◌, ℕ, true, false, List, [], ◌∷◌, ◌++◌, length, take, drop, get_or, Option, Some, None, option_map, refl, sym, ap, subst, ◌∙◌, arith}
 use Rattle.std.specs.List.{list_all, cons_option}
 use Rattle.std.specs.Option.{option_to_list}
-use Rattle.std.proofs.lemmas.List.{append-nil, length-take-le, take-append-drop, take_more}
+use Rattle.std.proofs.lemmas.List.{append_assoc, append-nil, length-take-le, take-append-drop, take_more}
 use Rattle.ec_terms.specs.declared.ground.Ground.{Ground}
 use Rattle.ec_terms.specs.declared.theory.Rule.{Rule}
 use Rattle.ec_terms.specs.Matching.{Values, binding_of, fits_some, test_holds}
@@ -11,6 +11,7 @@ use Rattle.ec_props.specs.Table.{KeptProp}
 use Rattle.ec_context.specs.declared.entry.Entry.{Entry}
 use Rattle.ec_context.specs.Entries.{entry_filled, shown_entries, shown_entry}
 use Rattle.ec_context.specs.Widened.{KeepsAll}
+use Rattle.ec_lists.proofs.Options.{cons_option-is_append}
 use Rattle.ec_context.proofs.Shown.{each_of-push, shown_entries-kept}
 
 -- ---- one rule
@@ -40,12 +41,7 @@ module _ (number : ℕ) (rule : Rule) (event : Ground) where
 -- ---- one rule more
 
 cons_option-append : {X : Type 0} (o : Option X) (xs ys : List X) → cons_option o (xs ++ ys) ≡ cons_option o xs ++ ys
-cons_option-append None xs ys = refl
-cons_option-append (Some x) xs ys = refl
-
-cons_option-last : {X : Type 0} (o : Option X) → cons_option o [] ≡ option_to_list o
-cons_option-last None = refl
-cons_option-last (Some x) = refl
+cons_option-append o xs ys = cons_option-is_append o (xs ++ ys) ∙ sym (append_assoc (option_to_list o) xs ys) ∙ ap (λ zs. zs ++ ys) (sym (cons_option-is_append o xs))
 
 -- the entries under some rules and others
 pub entries_from-append : (number : ℕ) (rules others : List Rule) (event : Ground) →
@@ -61,7 +57,7 @@ entries_from-push : (number : ℕ) (rules : List Rule) (rule : Rule) (event : Gr
     entries_from number (rules ++ rule ∷ []) event ≡ entries_from number rules event ++ option_to_list (entry_of (number + length rules) rule event)
 unfolding entries_from
 entries_from-push number rules rule event =
-    entries_from-append number rules (rule ∷ []) event ∙ ap (λ es. entries_from number rules event ++ es) (cons_option-last (entry_of (number + length rules) rule event))
+    entries_from-append number rules (rule ∷ []) event ∙ ap (λ es. entries_from number rules event ++ es) (cons_option-is_append (entry_of (number + length rules) rule event) [] ∙ append-nil (option_to_list (entry_of (number + length rules) rule event)))
 
 pub entries_from-none : (number : ℕ) (event : Ground) → entries_from number [] event ≡ []
 unfolding entries_from

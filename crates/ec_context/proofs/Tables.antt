@@ -5,7 +5,7 @@ use Rattle.std.specs.List.{list_all, insert}
 use Rattle.std.specs.declared.cmp.Ordering.{Ordering}
 use Rattle.std.specs.declared.cmp.Ordering.TheVariants.{Less, Equal, Greater}
 use Rattle.std.specs.Ordering.{is_lt, is_eq, ordering_reverse}
-use Rattle.std.proofs.lemmas.Bool.{cases_Bool, false≢true}
+use Rattle.std.proofs.lemmas.Bool.{cases_Bool, false≢true, eqb-true, eq-eqb}
 use Rattle.std.proofs.lemmas.List.Folds.{list_any-append}
 use Rattle.ec_terms.specs.declared.ground.Ground.{Ground}
 use Rattle.ec_terms.specs.declared.ids.PropId.{PropId}
@@ -13,24 +13,19 @@ use Rattle.ec_terms.specs.Term.{term_cmp, term_eq}
 use Rattle.ec_terms.proofs.OrderLemmas.{term_cmp-total}
 use Rattle.ec_rows.proofs.OrderedLemmas.{ascending-rest, filter-all, with_member-front, with_member-later}
 use Rattle.ec_props.specs.Table.{KeptProp, prop_at, mentions_at, prop_of, prop_before, is_in_order, unmentioned, with_prop, without_prop}
-use Rattle.ec_props.proofs.KeptLemmas.{same_number, itself, by_term, term_eq-is_eq, prop_at-insert}
+use Rattle.ec_props.proofs.KeptLemmas.{by_term, term_eq-is_eq, prop_at-insert}
+use Rattle.ec_lists.proofs.Finds.{find-None_cons}
+use Rattle.ec_lists.proofs.Numbers.{eqb_comm}
+use Rattle.ec_lists.proofs.Options.{None-from_option_map}
 use Rattle.ec_context.specs.Widened.{is_among, without_props}
 
 -- ---- what is not there
-
--- where nothing is found, neither the first passes nor any other
-absent : {A : Type 0} (test : A → Bool) (x : A) (xs : List A) → find test (x ∷ xs) ≡ None → (test x ≡ false) × (find test xs ≡ None)
-absent test x xs none = of (test x) none
-  where
-    of : (b : Bool) → cond b (Some x) (find test xs) ≡ None → (b ≡ false) × (find test xs ≡ None)
-    of true none = cc
-    of false none = (refl, none)
 
 -- no property has a number under which nothing is kept
 lacks : (id : ℕ) (ks : List KeptProp) → prop_at id ks ≡ None → list_all (λ (k : KeptProp). not (k.id == id)) ks ≡ true
 lacks id [] none = refl
 lacks id (k ∷ ks) none =
-    let parts = absent (λ (j : KeptProp). j.id == id) k ks none in
+    let parts = find-None_cons (λ (j : KeptProp). j.id == id) k ks none in
     ap₂ (λ a b. not a && b) parts.0 (lacks id ks parts.1)
 
 -- ---- a property more
@@ -50,7 +45,7 @@ placed : (id : ℕ) (term : Ground) (ks : List KeptProp) → is_in_order ks ≡ 
     (i : ℕ) × (with_prop id term ks ≡ insert ks i (unmentioned id term))
 placed id term [] ordered none = (zero, refl)
 placed id term (k ∷ ks) ordered none =
-    let parts = absent (λ (j : KeptProp). term_eq j.term term) k ks none in
+    let parts = find-None_cons (λ (j : KeptProp). term_eq j.term term) k ks none in
     ⊎_elim
     (λ before. let later = placed id term ks (ascending-rest prop_before k ks ordered) parts.1 in
     (suc later.0, with_member-later prop_before by_term (unmentioned id term) k ks before ∙ ap (λ js. k ∷ js) later.1))
@@ -65,7 +60,7 @@ length-inserted k (j ∷ js) (suc i) = ap suc (length-inserted k js i)
 
 first_gone : (k : KeptProp) (ks : List KeptProp) → prop_at k.id ks ≡ None → without_prop k.id (k ∷ ks) ≡ ks
 first_gone k ks none =
-    ap (λ b. cond (not b) (k ∷ without_prop k.id ks) (without_prop k.id ks)) (itself k.id)
+    ap (λ b. cond (not b) (k ∷ without_prop k.id ks) (without_prop k.id ks)) (eq-eqb k.id k.id refl)
     ∙ filter-all (λ (j : KeptProp). not (j.id == k.id)) ks (lacks k.id ks none)
 
 without-inserted : (k : KeptProp) (ks : List KeptProp) (i : ℕ) → prop_at k.id ks ≡ None → without_prop k.id (insert ks i k) ≡ ks
@@ -73,17 +68,13 @@ without-inserted k [] zero none = first_gone k [] refl
 without-inserted k [] (suc i) none = first_gone k [] refl
 without-inserted k (j ∷ js) zero none = first_gone k (j ∷ js) none
 without-inserted k (j ∷ js) (suc i) none =
-    let parts = absent (λ (l : KeptProp). l.id == k.id) j js none in
+    let parts = find-None_cons (λ (l : KeptProp). l.id == k.id) j js none in
     ap (λ b. cond (not b) (j ∷ without_prop k.id (insert js i k)) (without_prop k.id (insert js i k))) parts.0
     ∙ ap (λ ks. j ∷ ks) (without-inserted k js i parts.1)
 
-option_map-none : {A B : Type 0} (f : A → B) (o : Option A) → option_map f o ≡ None → o ≡ None
-option_map-none f None none = refl
-option_map-none f (Some a) none = cc
-
 module _ (id : ℕ) (term : Ground) (ks : List KeptProp) (ordered : is_in_order ks ≡ true) (unknown : prop_of term ks ≡ None) where
   place : (i : ℕ) × (with_prop id term ks ≡ insert ks i (unmentioned id term))
-  place = placed id term ks ordered (option_map-none (λ (k : KeptProp). k.id) _ unknown)
+  place = placed id term ks ordered (None-from_option_map (λ (k : KeptProp). k.id) _ unknown)
 
   -- a term more makes the table longer by one
   pub length-with_prop : length (with_prop id term ks) ≡ suc (length ks)
@@ -98,16 +89,13 @@ module _ (id : ℕ) (term : Ground) (ks : List KeptProp) (ordered : is_in_order 
   mentions_at-with_prop free =
       ap (mentions_at id) place.1
       ∙ ap (option_map (λ (k : KeptProp). k.mentions))
-      (prop_at-insert (unmentioned id term) ks place.0 id free ∙ ap (λ b. cond b (Some (unmentioned id term)) (prop_at id ks)) (itself id))
+      (prop_at-insert (unmentioned id term) ks place.0 id free ∙ ap (λ b. cond b (Some (unmentioned id term)) (prop_at id ks)) (eq-eqb id id refl))
 
 -- ---- without the properties of some numbers
 
 -- a number among others and one more
 pub is_among-push : (id : ℕ) (props : List PropId) (p : PropId) → is_among id (props ++ p ∷ []) ≡ (is_among id props || (p.0 == id))
 is_among-push id props p = list_any-append (λ (q : PropId). q.0 == id) props (p ∷ []) ∙ grind arith
-
-turned : (a b : ℕ) → (a == b) ≡ (b == a)
-turned a b = grind arith
 
 -- without no number a table is as it is
 pub without_props-none : (ks : List KeptProp) → without_props [] ks ≡ ks
@@ -121,7 +109,7 @@ without_props-push props p [] = refl
 without_props-push props p (k ∷ ks) =
     let ih = without_props-push props p ks in
     let both : is_among k.id (props ++ p ∷ []) ≡ (is_among k.id props || (k.id == p.0)) =
-    is_among-push k.id props p ∙ ap (λ b. is_among k.id props || b) (turned p.0 k.id) in
+    is_among-push k.id props p ∙ ap (λ b. is_among k.id props || b) (eqb_comm p.0 k.id) in
     ap₂ (λ b js. cond (not b) (k ∷ js) js) both ih ∙ of (k.id == p.0) (is_among k.id props) refl refl
   where
     of : (gone among : Bool) → (k.id == p.0) ≡ gone → is_among k.id props ≡ among →
@@ -139,7 +127,7 @@ prop_at-without_props props id (k ∷ ks) other =
     let ih = prop_at-without_props props id ks other in
     ⊎_elim
     (λ gone. let apart : (k.id == id) ≡ false =
-    ⊎_elim (λ same. absurd (false≢true (sym other ∙ ap (λ n. is_among n props) (sym (same_number k.id id same)) ∙ gone))) (λ e. e) (cases_Bool (k.id == id)) in
+    ⊎_elim (λ same. absurd (false≢true (sym other ∙ ap (λ n. is_among n props) (sym (eqb-true k.id id same)) ∙ gone))) (λ e. e) (cases_Bool (k.id == id)) in
     ap (λ b. prop_at id (cond (not b) (k ∷ without_props props ks) (without_props props ks))) gone ∙ ih
     ∙ ap (λ b. cond b (Some k) (prop_at id ks)) (sym apart))
     (λ stays. ap (λ b. prop_at id (cond (not b) (k ∷ without_props props ks) (without_props props ks))) stays ∙ ap (λ o. cond (k.id == id) (Some k) o) ih)

@@ -12,7 +12,8 @@ use Rattle.std.proofs.lemmas.Bool.{cases_Bool}
 use Rattle.std.proofs.lemmas.Int.{ints}
 use Rattle.ec_entries.specs.declared.event_entries.Dependent.{Dependent}
 use Rattle.ec_entries.specs.Dependents.{AreInOrder, dependent_before, from_place, is_from}
-use Rattle.ec_rows.proofs.OrderedLemmas.{IsPlace, IsPlace-by_key, IsOrder-by_key, IsPartitionedBy-ascending, at-from_any, filter-behind_free, free-from_none, is_ascending-remove, is_ascending-with_member, is_at, is_eq-is_at, take-partition, with_member-free}
+use Rattle.ec_rows.proofs.OrderedLemmas.{IsPlace, IsPlace-by_key, IsOrder-by_key, IsPartitionedBy-ascending, at-from_any, filter-behind_free, free-from_none, is_ascending-remove, is_ascending-with_member, is_at, is_eq-is_at, with_member-free}
+use Rattle.ec_lists.proofs.Partitions.{IsCut, take-partition}
 
 -- ---- filters of edited lists
 
@@ -161,10 +162,6 @@ module _ {T : Type 0} (rank : T → ℤ) where
 
   abbrev pub behind : Dependent T → Dependent T → Bool
   behind d e = dependent_before rank d e
-
-  -- the list is cut where its members stop to pass a test
-  abbrev pub IsCut : (Dependent T → Bool) → List (Dependent T) → ℕ → Type 0
-  IsCut test ds i = IsPartitionPoint (λ e. test e ≡ true) (λ e. test e ≡ false) ds i
 
   IsPlace-dependent : (d : Dependent T) → IsPlace (dependent_before rank) (before d) (behind d)
   IsPlace-dependent d = IsPlace-by_key key_cmp key_cmp-total key_of (key_of d)

@@ -5,8 +5,7 @@ use Rattle.std.specs.Ordering.{int_eq}
 use Rattle.std.proofs.lemmas.Int.{ints}
 use Rattle.ec_entries.specs.declared.event_entries.Dependent.{Dependent}
 use Rattle.ec_entries.specs.Dependents.{dependents_after, dependents_at}
-use Rattle.ec_entries.proofs.Orders.{IsCut}
-use Rattle.ec_rows.proofs.OrderedLemmas.{drop-partition}
+use Rattle.ec_lists.proofs.Partitions.{IsCut, drop-partition}
 
 later : (r t : ℤ) → int_lt t r ≡ not (int_le r t)
 later r t = grind (arith, ints)
@@ -58,17 +57,17 @@ module _ {T : Type 0} (rank : T → ℤ) (t : ℤ) where
   up_to d = int_le (rank d.at) t
 
   -- behind those up to a time are those after it
-  pub drop-after : (ds : List (Dependent T)) (i : ℕ) → IsCut rank up_to ds i → drop i ds ≡ dependents_after rank t ds
+  pub drop-after : (ds : List (Dependent T)) (i : ℕ) → IsCut up_to ds i → drop i ds ≡ dependents_after rank t ds
   drop-after ds i cut = drop-partition up_to (λ d. int_lt t (rank d.at)) (λ d. later (rank d.at) t) ds i cut
 
-  rest : (test : Dependent T → Bool) (d : Dependent T) (ds : List (Dependent T)) (i : ℕ) → IsCut rank test (d ∷ ds) (suc i) → IsCut rank test ds i
+  rest : (test : Dependent T → Bool) (d : Dependent T) (ds : List (Dependent T)) (i : ℕ) → IsCut test (d ∷ ds) (suc i) → IsCut test ds i
   rest test d ds i cut = (λ k e low high. cut.0 (suc k) e (omega arith) (omega arith), λ k e low high. cut.1 (suc k) e (omega arith) (omega arith))
 
-  none : (test : Dependent T → Bool) (d : Dependent T) (ds : List (Dependent T)) → IsCut rank test (d ∷ ds) zero → IsCut rank test ds zero
+  none : (test : Dependent T → Bool) (d : Dependent T) (ds : List (Dependent T)) → IsCut test (d ∷ ds) zero → IsCut test ds zero
   none test d ds cut = (λ k e low high. absurd (omega arith), λ k e low high. cut.1 (suc k) e (omega arith) (omega arith))
 
   -- those at a time stand between those before it and those after it
-  pub dependents_at-between : (ds : List (Dependent T)) (i j : ℕ) → IsCut rank earlier ds i → IsCut rank up_to ds j → dependents_at rank t ds ≡ drop i (take j ds)
+  pub dependents_at-between : (ds : List (Dependent T)) (i j : ℕ) → IsCut earlier ds i → IsCut up_to ds j → dependents_at rank t ds ≡ drop i (take j ds)
   dependents_at-between [] zero zero low high = refl
   dependents_at-between [] zero (suc j) low high = refl
   dependents_at-between [] (suc i) zero low high = refl
@@ -87,7 +86,7 @@ module _ {T : Type 0} (rank : T → ℤ) (t : ℤ) where
       ∙ dependents_at-between ds i j (rest earlier d ds i low) (rest up_to d ds j high)
 
   -- no more are before a time than up to it
-  pub earlier-up_to : (ds : List (Dependent T)) (i j : ℕ) → i ≤ length ds → IsCut rank earlier ds i → IsCut rank up_to ds j → i ≤ j
+  pub earlier-up_to : (ds : List (Dependent T)) (i j : ℕ) → i ≤ length ds → IsCut earlier ds i → IsCut up_to ds j → i ≤ j
   earlier-up_to [] i j within low high = omega (arith, within)
   earlier-up_to (d ∷ ds) zero j within low high = omega arith
   earlier-up_to (d ∷ ds) (suc i) zero within low high =
@@ -95,7 +94,7 @@ module _ {T : Type 0} (rank : T → ℤ) (t : ℤ) where
   earlier-up_to (d ∷ ds) (suc i) (suc j) within low high =
       let ih = earlier-up_to ds i j (omega (arith, within)) (rest earlier d ds i low) (rest up_to d ds j high) in omega (arith, ih)
 
-  module _ (ds : List (Dependent T)) (i j : ℕ) (low : IsCut rank earlier ds i) (high : IsCut rank up_to ds j) (k : ℕ) where
+  module _ (ds : List (Dependent T)) (i j : ℕ) (low : IsCut earlier ds i) (high : IsCut up_to ds j) (k : ℕ) where
     pub slice_get-dependents_at : k < j - i → slice_get (dependents_at rank t ds) k ≡ slice_get ds (i + k)
     slice_get-dependents_at within = ap (λ es. slice_get es k) (dependents_at-between ds i j low high) ∙ slice_get-between ds i j k within
 
