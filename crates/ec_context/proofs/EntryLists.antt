@@ -1,5 +1,5 @@
 -- The entries of one event: none at first, and what a table shows as a beginning of the entries that an event has.
-use Rattle.std.proofs.Common.{◌≡◌, ◌+◌, ℕ, List, [], ◌++◌, length, map, Some, sym, ap, subst, ◌∙◌, arith}
+use Rattle.std.proofs.Common.{◌≡◌, ◌+◌, ◌<◌, ℕ, zero, suc, List, [], ◌∷◌, ◌++◌, length, map, Some, sym, ap, subst, ◌∙◌, arith}
 use Rattle.std.specs.List.Sorted.{IsStrictlyIncreasing}
 use Rattle.std.proofs.lemmas.List.{get_or_append_left, length-append, map-append}
 use Rattle.ec_terms.specs.declared.ground.Ground.{Ground}
@@ -25,6 +25,17 @@ IsStrictlyIncreasing-front xs ys rises k within =
 pub IsEntryList-none : (entries : List Entry) → entries ≡ [] → IsEntryList entries
 IsEntryList-none entries none =
     subst IsEntryList (sym none) (record { few = omega arith; order = λ k within. absurd (omega (arith, within)) })
+
+-- one, and two by ascending numbers
+pub IsEntryList-one : (entry : Entry) → IsEntryList (entry ∷ [])
+IsEntryList-one entry = record { few = omega arith; order = λ k within. absurd (omega (arith, within)) }
+
+pub IsEntryList-two : (first second : Entry) → first.rule < second.rule → IsEntryList (first ∷ second ∷ [])
+IsEntryList-two first second rises = record { few = omega arith; order = order }
+  where
+    order : IsStrictlyIncreasing (first.rule ∷ second.rule ∷ [])
+    order zero within = rises
+    order (suc k) within = absurd (omega (arith, within))
 
 -- a beginning of what an event has by a well-formed theory
 pub IsEntryList-shown : (theory : Theory) (event : Ground) → IsWellFormed theory → (table : List KeptProp) (entries : List Entry) (front rest : List GroundEntry) →

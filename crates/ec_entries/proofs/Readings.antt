@@ -1,10 +1,15 @@
 -- What the searches of a list of dependents cut out: those after a time, and those at it.
-use Rattle.std.proofs.Common.{◌≡◌, ◌+◌, ◌-◌, ◌<◌, ◌≤◌, ℕ, ℤ, zero, suc, Bool, true, false, not, cond, List, [], ◌∷◌, length, take, drop, None, refl, ap, ◌∙◌, arith}
+use Rattle.std.proofs.Common.{◌≡◌, ◌+◌, ◌-◌, ◌<◌, ◌≤◌, ℕ, ℤ, zero, suc, Bool, true, false, not, cond, List, [], ◌∷◌, length, take, drop, None, Some, refl, ap, subst, ◌∙◌, arith}
 use Rattle.std.specs.Prelude.{int_lt, int_le, slice_get}
-use Rattle.std.specs.Ordering.{int_eq}
+use Rattle.std.specs.declared.cmp.Ordering.{Ordering}
+use Rattle.std.specs.List.{list_all}
+use Rattle.std.specs.Ordering.{int_cmp, int_eq, is_lt, nat_cmp, ordering_then}
+use Rattle.std.proofs.lemmas.Bool.{and_from}
 use Rattle.std.proofs.lemmas.Int.{ints}
 use Rattle.ec_entries.specs.declared.event_entries.Dependent.{Dependent}
-use Rattle.ec_entries.specs.Dependents.{dependents_after, dependents_at}
+use Rattle.ec_entries.specs.Dependents.{AreInOrder, dependent_before, dependents_after, dependents_at}
+use Rattle.ec_lists.proofs.Tests.{list_all-weaker}
+use Rattle.ec_rows.proofs.OrderedLemmas.{ascending-first, is_ascending-filter}
 use Rattle.ec_lists.proofs.Partitions.{IsCut, drop-partition}
 
 later : (r t : ℤ) → int_lt t r ≡ not (int_le r t)
@@ -21,6 +26,19 @@ not_at-after r t = grind (arith, ints)
 
 never : (r t : ℤ) → int_lt r t ≡ true → int_le r t ≡ false → ⊥
 never r t first second = let both : int_le r t ≡ true = grind (arith, ints) in cc
+
+not_later : (r : ℤ) → int_le r r ≡ true
+not_later r = grind (arith, ints)
+
+no_later : (r s : ℤ) (o : Ordering) → is_lt (ordering_then (int_cmp r s) o) ≡ true → int_le r s ≡ true
+no_later r s o = grind (arith, ints)
+
+-- the first of a beginning is the first
+pub slice_get-front : {X : Type 0} (xs : List X) (n : ℕ) (x : X) → slice_get (take n xs) 0 ≡ Some x → slice_get xs 0 ≡ Some x
+slice_get-front [] zero x first = cc
+slice_get-front [] (suc n) x first = cc
+slice_get-front (y ∷ xs) zero x first = cc
+slice_get-front (y ∷ xs) (suc n) x first = first
 
 -- the members between two places
 slice_get-between : {X : Type 0} (xs : List X) (i j k : ℕ) → k < j - i → slice_get (drop i (take j xs)) k ≡ slice_get xs (i + k)
@@ -100,3 +118,17 @@ module _ {T : Type 0} (rank : T → ℤ) (t : ℤ) where
 
     pub slice_get-past_dependents_at : j - i ≤ k → slice_get (dependents_at rank t ds) k ≡ None
     slice_get-past_dependents_at past = ap (λ es. slice_get es k) (dependents_at-between ds i j low high) ∙ slice_get-past_between ds i j k past
+
+  -- the first of those after a time is the earliest of them
+  pub dependents_after-least : (ds : List (Dependent T)) → AreInOrder rank ds → (d : Dependent T) → slice_get (dependents_after rank t ds) 0 ≡ Some d →
+      list_all (λ e. int_le (rank d.at) (rank e.at)) (dependents_after rank t ds) ≡ true
+  dependents_after-least ds order d first = of (dependents_after rank t ds) (is_ascending-filter (dependent_before rank) (λ e. int_lt t (rank e.at)) ds order) first
+    where
+      of : (es : List (Dependent T)) → AreInOrder rank es → slice_get es 0 ≡ Some d → list_all (λ e. int_le (rank d.at) (rank e.at)) es ≡ true
+      of [] order first = cc
+      of (e ∷ es) order first =
+          let same : e ≡ d = cc in
+          subst (λ x. list_all (λ y. int_le (rank x.at) (rank y.at)) (e ∷ es) ≡ true) same
+          (and_from _ _ (not_later (rank e.at))
+          (list_all-weaker (dependent_before rank e) (λ y. int_le (rank e.at) (rank y.at))
+          (λ y. no_later (rank e.at) (rank y.at) (ordering_then (nat_cmp e.slot.0 y.slot.0) (nat_cmp e.place y.place))) es (ascending-first (dependent_before rank) e es order)))

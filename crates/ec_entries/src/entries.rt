@@ -1,4 +1,5 @@
-ghost use Rattle.std.specs.Prelude.{◌≡◌, ◌≢◌, ◌+◌, ◌<◌, ◌≤◌, ℕ, [], None, Some, IsSome, IfSome, OnOk, length, take, slice_get, option_map};
+ghost use Rattle.std.specs.Prelude.{◌≡◌, ◌≢◌, ◌+◌, ◌<◌, ◌≤◌, ℕ, [], None, Some, IsSome, IsTrue, IfSome, int_le, is_some, OnOk, length, take, slice_get, option_map};
+ghost use Rattle.std.specs.List.{list_all};
 ghost use Rattle.ec_numbered.specs.ByNumber.{kept_at};
 ghost use Rattle.ec_entries.specs.Dependents.{AreDependents, count_on, count_on_all, dependents_after, dependents_at, dependents_of, room_of};
 
@@ -63,6 +64,13 @@ impl<T: Moment> Entries<T> {
     {
         widen(&mut self.slots, places)?;
         reserve_all(self.alloc, &mut self.rows, lists.as_slice())
+    }
+
+    /// Whether the entries of an event are kept in a slot.
+    pub fn contains(&self, slot: Slot) -> bool
+        ensures { result ≡ is_some (kept_at slot.0 self.now.slots) }
+    {
+        is_kept(&self.slots, slot)
     }
 
     /// Keeps the entries of the event in a slot. It takes no memory.
@@ -150,6 +158,7 @@ impl<T: Moment> Entries<T> {
     /// The least time after `at` of a dependent of a property. `None` exactly when none is after it.
     pub fn next_dependent_after(&self, p: PropId, at: T) -> Option<T>
         ensures next { result ≡ option_map (λ dependent. dependent.at) (slice_get (dependents_after T.rank (T.rank at) (dependents_of p.0 self.now.rows)) 0) }
+        ensures least { IfSome result (λ t. IsTrue (list_all (λ dependent. int_le (T.rank t) (T.rank dependent.at)) (dependents_after T.rank (T.rank at) (dependents_of p.0 self.now.rows)))) }
         ensures dependents { AreDependents T.rank p.0 self.now.slots (dependents_of p.0 self.now.rows) }
     {
         let dependent = self.dependents_after(p, at).first()?;
@@ -176,6 +185,13 @@ fn widen<T: Moment>(slots: &mut Vec<Option<EventEntries<T>>>, places: usize) -> 
         slots.resize_with(places, || None)?;
     }
     Ok(())
+}
+
+/// Whether something is kept in a slot.
+fn is_kept<T: Moment>(slots: &[Option<EventEntries<T>>], slot: Slot) -> bool
+    ensures { result ≡ is_some (kept_at slot.0 slots.now) }
+{
+    slot.0 < slots.len() && slots[slot.0].is_some()
 }
 
 /// What is kept of the event in a slot.
