@@ -70,7 +70,7 @@ unfolding has_event
 has_event-member events e member = member-list_any (event_eq e) events e member (event_eq-same e)
 
 -- an event is not before itself
-comes_before-itself : (e : PlainEvent) → IsTrue (comes_before e e) → ⊥
+pub comes_before-itself : (e : PlainEvent) → IsTrue (comes_before e e) → ⊥
 unfolding comes_before
 comes_before-itself e before =
     let never = int_lt-same e.rank in

@@ -9,6 +9,7 @@ pub mod LiveMarks
 pub mod TermOrder
 pub mod LinkSteps
 pub mod KeptCounts
+pub mod DistinctLists
 pub mod DistinctTerms
 pub mod OtherIntervals
 pub mod SameList
@@ -16,3 +17,4 @@ pub mod TwoTimelines
 pub mod Inert
 pub mod EventMentions
 pub mod LiveLists
+pub mod Hits

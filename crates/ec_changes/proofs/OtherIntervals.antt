@@ -23,7 +23,8 @@ use Rattle.ec_changes.proofs.LiveMarks.{not_live-unknown}
 use Rattle.ec_changes.proofs.TermOrder.{IsMember-in_term_order, IsMember-from_test, test-IsMember}
 use Rattle.std.proofs.lemmas.Bool.Decides.{Decides-int_eq}
 use Rattle.std.proofs.lemmas.Slice.Eq.{slice_eq-Decides}
-use Rattle.ec_changes.proofs.DistinctTerms.{IsDistinct-filter, IsDistinct-live_properties, term_eq-IsEquivalence}
+use Rattle.ec_changes.proofs.DistinctTerms.{IsDistinct-live_properties, term_eq-IsEquivalence}
+use Rattle.ec_changes.proofs.DistinctLists.{IsDistinct-filter}
 
 -- ---- equal intervals
 
@@ -135,7 +136,7 @@ PropertiesInAnyList-law theory old new properties names once has =
     let has_live : (p : Ground) → IsTrue (other p) → IsTrue (list_any (term_eq p) live) =
     λ p differ. in_live_properties theory old new p (place p (is_live-other_intervals theory old new p differ)) in
     length-from_same_keys term_eq-IsEquivalence (filter other live) (filter other properties)
-    (IsDistinct-filter other live (IsDistinct-live_properties theory (old ++ new))) (IsDistinct-filter other properties once)
+    (IsDistinct-filter term_eq other live (IsDistinct-live_properties theory (old ++ new))) (IsDistinct-filter term_eq other properties once)
     (λ p. test-filter other live has_live p ∙ sym (test-filter other properties has p))
   where
     place : (p : Ground) → IsTrue (is_live theory old p) ⊎ IsTrue (is_live theory new p)

@@ -1,13 +1,13 @@
 -- The laws of what turned between two lists of events, as statements.
-use Rattle.std.specs.Prelude.{◌≡◌, ◌↔◌, ◌+◌, Bool, List, ℤ, length, IsTrue, IsFalse}
+use Rattle.std.specs.Prelude.{filter, ◌&&◌, ◌≡◌, ◌↔◌, ◌+◌, Bool, List, ℤ, length, IsTrue, IsFalse}
 use Rattle.ec_terms.specs.declared.ground.Ground.{Ground}
 use Rattle.ec_terms.specs.declared.theory.Theory.{Theory}
 use Rattle.ec_terms.specs.Domain.{GroundEntry}
 use Rattle.ec_axioms.specs.Calculus.{PlainEvent, Effect, is_active, effects_at, is_current, is_initiating, is_terminating, is_clashing}
 use Rattle.ec_axioms.specs.Marks.{mark_at}
-use Rattle.ec_axioms.specs.Changes.{is_history, has_event, kept_events}
-use Rattle.ec_changes.specs.Differences.{differs, reads}
-use Rattle.ec_changes.specs.Turns.{sees, gained, lost}
+use Rattle.ec_axioms.specs.Changes.{is_history, has_event, kept_events, events_only_in}
+use Rattle.ec_changes.specs.Differences.{differs, reads, entries_at}
+use Rattle.ec_changes.specs.Turns.{sees, turns_on, turns_off, gained, lost, ListsSeen}
 
 -- Two histories with the same events are the same list.
 abbrev pub SameEventsSameHistory : Type 0
@@ -51,3 +51,21 @@ abbrev pub MarksFollowTurns : Type 0
 MarksFollowTurns =
     (theory : Theory) (old new : List PlainEvent) (p : Ground) (t : ℤ) → IsTrue (is_history old) → IsTrue (is_history new)
     → FollowsTurns theory old new p t
+
+-- what is counted at an instant, read off a list of the entries that see a change
+pub record IsCountedBy (theory : Theory) (old new : List PlainEvent) (t : ℤ) (seen : List Effect) : Type 0 where
+  pub seen_there : length (filter (sees theory old new) (entries_at theory (kept_events old new) t)) ≡ length seen
+  pub on : length (filter (turns_on theory old new) (entries_at theory (kept_events old new) t)) ≡ length (filter (turns_on theory old new) seen)
+  pub off : length (filter (turns_off theory old new) (entries_at theory (kept_events old new) t)) ≡ length (filter (turns_off theory old new) seen)
+  pub gained_by : (wanted : GroundEntry → Bool) → gained theory old new wanted t
+      ≡ length (filter (λ effect. wanted effect.entry && turns_on theory old new effect) seen)
+      + length (effects_at theory (events_only_in new old) (is_current theory new) wanted t)
+  pub lost_by : (wanted : GroundEntry → Bool) → lost theory old new wanted t
+      ≡ length (filter (λ effect. wanted effect.entry && turns_off theory old new effect) seen)
+      + length (effects_at theory (events_only_in old new) (is_current theory old) wanted t)
+
+-- Only entries that see a change turn, so a list of these in any order counts all that turned.
+abbrev pub SeenInAnyOrder : Type 0
+SeenInAnyOrder =
+    (theory : Theory) (old new : List PlainEvent) (t : ℤ) (seen : List Effect) → IsTrue (is_history old)
+    → ListsSeen theory old new t seen → IsCountedBy theory old new t seen

@@ -1,9 +1,10 @@
 -- What turned at an instant between two lists of events: entries that came to act there, and entries that ceased to.
-use Rattle.std.specs.Prelude.{ℕ, ◌+◌, Bool, not, ◌&&◌, List, ℤ, length, filter, int_lt}
+use Rattle.std.specs.Prelude.{◌==◌, IsTrue, Contains, ℕ, ◌+◌, Bool, not, ◌&&◌, List, ℤ, length, filter, int_lt}
+use Rattle.std.specs.List.{list_any, IsDistinct}
 use Rattle.ec_terms.specs.declared.theory.Theory.{Theory}
 use Rattle.ec_terms.specs.Domain.{GroundEntry}
 use Rattle.ec_axioms.specs.Calculus.{PlainEvent, Effect, is_active, effects_at, is_current}
-use Rattle.ec_axioms.specs.Changes.{kept_events, events_only_in, kept_effects, sees_change}
+use Rattle.ec_axioms.specs.Changes.{event_eq, kept_events, events_only_in, kept_effects, sees_change}
 use Rattle.ec_changes.specs.Differences.{entries_at}
 
 -- the entries at an instant that pass a test, of events that stand in both lists
@@ -35,3 +36,14 @@ lost theory old new wanted t =
 -- how many entries of kept events before an instant pass a test
 unfoldable pub kept_count : Theory → List PlainEvent → List PlainEvent → (Effect → Bool) → ℤ → ℕ
 kept_count theory old new test t = length (filter (λ effect. int_lt effect.event.rank t && test effect) (kept_effects theory old new))
+
+-- two entries of events are the same: of the same event, by the same rule
+unfoldable pub same_entry : Effect → Effect → Bool
+same_entry effect other = event_eq effect.event other.event && effect.entry.rule == other.entry.rule
+
+-- A list has the kept entries at an instant that see a change, in any order and each once.
+pub record ListsSeen (theory : Theory) (old new : List PlainEvent) (t : ℤ) (seen : List Effect) : Type 0 where
+  pub once : IsDistinct same_entry seen
+  pub kept : (effect : Effect) → Contains seen effect → Contains (entries_at theory (kept_events old new) t) effect × IsTrue (sees theory old new effect)
+  pub all : (effect : Effect) → Contains (entries_at theory (kept_events old new) t) effect → IsTrue (sees theory old new effect)
+      → IsTrue (list_any (same_entry effect) seen)

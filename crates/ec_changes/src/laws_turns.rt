@@ -1,6 +1,6 @@
 //! What turned between two histories, each law the contract of a function: how the effects and the marks at an instant
 //! follow from those of the old list and the entries that came to act there or ceased to.
-ghost use Rattle.ec_changes.specs.TurnLaws.{EffectsFollowTurns, KeptIsOfBoth, MarksFollowTurns, SameEventsSameHistory, SeeingIsReading, UnseenStays};
+ghost use Rattle.ec_changes.specs.TurnLaws.{EffectsFollowTurns, KeptIsOfBoth, MarksFollowTurns, SameEventsSameHistory, SeeingIsReading, SeenInAnyOrder, UnseenStays};
 
 /// Two histories with the same events are the same list: the order of a history leaves no choice.
 pub fn same_events_same_history_law()
@@ -34,4 +34,10 @@ pub fn effects_follow_turns_law()
 /// that is exclusive to it.
 pub fn marks_follow_turns_law()
     ensures { MarksFollowTurns }
+{}
+
+/// Only entries that see a change turn. So whoever lists the kept entries at an instant that see one, in any order and each
+/// once, has in that list all that is seen, gained and lost there, but for the events that were added and removed.
+pub fn seen_in_any_order_law()
+    ensures { SeenInAnyOrder }
 {}

@@ -31,5 +31,5 @@ pub use laws_quiet::{
 };
 pub use laws_turns::{
     effects_follow_turns_law, kept_is_of_both_law, marks_follow_turns_law,
-    same_events_same_history_law, seeing_is_reading_law, unseen_stays_law,
+    same_events_same_history_law, seeing_is_reading_law, seen_in_any_order_law, unseen_stays_law,
 };
