@@ -244,6 +244,16 @@ const COUNTS: Seen = Seen {
     props: 13,
 };
 
+#[test]
+fn counts_are_shown_by_their_names(rt: HostRuntime) -> Result<(), Fail> {
+    let text = format!(in rt.alloc(); "{COUNTS:?}")?;
+    assert_eq!(rt;
+        text.as_str(),
+        "Seen { seen: 12, on: 18446744073709551615, off: 0, props: 13 }"
+    );
+    Ok(())
+}
+
 /// Answers with the session of their line and their text.
 const ANSWERS: [(Option<u8>, Answer, &[u8]); 17] = [
     (Some(0), Answer::Ok, b"@0 ok\n"),
