@@ -7,7 +7,7 @@ use Rattle.std.proofs.lemmas.Bool.{and_parts, and_from, cases_eq, cases_lt, eq-e
 use Rattle.std.proofs.lemmas.Cmp.{nat_eq_equiv}
 use Rattle.std.proofs.lemmas.List.Folds.{list_all-append}
 use Rattle.std.proofs.lemmas.Map.Made.{length-from_keys}
-use Rattle.std.proofs.Math.Bool.{and_assoc}
+use Rattle.std.proofs.Math.Bool.{and_assoc, or-true}
 use Rattle.ec_terms.specs.declared.pattern.PatArg.{PatArg}
 use Rattle.ec_terms.specs.declared.pattern.PatArg.TheVariants.{Var, Any, Fixed}
 use Rattle.ec_terms.specs.declared.theory.Test.{Test}
@@ -50,12 +50,8 @@ unfolding below
 is_member-below zero q less = absurd (omega arith)
 is_member-below (suc n) q less =
     ⊎_elim (λ same. ap (λ b. b || is_member nat_eq (below n) q) (eq-eqb q n same))
-    (λ other. let there = is_member-below n q (omega arith) in rw there (or_true (eqb q n)))
+    (λ other. let there = is_member-below n q (omega arith) in rw there (or-true (eqb q n)))
     (cases_eq q n)
-  where
-    or_true : (b : Bool) → (b || true) ≡ true
-    or_true true = refl
-    or_true false = refl
 
 below-is_member : (n q : ℕ) → is_member nat_eq (below n) q ≡ true → q < n
 unfolding below
@@ -117,12 +113,8 @@ unfolding bound
 greatest-stands [] v is = absurd (omega arith)
 greatest-stands (Var w ∷ places) v is =
     ⊎_elim (λ left. let e : w ≡ v = omega (arith, left, is) in ap (λ b. b || list_any (stands_at v) places) (eq-eqb w v e))
-    (λ right. let there = greatest-stands places v (sym right ∙ is) in rw there (or_true (eqb w v)))
+    (λ right. let there = greatest-stands places v (sym right ∙ is) in rw there (or-true (eqb w v)))
     (larger-either (w + 1) (bound places))
-  where
-    or_true : (b : Bool) → (b || true) ≡ true
-    or_true true = refl
-    or_true false = refl
 greatest-stands (Any ∷ places) v is = greatest-stands places v is
 greatest-stands (Fixed a ∷ places) v is = greatest-stands places v is
 

@@ -11,6 +11,7 @@ use Rattle.ec_terms.specs.declared.theory.Strong.{Strong}
 use Rattle.ec_terms.specs.declared.theory.Initial.{Initial}
 use Rattle.ec_terms.specs.declared.theory.Theory.{Theory}
 use Rattle.ec_terms.specs.Binding.{stands_in}
+use Rattle.ec_terms.specs.declared.limits.TheConstants.{MOST_ARGS, MOST_VARIABLES}
 use Rattle.ec_check.specs.declared.limits.TheConstants.{MOST_RULES, MOST_EVENT_RULES, MOST_TESTS, MOST_LITERALS, MOST_EXCLUSIVES, MOST_STRONGS, MOST_INITIALS}
 use Rattle.ec_check.specs.declared.fault.CheckFault.{CheckFault}
 use Rattle.ec_check.specs.declared.fault.CheckFault.TheVariants.{Arity, TooMany, AnyInHead, Unbound}
@@ -25,7 +26,7 @@ each_open test r =
 
 -- at most 8 arguments
 abbrev pub is_narrow : Pattern → Bool
-is_narrow p = nat_le (length p.args) 8
+is_narrow p = nat_le (length p.args) MOST_ARGS
 
 -- every pattern of the rule has at most 8 arguments
 unfoldable pub is_narrow_rule : Rule → Bool
@@ -52,7 +53,7 @@ variables_in (Fixed a ∷ places) = variables_in places
 
 -- at most 16 different variables stand at the places
 unfoldable pub has_few_variables : List PatArg → Bool
-has_few_variables places = nat_le (distinct_count nat_eq (variables_in places)) 16
+has_few_variables places = nat_le (distinct_count nat_eq (variables_in places)) MOST_VARIABLES
 
 -- no `_`
 abbrev pub is_no_any : PatArg → Bool
@@ -77,7 +78,7 @@ first_from test (suc n) v = if test v then Some v else first_from test n (v + 1)
 
 -- the least unbound variable, where the variables are below 16
 unfoldable pub least_unbound : Rule → Option ℕ
-least_unbound r = first_from (is_unbound r) 16 0
+least_unbound r = first_from (is_unbound r) MOST_VARIABLES 0
 
 -- ---- the table
 
@@ -105,12 +106,12 @@ exclusive_fault earlier e =
 unfoldable pub strong_fault : List Strong → Strong → Option CheckFault
 strong_fault earlier s =
     if nat_le MOST_STRONGS (length earlier) then Some (TooMany Strongs s.clause)
-    else (if not (int_le (pos 0) s.arity && int_le s.arity (pos 8)) then Some (Arity s.clause)
+    else (if not (int_le (pos 0) s.arity && int_le s.arity (pos MOST_ARGS)) then Some (Arity s.clause)
     else None)
 
 -- the least variable of a pattern, where its variables are below 16
 unfoldable pub least_variable : Pattern → Option ℕ
-least_variable p = first_from (λ v. stands_in v p) 16 0
+least_variable p = first_from (λ v. stands_in v p) MOST_VARIABLES 0
 
 -- the first fault of an initial property that stands behind others
 unfoldable pub initial_fault : List Initial → Initial → Option CheckFault

@@ -8,13 +8,8 @@ ghost use Rattle.ec_check.specs.Numbering.{AreWithoutGap};
 
 use crate::fault::{CheckFault, Many};
 use crate::limits::{MOST_EXCLUSIVES, MOST_INITIALS, MOST_STRONGS};
-use crate::rules::{
-    MOST_VARIABLES, both, has_no_any, is_narrow, is_small, stands_in, unbound_fault,
-};
-use ec_terms::{Exclusive, Initial, Pattern, Strong};
-
-/// The most arguments of a term.
-const MOST_ARGS: i64 = 8;
+use crate::rules::{both, has_no_any, is_narrow, is_small, stands_in, unbound_fault};
+use ec_terms::{Exclusive, Initial, MOST_ARGS, MOST_VARIABLES, Pattern, Strong};
 
 /// Whether an exclusive declaration has at most 16 different variables.
 #[tactic(auto, using(crate::proofs::FewVariables::few_in_exclusive))]
@@ -64,7 +59,7 @@ fn strong_fault(earlier: &[Strong], declaration: &Strong) -> Option<CheckFault>
         Some(CheckFault::TooMany(Many::Strongs, clause))
     } else if declaration.arity < 0 {
         Some(CheckFault::Arity(clause))
-    } else if declaration.arity > MOST_ARGS {
+    } else if declaration.arity > MOST_ARGS as i64 {
         Some(CheckFault::Arity(clause))
     } else {
         None
@@ -76,7 +71,7 @@ fn strong_fault(earlier: &[Strong], declaration: &Strong) -> Option<CheckFault>
 fn least_variable(pattern: &Pattern) -> Option<u32>
     ensures { result ≡ least_variable pattern.now }
 {
-    for variable in 0..MOST_VARIABLES {
+    for variable in 0..MOST_VARIABLES as u32 {
         if stands_in(variable, pattern) {
             return Some(variable);
         }

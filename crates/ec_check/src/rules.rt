@@ -9,13 +9,7 @@ ghost use Rattle.ec_check.specs.Numbering.{AreWithoutGap};
 
 use crate::fault::{CheckFault, Many};
 use crate::limits::{MOST_EVENT_RULES, MOST_LITERALS, MOST_RULES, MOST_TESTS};
-use ec_terms::{Literal, PatArg, Pattern, Rule, Test};
-
-/// The most arguments of a pattern.
-const MOST_ARGS: usize = 8;
-
-/// The most different variables of a clause.
-pub const MOST_VARIABLES: u32 = 16;
+use ec_terms::{Literal, MOST_ARGS, MOST_VARIABLES, PatArg, Pattern, Rule, Test};
 
 /// Whether both hold.
 pub fn both(first: bool, second: bool) -> bool
@@ -36,7 +30,7 @@ pub fn is_small_place(place: &PatArg) -> bool
     ensures { result ≡ is_small_place place.now }
 {
     match place {
-        PatArg::Var(v) => *v < MOST_VARIABLES,
+        PatArg::Var(v) => *v < MOST_VARIABLES as u32,
         PatArg::Any => true,
         PatArg::Fixed(_) => true,
     }
@@ -245,7 +239,7 @@ fn is_unbound(rule: &Rule, variable: u32) -> bool
 fn least_unbound(rule: &Rule) -> Option<u32>
     ensures { result ≡ least_unbound rule.now }
 {
-    for variable in 0..MOST_VARIABLES {
+    for variable in 0..MOST_VARIABLES as u32 {
         if is_unbound(rule, variable) {
             return Some(variable);
         }

@@ -1,5 +1,4 @@
-pub mod Lists
-pub mod Pieces
-pub mod Lexing
+pub mod PieceEnds
+pub mod TokenLoop
 pub mod LongestPieces
-pub mod CutTexts
+pub mod CutLemmas

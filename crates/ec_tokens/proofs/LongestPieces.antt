@@ -17,7 +17,7 @@ use Rattle.ec_tokens.specs.declared.piece.Piece.TheVariants as piece
 use Rattle.ec_tokens.specs.Lexeme.{is_spelling, marks}
 use Rattle.ec_tokens.specs.Tokens.{is_blank, is_mark_byte, name_piece, number_piece, mark_piece, piece_of}
 use Rattle.ec_tokens.specs.CutText.{IsLongest}
-use Rattle.ec_tokens.proofs.Pieces.{take_front, drop_front}
+use Rattle.ec_tokens.proofs.PieceEnds.{apart, take_front, drop_front}
 
 -- what a piece leaves: a blank has one byte, a comment goes up to the end of its line, and a token is the longest
 pub data IsGapOf (n b : ℕ) (behind : List ℕ) : Type 0 where
@@ -47,10 +47,6 @@ list_all-stopped p [] c more fails = and_left (p c) (list_all p more) fails
 list_all-stopped p (b ∷ bytes) c more fails = and_right (p b) (list_all p (bytes ++ c ∷ more)) (list_all-stopped p bytes c more fails)
 
 -- ---- what a byte is not
-
--- a byte that passes a test is none that fails it
-apart : (p : ℕ → Bool) (m : ℕ) → p m ≡ false → (b : ℕ) → p b ≡ true → eqb b m ≡ false
-apart p m fails b passes = false_from_ne_true (eqb b m) (λ same. false≢true (sym fails ∙ ap p (sym (eqb-true b m same)) ∙ passes))
 
 -- what begins with no byte of a mark is none
 no_mark : (b : ℕ) (bytes : List ℕ) → is_mark_byte b ≡ false → eqb b 33 ≡ false → eqb b 60 ≡ false → list_any (bytes_eq (b ∷ bytes)) marks ≡ false
@@ -109,9 +105,9 @@ module _ (b : ℕ) (behind : List ℕ) where
       rw (take_front (prefix_len is_name_byte behind) b behind, drop_front (prefix_len is_name_byte behind) b behind)
       (longest (b ∷ take (prefix_len is_name_byte behind) behind) (drop (prefix_len is_name_byte behind) behind)
       (λ c more rest cut.
-        let run = take (prefix_len is_name_byte behind) behind in
-        let stops = run_stops is_name_byte behind c (more ++ rest) cut in
-        (no_longer_name b run c more stops, no_longer_variable b run c more stops, no_number_first b (run ++ c ∷ more) minus digit, no_mark b (run ++ c ∷ more) mark bang less)))
+      let run = take (prefix_len is_name_byte behind) behind in
+      let stops = run_stops is_name_byte behind c (more ++ rest) cut in
+      (no_longer_name b run c more stops, no_longer_variable b run c more stops, no_number_first b (run ++ c ∷ more) minus digit, no_mark b (run ++ c ∷ more) mark bang less)))
 
   -- a digit or a minus, and the digits behind it
   number_longest : is_lower b ≡ false → is_upper b ≡ false → is_mark_byte b ≡ false → eqb b 33 ≡ false → eqb b 60 ≡ false →
@@ -120,9 +116,9 @@ module _ (b : ℕ) (behind : List ℕ) where
       rw (take_front (prefix_len is_ascii_digit behind) b behind, drop_front (prefix_len is_ascii_digit behind) b behind)
       (longest (b ∷ take (prefix_len is_ascii_digit behind) behind) (drop (prefix_len is_ascii_digit behind) behind)
       (λ c more rest cut.
-        let run = take (prefix_len is_ascii_digit behind) behind in
-        let stops = run_stops is_ascii_digit behind c (more ++ rest) cut in
-        (no_name b (run ++ c ∷ more) lower, no_variable b (run ++ c ∷ more) upper, no_number (b ∷ (run ++ c ∷ more)) (digits_stop (eqb b 45) run c more stops), no_mark b (run ++ c ∷ more) mark bang less)))
+      let run = take (prefix_len is_ascii_digit behind) behind in
+      let stops = run_stops is_ascii_digit behind c (more ++ rest) cut in
+      (no_name b (run ++ c ∷ more) lower, no_variable b (run ++ c ∷ more) upper, no_number (b ∷ (run ++ c ∷ more)) (digits_stop (eqb b 45) run c more stops), no_mark b (run ++ c ∷ more) mark bang less)))
     where
       digits_stop : (t : Bool) (run : List ℕ) (c : ℕ) (more : List ℕ) → is_ascii_digit c ≡ false → list_all is_ascii_digit (cond t (run ++ c ∷ more) (b ∷ (run ++ c ∷ more))) ≡ false
       digits_stop true run c more stops = list_all-stopped is_ascii_digit run c more stops

@@ -6,7 +6,7 @@ use crate::fault::TokenFault;
 use crate::piece::{Piece, piece_of};
 use crate::place::Place;
 use crate::token::Token;
-use crate::token_list::TokenList;
+use crate::token_list::{MOST_BYTES, TokenList};
 use std::alloc::Global;
 
 /// Cuts a theory's text into its tokens, the longest at each place. Blanks and comments stand between
@@ -14,7 +14,7 @@ use std::alloc::Global;
 ///
 /// A fault other than `Memory` comes exactly where the text has one, and is the first from the left.
 pub fn tokens<'a>(alloc: Global, bytes: &'a [u8]) -> Result<TokenList<'a>, TokenFault>
-    requires { length bytes.now ≤ 1048576 }
+    requires { length bytes.now ≤ MOST_BYTES }
     ensures ok { IfOk result (λ list. tokens_of bytes.now ≡ Ok list) }
     ensures fault { IfErr result (λ fault. IsTokenFault fault bytes.now) }
 {

@@ -6,7 +6,9 @@ ghost use Rattle.ec_terms.specs.Spelling.{is_name_byte};
 ghost use Rattle.ec_tokens.specs.Tokens.{is_blank, is_mark_byte, first_byte, name_piece, number_piece, mark_piece, piece_of, piece_length};
 
 use crate::token::TokenKind;
+use crate::token_list::MOST_BYTES;
 use ec_moment::read_number;
+use ec_terms::LONGEST_NAME;
 
 /// What stands at the front of a text, with its number of bytes, or why nothing may stand so.
 #[derive(Clone, Copy, Debug)]
@@ -31,9 +33,6 @@ impl Piece {
         }
     }
 }
-
-/// The most bytes of a name or a variable.
-const LONGEST_NAME: usize = 64;
 
 /// Whether a byte may stand between tokens.
 fn is_blank(byte: u8) -> bool
@@ -100,7 +99,7 @@ fn digits(bytes: &[u8]) -> usize
 /// The name or variable with these bytes behind its first letter.
 #[tactic(auto, unfolding(crate::specs::Tokens::name_piece))]
 fn name_piece(kind: TokenKind, behind: &[u8]) -> Piece
-    requires { length behind.now ≤ 1048576 }
+    requires { length behind.now ≤ MOST_BYTES }
     ensures { result ≡ name_piece kind behind.now }
 {
     let length = 1 + name_bytes(behind);
@@ -115,7 +114,7 @@ fn name_piece(kind: TokenKind, behind: &[u8]) -> Piece
 #[tactic(auto, unfolding(crate::specs::Tokens::number_piece))]
 fn number_piece(bytes: &[u8]) -> Piece
     requires nonempty { 0 < length bytes.now }
-    requires short { length bytes.now ≤ 1048576 }
+    requires short { length bytes.now ≤ MOST_BYTES }
     ensures { result ≡ number_piece bytes.now }
 {
     let length = 1 + digits(&bytes[1..]);
@@ -148,7 +147,7 @@ fn mark_piece(first: u8, behind: &[u8]) -> Piece
 #[tactic(auto, unfolding(crate::specs::Tokens::piece_of, ec_terms::specs::Spelling::is_lower, ec_terms::specs::Spelling::is_upper))]
 pub fn piece_of(bytes: &[u8]) -> Piece
     requires nonempty { 0 < length bytes.now }
-    requires short { length bytes.now ≤ 1048576 }
+    requires short { length bytes.now ≤ MOST_BYTES }
     ensures { result ≡ piece_of bytes.now }
 {
     let first = bytes[0];

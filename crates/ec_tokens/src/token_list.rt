@@ -21,19 +21,20 @@ impl<'a> Model for TokenList<'a> {
     ghost use Rattle.std.specs.Prelude.{length, map, ◌≤◌, IsTrue};
     ghost use Rattle.std.specs.List.{list_all};
     ghost use Rattle.ec_tokens.specs.Lexeme.{Lexemes, lexeme_of, is_spelt};
+    ghost use Rattle.ec_tokens.specs.declared.token_list.TheConstants.{MOST_BYTES};
 
     ghost Value = { Lexemes };
 
     ghost view = { λ l. record { tokens = map lexeme_of l.items.items; end = l.last } };
 
-    ghost invariant = { λ l. (length l.items.items ≤ 1048576) × IsTrue (list_all is_spelt (map lexeme_of l.items.items)) };
+    ghost invariant = { λ l. (length l.items.items ≤ MOST_BYTES) × IsTrue (list_all is_spelt (map lexeme_of l.items.items)) };
 }
 
 impl<'a> TokenList<'a> {
     /// How many tokens there are, at most 1,048,576.
     pub fn len(&self) -> usize
         ensures count { result ≡ length self.now.tokens }
-        ensures most { result ≤ 1048576 }
+        ensures most { result ≤ MOST_BYTES }
     {
         self.items.len()
     }

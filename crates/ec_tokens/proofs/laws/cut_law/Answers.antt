@@ -1,4 +1,4 @@
-use Rattle.ec_tokens.proofs.CutTexts.{text_is_cut}
+use Rattle.ec_tokens.proofs.CutLemmas.{text_is_cut}
 use Rattle.ec_tokens.proofs.laws.cut_law.Goals as goal
 
 pub returns-clause-text : goal.returns-clause-text

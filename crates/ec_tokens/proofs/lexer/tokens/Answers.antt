@@ -1,8 +1,8 @@
 use Rattle.std.proofs.Common.{◌<◌, length, get_or, is_ok, sym, ap, ◌∙◌, arith, false-eqb, true-eqb}
 use Rattle.std.proofs.ResultArms.{chosen}
 use Rattle.ec_tokens.specs.Tokens.{piece_length}
-use Rattle.ec_tokens.proofs.Pieces.{behind_piece}
-use Rattle.ec_tokens.proofs.Lexing.{taken, cut_start, cut_end, gap_next, token_next, bad_byte, long_name, big_number}
+use Rattle.ec_tokens.proofs.PieceEnds.{behind_piece}
+use Rattle.ec_tokens.proofs.TokenLoop.{taken, cut_start, cut_end, gap_next, token_next, bad_byte, long_name, big_number}
 use Rattle.ec_tokens.proofs.lexer.tokens.Goals as goal
 use Rattle.ec_tokens.proofs.lexer.tokens.Goals.{in-Gap, in-Token+in_ok-push-in-Token}
 

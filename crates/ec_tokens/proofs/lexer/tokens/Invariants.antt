@@ -1,5 +1,5 @@
 use Rattle.std.proofs.Common.{length}
-use Rattle.ec_tokens.proofs.Lexing.{Cut}
+use Rattle.ec_tokens.proofs.TokenLoop.{Cut}
 use Rattle.ec_tokens.proofs.lexer.tokens.Given as goal
 
 abbrev pub invariant-loop-rest : goal.invariant-loop-rest

@@ -6,6 +6,7 @@ use Rattle.std.specs.Char.{is_ascii_digit}
 use Rattle.std.proofs.lemmas.Bool.{cond_both, or_cases, or_parts, and_parts, and_from, leb-true, false≢true, false_from_ne_true, cond-false, le-leb}
 use Rattle.std.proofs.lemmas.List.Sums.{prefix_len-le-length}
 use Rattle.std.proofs.lemmas.List.Folds.{length-prefix_len}
+use Rattle.ec_lists.proofs.Fronts.{list_all-take_while}
 use Rattle.ec_moment.specs.Number.{number_value}
 use Rattle.ec_terms.specs.Spelling.{is_lower, is_upper, is_name_byte, begins_with, is_name, is_variable}
 use Rattle.ec_tokens.specs.declared.place.Place.{Place}
@@ -43,9 +44,9 @@ take_front n b bytes = let e : 1 + n ≡ suc n = omega arith in rw e refl
 pub drop_front : {A : Type 0} (n : ℕ) (b : A) (bytes : List A) → drop (1 + n) (b ∷ bytes) ≡ drop n bytes
 drop_front n b bytes = let e : 1 + n ≡ suc n = omega arith in rw e refl
 
--- a byte that passes a test which a line feed fails is no line feed
-not_feed : (p : ℕ → Bool) → p 10 ≡ false → (b : ℕ) → p b ≡ true → eqb b 10 ≡ false
-not_feed p fails b passes = false_from_ne_true (eqb b 10) (λ same. false≢true (sym fails ∙ ap p (sym (eqb-true b 10 same)) ∙ passes))
+-- a byte that passes a test is none that fails it
+pub apart : (p : ℕ → Bool) (m : ℕ) → p m ≡ false → (b : ℕ) → p b ≡ true → eqb b m ≡ false
+apart p m fails b passes = false_from_ne_true (eqb b m) (λ same. false≢true (sym fails ∙ ap p (sym (eqb-true b m same)) ∙ passes))
 
 -- a byte that is no line feed goes one column on
 pub next_column : (b line col : ℕ) → eqb b 10 ≡ false → next_place (record { line = line; col = col }) b ≡ record { line = line; col = col + 1 }
@@ -56,7 +57,7 @@ module _ (p : ℕ → Bool) (fails : p 10 ≡ false) where
   unfolding place_behind
   run_step b bytes line col true passes rest =
       ap (λ l. place_behind (record { line = line; col = col }) l) (take_front (prefix_len p bytes) b bytes)
-      ∙ ap (λ q. place_behind q (take (prefix_len p bytes) bytes)) (next_column b line col (not_feed p fails b passes))
+      ∙ ap (λ q. place_behind q (take (prefix_len p bytes) bytes)) (next_column b line col (apart p 10 fails b passes))
       ∙ rest ∙ ap (λ n. record { line = line; col = n }) (omega arith)
   run_step b bytes line col false passes rest = ap (λ n. record { line = line; col = n }) (omega arith)
 
@@ -73,15 +74,6 @@ module _ (p : ℕ → Bool) (fails : p 10 ≡ false) where
       ∙ run_places behind place.line (place.col + 1)
       ∙ ap (λ n. record { line = place.line; col = n }) (omega arith)
       ∙ sym (cond-false (eqb b 10) _ _ other)
-
--- what passes a test all along passes it as a list
-pub passes_run : (p : ℕ → Bool) (bytes : List ℕ) → list_all p (take (prefix_len p bytes) bytes) ≡ true
-passes_run p [] = refl
-passes_run p (b ∷ bytes) = passes_step (p b) refl (passes_run p bytes)
-  where
-    passes_step : (t : Bool) → p b ≡ t → list_all p (take (prefix_len p bytes) bytes) ≡ true → list_all p (take (cond t (1 + prefix_len p bytes) 0) (b ∷ bytes)) ≡ true
-    passes_step true passes rest = rw take_front (and_from (p b) _ passes rest)
-    passes_step false passes rest = refl
 
 -- a piece of one byte
 one_byte : (b : ℕ) (behind : List ℕ) (place : Place) → place_behind (next_place place b) (take 0 behind) ≡ behind_piece place b 1
@@ -101,7 +93,7 @@ letter_and_run : (starts : ℕ → Bool) (b : ℕ) (behind : List ℕ) → start
 unfolding begins_with
 letter_and_run starts b behind letter name short =
     rw take_front
-    (and_from _ _ (and_from _ _ letter (and_from _ _ name (passes_run is_name_byte behind)))
+    (and_from _ _ (and_from _ _ letter (and_from _ _ name (list_all-take_while is_name_byte behind)))
     (le-leb _ _ (omega (arith, length-prefix_len is_name_byte behind, leb-true _ _ short))))
 
 module _ (b : ℕ) (behind : List ℕ) (not_line_feed : eqb b 10 ≡ false) where

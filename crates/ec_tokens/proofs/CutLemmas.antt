@@ -3,6 +3,7 @@ use Rattle.std.proofs.Common.{◌≡◌, ℕ, ◌+◌, ◌-◌, ◌≤◌, zero,
 use Rattle.std.specs.List.{prefix_len, list_all}
 use Rattle.std.proofs.lemmas.Bool.{not-false}
 use Rattle.std.proofs.lemmas.List.{take-append-drop}
+use Rattle.ec_lists.proofs.Fronts.{list_all-take_while}
 use Rattle.ec_tokens.specs.declared.place.Place.{Place}
 use Rattle.ec_tokens.specs.declared.fault.TokenFault.{TokenFault}
 use Rattle.ec_tokens.specs.declared.piece.Piece.{Piece}
@@ -10,9 +11,9 @@ use Rattle.ec_tokens.specs.declared.piece.Piece.TheVariants as piece
 use Rattle.ec_tokens.specs.Lexeme.{Lexeme, Lexemes}
 use Rattle.ec_tokens.specs.Tokens.{start, next_place, place_behind, piece_of, piece_length, with_front, with_piece, with_end, tokens_from, tokens_of}
 use Rattle.ec_tokens.specs.CutText.{EndsLine, IsCut, nothing, blank, comment, token}
-use Rattle.ec_tokens.proofs.Pieces.{IsSpelt, piece_facts, passes_run, take_front, drop_front}
+use Rattle.ec_tokens.proofs.PieceEnds.{IsSpelt, piece_facts, take_front, drop_front}
 use Rattle.ec_tokens.proofs.LongestPieces.{IsFull, is_blank_gap, is_comment, piece_full, run_stops}
-use Rattle.ec_tokens.proofs.Lexing.{skipped}
+use Rattle.ec_tokens.proofs.TokenLoop.{skipped}
 
 -- what a run of bytes that are no line feed stops at is a line's end
 line_ends : (bytes : List ℕ) → EndsLine (drop (prefix_len (λ c. not (eqb c 10)) bytes) bytes)
@@ -40,7 +41,7 @@ module _ (b : ℕ) (behind : List ℕ) (place : Place) (read : (n : ℕ) → n �
       let length_is : more ≡ prefix_len (λ c. not (eqb c 10)) behind = omega (arith, run, size) in
       subst (λ l. IsCut place l tokens) ((λ i. sym is i ∷ take-append-drop more behind i))
       (comment (take more behind) (drop more behind)
-      (ap (λ k. list_all (λ c. not (eqb c 10)) (take k behind)) length_is ∙ passes_run (λ c. not (eqb c 10)) behind)
+      (ap (λ k. list_all (λ c. not (eqb c 10)) (take k behind)) length_is ∙ list_all-take_while (λ c. not (eqb c 10)) behind)
       (subst (λ k. EndsLine (drop k behind)) (sym length_is) (line_ends behind))
       (read more within (place_behind place (37 ∷ take more behind)) tokens (ap (λ x. tokens_from 0 (place_behind place (x ∷ take more behind)) (drop more behind)) (sym is) ∙ sym rest ∙ e)))
   piece_cut (piece.Token kind n) more size within spelt full r tokens rest e =

@@ -11,7 +11,7 @@ use Rattle.ec_tokens.specs.declared.piece.Piece.TheVariants as piece
 use Rattle.ec_tokens.specs.declared.token.Token.{Token}
 use Rattle.ec_tokens.specs.Lexeme.{Lexeme, lexeme_of, is_spelt, is_spelling}
 use Rattle.ec_tokens.specs.Tokens.{start, next_place, place_behind, piece_of, piece_length, with_front, with_piece, with_end, tokens_from, tokens_of}
-use Rattle.ec_tokens.proofs.Pieces.{behind_piece, IsSpelt, piece_facts, drop_front}
+use Rattle.ec_tokens.proofs.PieceEnds.{behind_piece, IsSpelt, piece_facts, drop_front}
 
 -- the bytes of a piece are skipped
 pub skipped : (n : ℕ) (place : Place) (bytes : List ℕ) → tokens_from n place bytes ≡ tokens_from 0 (place_behind place (take n bytes)) (drop n bytes)
