@@ -11,7 +11,7 @@ use Rattle.ec_theory.specs.declared.text.Refused.TheVariants as refused
 use Rattle.ec_theory.specs.Accepted.{IsAccepted, HasFault}
 use Rattle.ec_theory.specs.Reading.{Reads}
 use Rattle.ec_theory.proofs.WalkLaws.{stop_of_reads, stop_of_wrong}
-use Rattle.ec_theory.proofs.Unique.{reading_same}
+use Rattle.ec_theory.proofs.OneReading.{reading_same}
 use Rattle.ec_outside.specs.Files.{Files, HasFile, IsMissing, IsTooLong}
 use Rattle.ec_server.specs.declared.theory_file.NoTheory.{NoTheory}
 use Rattle.ec_server.specs.declared.theory_file.NoTheory.TheVariants.{FolderFault, NoMemory, Said}

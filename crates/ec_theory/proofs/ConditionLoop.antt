@@ -13,7 +13,7 @@ use Rattle.ec_theory.specs.Sign.{Sign, Given, signs_of, is_given}
 use Rattle.ec_theory.specs.Grammar.{TakesCondition, TakesConditions, final, further, TakesBody, empty, conditions, tests_of, literals_of}
 use Rattle.ec_theory.specs.Walk.{Condition as PartCondition, Head, Beginning, AfterPattern, ConditionAt, moves, moves_behind, first_move, stop_of}
 use Rattle.ec_theory.specs.Reader.{Steps, left_of, Refuses, next_passes, IsStop}
-use Rattle.ec_theory.proofs.Walking.{steps_signs, step_goes, refused_both, goes_on_fault}
+use Rattle.ec_theory.proofs.WalkSteps.{steps_signs, step_goes, refused_both, goes_on_fault}
 
 tests_append : (before after : List Condition) → tests_of (before ++ after) ≡ tests_of before ++ tests_of after
 unfolding tests_of

@@ -18,7 +18,7 @@ use Rattle.ec_theory.specs.declared.sign.Keyword.TheVariants.{Rule, Exclusive, S
 use Rattle.ec_theory.specs.Sign.{Sign, Word, Variable, Number, Given, Compare, symbol_number, keyword_of, variables_of, argument_of, number_of, is_given, is_word, is_number, is_compare, is_argument, is_keyword, is_rule, is_exclusive, is_strong}
 use Rattle.ec_theory.specs.Grammar.{TakesArguments, last, more, TakesPattern, alone, applied, TakesCondition, current, not_current, test, TakesConditions, final, further, TakesBody, empty, conditions, rule, exclusive, strong, tests_of, literals_of, ReadsFrom, no_more, one_more, no_clauses, with_clause}
 use Rattle.ec_theory.specs.Walk.{Part, Event, Head, Left, Right, Condition as PartCondition, Spot, Beginning, PatternAt, AfterName, ArgumentAt, AfterArgument, AfterPattern, ConditionAt, AfterConditionName, CompareAt, RightSideAt, StrongNameAt, SlashAt, ArityAt, AfterArity, Move, on, moves, moves_behind, first_move, is_beginning}
-use Rattle.ec_theory.proofs.Finishing.{finishes}
+use Rattle.ec_theory.proofs.WalkEnds.{finishes}
 
 -- ---- what the tokens from a place on are
 

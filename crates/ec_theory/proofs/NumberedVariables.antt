@@ -6,6 +6,7 @@ use Rattle.std.proofs.lemmas.Bool.{false≢true, or_cases, eq-eqb, cases_eq}
 use Rattle.std.proofs.lemmas.List.Elements.{All-nil, All-cons}
 use Rattle.std.proofs.lemmas.List.Folds.{list_any-append}
 use Rattle.std.proofs.lemmas.Slice.Eq.{bytes_eq-Decides}
+use Rattle.std.proofs.Math.Bool.{or_assoc, or-false, or-true}
 use Rattle.ec_terms.specs.declared.pattern.PatArg.{PatArg}
 use Rattle.ec_terms.specs.declared.pattern.PatArg.TheVariants.{Var, Any, Fixed}
 use Rattle.ec_terms.specs.declared.ground.Arg.TheVariants.{Int, Word as Named}
@@ -29,24 +30,11 @@ use Rattle.ec_theory.specs.Sign.{Sign, Word, Variable, Number, Given, Compare, a
 use Rattle.ec_theory.specs.Grammar.{TakesArguments, last, more, TakesPattern, alone, applied, TakesCondition, current, not_current, test, TakesConditions, final, further, TakesBody, empty, conditions, tests_of, literals_of, TakesClause, rule, exclusive, strong, ReadsFrom, no_more, one_more, with_clause}
 
 -- ---- truth values
-
-or-assoc : (a b c : Bool) → ((a || b) || c) ≡ (a || (b || c))
-or-assoc true b c = refl
-or-assoc false b c = refl
-
 or-swap : (a b c : Bool) → (a || (b || c)) ≡ (b || (a || c))
 or-swap true true c = refl
 or-swap true false c = refl
 or-swap false true c = refl
 or-swap false false c = refl
-
-or-false : (a : Bool) → (a || false) ≡ a
-or-false true = refl
-or-false false = refl
-
-or-true : (a : Bool) → (a || true) ≡ true
-or-true true = refl
-or-true false = refl
 
 -- ---- the variables up to the next dot
 
@@ -93,7 +81,7 @@ module _ (names : List (List ℕ)) (q : ℕ) where
   arguments_step (last {s = s} {a = a} {rest = rest} e) =
       argument_step s a (Given Close ∷ rest) e ∙ ap (λ b. b || stands_before_dot names q rest) (sym (or-false (stands_at q a)))
   arguments_step (more {s = s} {a = a} {signs = signs} {args = args} {rest = rest} e takes) =
-      argument_step s a (Given Comma ∷ signs) e ∙ ap (λ b. stands_at q a || b) (arguments_step takes) ∙ sym (or-assoc (stands_at q a) (list_any (stands_at q) args) (stands_before_dot names q rest))
+      argument_step s a (Given Comma ∷ signs) e ∙ ap (λ b. stands_at q a || b) (arguments_step takes) ∙ sym (or_assoc (stands_at q a) (list_any (stands_at q) args) (stands_before_dot names q rest))
 
   pattern_step : {signs : List Sign} {p : Pattern} {rest : List Sign} → TakesPattern names signs p rest → stands_before_dot names q signs ≡ (list_any (stands_at q) p.args || stands_before_dot names q rest)
   unfolding stands_before_dot is_variable_at
@@ -105,7 +93,7 @@ module _ (names : List (List ℕ)) (q : ℕ) where
   condition_step (current takes) = pattern_step takes
   condition_step (not_current takes) = pattern_step takes
   condition_step (test {l = l} {r = r} {a = a} {b = b} {op = op} {rest = rest} e f) =
-      argument_step l a (Compare op ∷ r ∷ rest) e ∙ ap (λ x. stands_at q a || x) (argument_step r b rest f) ∙ sym (or-assoc (stands_at q a) (stands_at q b) (stands_before_dot names q rest))
+      argument_step l a (Compare op ∷ r ∷ rest) e ∙ ap (λ x. stands_at q a || x) (argument_step r b rest f) ∙ sym (or_assoc (stands_at q a) (stands_at q b) (stands_before_dot names q rest))
 
   conditions_step : {signs : List Sign} {cs : List Condition} {rest : List Sign} → TakesConditions names signs cs rest → stands_before_dot names q signs ≡ list_any (has_variable q) cs
   unfolding stands_before_dot is_variable_at
@@ -125,9 +113,9 @@ module _ (names : List (List ℕ)) (q : ℕ) where
       let tests = list_any (stands_at q) (flat_map (λ (t : Test). t.left ∷ t.right ∷ []) (tests_of cs)) in
       let literals = list_any (stands_at q) (flat_map (λ (l : Literal). l.prop.args) (literals_of cs)) in
       ap (λ b. (stands_at q t.left || stands_at q t.right) || b) (conditions_places cs)
-      ∙ or-assoc (stands_at q t.left) (stands_at q t.right) (tests || literals)
-      ∙ ap (λ b. stands_at q t.left || b) (sym (or-assoc (stands_at q t.right) tests literals))
-      ∙ sym (or-assoc (stands_at q t.left) (stands_at q t.right || tests) literals)
+      ∙ or_assoc (stands_at q t.left) (stands_at q t.right) (tests || literals)
+      ∙ ap (λ b. stands_at q t.left || b) (sym (or_assoc (stands_at q t.right) tests literals))
+      ∙ sym (or_assoc (stands_at q t.left) (stands_at q t.right || tests) literals)
   conditions_places (condition.Literal l ∷ cs) =
       let tests = list_any (stands_at q) (flat_map (λ (t : Test). t.left ∷ t.right ∷ []) (tests_of cs)) in
       let later = flat_map (λ (l : Literal). l.prop.args) (literals_of cs) in
@@ -176,16 +164,13 @@ position_or_len-behind p (y ∷ xs) x behind none passes = by_test (p y) none (�
     by_test true none later = cc
     by_test false none later = let e = later none in omega (arith, e)
 
-same_bytes : (v : List ℕ) → bytes_eq v v ≡ true
-same_bytes v = (bytes_eq-Decides v v).1 refl
-
 with_variable-has : (names : List (List ℕ)) (v : List ℕ) → list_any (bytes_eq v) (with_variable names v) ≡ true
 unfolding with_variable
 with_variable-has names v = by_test (list_any (bytes_eq v) names) refl
   where
     by_test : (t : Bool) → list_any (bytes_eq v) names ≡ t → list_any (bytes_eq v) (cond t names (names ++ v ∷ [])) ≡ true
     by_test true there = there
-    by_test false none = list_any-append (bytes_eq v) names (v ∷ []) ∙ ap (λ b. list_any (bytes_eq v) names || (b || false)) (same_bytes v) ∙ or-true (list_any (bytes_eq v) names)
+    by_test false none = list_any-append (bytes_eq v) names (v ∷ []) ∙ ap (λ b. list_any (bytes_eq v) names || (b || false)) ((bytes_eq-Decides v v).1 refl) ∙ or-true (list_any (bytes_eq v) names)
 
 -- names that are there stay in front
 with_sign-front : (names : List (List ℕ)) (s : Sign) → (own : List (List ℕ)) × (with_sign names s ≡ names ++ own)
@@ -248,7 +233,7 @@ sign_stands (Variable v) signs so_far names q all new below later = by_test (lis
     by_test false none all =
         ⊎_elim
         (λ same. let front = variables_from-front signs (so_far ++ v ∷ []) in
-        let number : number_of names v ≡ length so_far = ap (λ l. number_of l v) (all ∙ front.1) ∙ position_or_len-behind (bytes_eq v) so_far v front.0 none (same_bytes v) in
+        let number : number_of names v ≡ length so_far = ap (λ l. number_of l v) (all ∙ front.1) ∙ position_or_len-behind (bytes_eq v) so_far v front.0 none ((bytes_eq-Decides v v).1 refl) in
         ap (λ b. b || stands_before_dot names q signs) (eq-eqb (number_of names v) q (number ∙ sym same)))
         (λ other. let longer = length-append so_far (v ∷ []) in rw (later (so_far ++ v ∷ []) all (omega (arith, longer, new, other)) below) (or-true (eqb (number_of names v) q)))
         (cases_eq q (length so_far))

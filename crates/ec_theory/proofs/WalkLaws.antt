@@ -12,7 +12,7 @@ use Rattle.ec_theory.specs.Sign.{Sign, sign_of}
 use Rattle.ec_theory.specs.Walk.{Spot, Beginning, PatternAt, AfterName, ArgumentAt, AfterArgument, AfterPattern, ConditionAt, AfterConditionName, CompareAt, RightSideAt, StrongNameAt, SlashAt, ArityAt, AfterArity, step, walk, first_stop, stop_of, is_beginning}
 use Rattle.ec_theory.specs.Reading.{IsReadable, BeginsReadable, GoesWrongAt, at_token, at_end, IsSyntaxFault, HasNoReading}
 use Rattle.ec_theory.specs.Reader.{IsStop}
-use Rattle.ec_theory.proofs.Finishing.{finishes, reading_finishes, no_stop}
+use Rattle.ec_theory.proofs.WalkEnds.{finishes, reading_finishes, no_stop}
 use Rattle.ec_theory.proofs.GrammarFromWalk.{finishes_reads}
 use Rattle.ec_theory.proofs.WayBack.{way_back}
 

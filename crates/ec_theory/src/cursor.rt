@@ -2,6 +2,7 @@
 ghost use Rattle.std.specs.Prelude.{map, ◌≤◌, length, IsTrue};
 ghost use Rattle.std.specs.List.{list_all};
 ghost use Rattle.ec_tokens.specs.Lexeme.{lexeme_of, is_spelt};
+ghost use Rattle.ec_tokens.specs.declared.token_list.TheConstants.{MOST_BYTES};
 
 use crate::fault::SyntaxFault;
 use crate::sign::{Keyword, Sign, Symbol, keyword_of, sign_of};
@@ -14,7 +15,7 @@ pub struct Cursor<'t, 'a> {
     pub rest: &'t [Token<'a>],
     pub end: Place,
     ghost spelt: { IsTrue (list_all is_spelt (map lexeme_of rest.now)) },
-    ghost few: { length rest.now ≤ 1048576 },
+    ghost few: { length rest.now ≤ MOST_BYTES },
 }
 
 impl<'t, 'a> Cursor<'t, 'a> {
@@ -72,7 +73,7 @@ impl<'t, 'a> Cursor<'t, 'a> {
     }
 
     /// The next token as a name other than `if` and `not`.
-    #[tactic(auto, using(crate::proofs::Steps::at_end, crate::proofs::Steps::steps_fail))]
+    #[tactic(auto, using(crate::proofs::NextTokens::at_end, crate::proofs::NextTokens::steps_fail))]
     pub fn word(self) -> Option<(&'a [u8], Cursor<'t, 'a>)>
         ensures some { IfSome result (λ x. Steps (left_of self.entry) (Word x.0.now) (left_of x.1)) }
         ensures name { IfSome result (λ x. IsTrue (is_name x.0.now)) }
@@ -83,7 +84,7 @@ impl<'t, 'a> Cursor<'t, 'a> {
     }
 
     /// The next token as a number.
-    #[tactic(auto, using(crate::proofs::Steps::at_end, crate::proofs::Steps::steps_fail))]
+    #[tactic(auto, using(crate::proofs::NextTokens::at_end, crate::proofs::NextTokens::steps_fail))]
     pub fn number(self) -> Option<(i64, Cursor<'t, 'a>)>
         ensures some { IfSome result (λ x. Steps (left_of self.entry) (Number x.0) (left_of x.1)) }
         ensures none { IfNone result (next_passes is_number (left_of self.entry) ≡ false) }
@@ -93,7 +94,7 @@ impl<'t, 'a> Cursor<'t, 'a> {
     }
 
     /// The next token as a comparison.
-    #[tactic(auto, using(crate::proofs::Steps::at_end, crate::proofs::Steps::steps_fail))]
+    #[tactic(auto, using(crate::proofs::NextTokens::at_end, crate::proofs::NextTokens::steps_fail))]
     pub fn compare(self) -> Option<(TestOp, Cursor<'t, 'a>)>
         ensures some { IfSome result (λ x. Steps (left_of self.entry) (Compare x.0) (left_of x.1)) }
         ensures none { IfNone result (next_passes is_compare (left_of self.entry) ≡ false) }
@@ -103,7 +104,7 @@ impl<'t, 'a> Cursor<'t, 'a> {
     }
 
     /// What is left behind a symbol, where it comes next.
-    #[tactic(auto, using(crate::proofs::Steps::at_end, crate::proofs::Steps::steps_fail))]
+    #[tactic(auto, using(crate::proofs::NextTokens::at_end, crate::proofs::NextTokens::steps_fail))]
     pub fn skip(self, symbol: Symbol) -> Option<Cursor<'t, 'a>>
         ensures some { IfSome result (λ behind. Steps (left_of self.entry) (Given symbol) (left_of behind)) }
         ensures none { IfNone result (next_passes (is_given symbol) (left_of self.entry) ≡ false) }
@@ -128,7 +129,7 @@ impl<'t, 'a> Cursor<'t, 'a> {
     }
 
     /// The next token as a word that begins a kind of clause.
-    #[tactic(auto, using(crate::proofs::Steps::at_end, crate::proofs::Steps::steps_fail, crate::proofs::Steps::no_keyword))]
+    #[tactic(auto, using(crate::proofs::NextTokens::at_end, crate::proofs::NextTokens::steps_fail, crate::proofs::NextTokens::no_keyword))]
     pub fn keyword(self) -> Option<(Keyword, Cursor<'t, 'a>)>
         ensures some { IfSome result (λ x. HasKeyword (left_of self.entry) x.0 (left_of x.1)) }
         ensures none { IfNone result ((test : Keyword → Bool) → next_passes (is_keyword test) (left_of self.entry) ≡ false) }

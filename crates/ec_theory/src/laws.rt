@@ -8,7 +8,7 @@ ghost use Rattle.ec_theory.specs.Walk.{Spot, Beginning, LeadsBack, walk, stop_of
 ghost use Rattle.ec_theory.specs.Reading.{Reads, IsReadable, GoesWrongAt};
 
 /// A list of tokens has at most one reading.
-#[tactic(auto, using(crate::proofs::Unique::reading_same))]
+#[tactic(auto, using(crate::proofs::OneReading::reading_same))]
 pub fn one_reading_law()
     ensures { (tokens : Lexemes) (a b : Theory) → Reads tokens a → Reads tokens b → a ≡ b }
 {}

@@ -14,7 +14,7 @@ use ec_terms::{PatArg, PatArgs, Pattern, Sequence};
 use std::alloc::Global;
 
 /// Reads one argument.
-#[tactic(auto, using(crate::proofs::Steps::at_end, crate::proofs::Steps::steps_fail, crate::proofs::Walking::no_argument_fails))]
+#[tactic(auto, using(crate::proofs::NextTokens::at_end, crate::proofs::NextTokens::steps_fail, crate::proofs::WalkSteps::no_argument_fails))]
 pub fn read_argument<'t, 'a>(
     names: &Variables<'a>,
     cursor: Cursor<'t, 'a>,

@@ -5,7 +5,7 @@ ghost use Rattle.ec_theory.specs.Accepted.{IsAccepted, HasFault};
 use crate::fault::SyntaxFault;
 use crate::reader::read_theory;
 use ec_check::{CheckFault, Checked, check};
-use ec_tokens::{TokenFault, tokens};
+use ec_tokens::{MOST_BYTES, TokenFault, tokens};
 use std::alloc::Global;
 
 /// Why bytes are no theory: the first fault of their tokens, then of their syntax, then of a clause.
@@ -19,7 +19,7 @@ pub enum Refused {
 /// Reads the bytes of a text as a theory. A fault other than one of memory comes exactly where the
 /// bytes have it.
 pub fn accept(alloc: Global, bytes: &[u8]) -> Result<Checked, Refused>
-    requires { length bytes.now ≤ 1048576 }
+    requires { length bytes.now ≤ MOST_BYTES }
     ensures ok { IfOk result (λ checked. IsAccepted bytes.now checked) }
     ensures fault { IfErr result (λ refused. HasFault bytes.now refused) }
 {

@@ -7,6 +7,7 @@ ghost use Rattle.ec_theory.specs.declared.fault.SyntaxFault.TheVariants.{Memory}
 use crate::cursor::Cursor;
 use crate::fault::SyntaxFault;
 use crate::sign::{Sign, Symbol, sign_of};
+use ec_tokens::MOST_BYTES;
 use indexmap::IndexSet;
 use std::alloc::Global;
 use std::marker::Model;
@@ -20,12 +21,13 @@ pub struct Variables<'a> {
 
 impl<'a> Model for Variables<'a> {
     ghost use Rattle.std.specs.Prelude.{ℕ, List, map, length, ◌≤◌};
+    ghost use Rattle.ec_tokens.specs.declared.token_list.TheConstants.{MOST_BYTES};
 
     ghost Value = { List (List ℕ) };
 
     ghost view = { λ v. map (λ name. name.now) v.names.keys };
 
-    ghost invariant = { λ v. length v.names.keys ≤ 1048576 };
+    ghost invariant = { λ v. length v.names.keys ≤ MOST_BYTES };
 }
 
 impl<'a> Variables<'a> {
@@ -50,7 +52,7 @@ impl<'a> Variables<'a> {
 
     /// Adds a variable that is not yet there; any other token adds nothing.
     fn add(&mut self, sign: Sign<'a>) -> Result<(), SyntaxFault>
-        requires { length self.old < 1048576 }
+        requires { length self.old < MOST_BYTES }
         ensures added { OnOk result (self.new ≡ with_sign self.old (shown sign.entry)) }
         ensures err { IfErr result (λ fault. fault ≡ Memory) }
         ensures one { length self.new ≤ length self.old + 1 }

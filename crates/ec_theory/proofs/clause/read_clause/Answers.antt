@@ -2,8 +2,8 @@ use Rattle.std.proofs.Common.{subst}
 use Rattle.std.proofs.lemmas.Result.{err_from_is_err_and}
 use Rattle.ec_theory.specs.Reader.{left_of, HasKeyword}
 use Rattle.ec_theory.specs.Walk.{Beginning, PatternAt, StrongNameAt, Event, Left}
-use Rattle.ec_theory.proofs.Walking.{exit_goes, goes_from, memory_stop}
-use Rattle.ec_theory.proofs.Clauses.{rule_goes, exclusive_goes, strong_goes, no_clause}
+use Rattle.ec_theory.proofs.WalkSteps.{exit_goes, goes_from, memory_stop}
+use Rattle.ec_theory.proofs.ClauseWalk.{rule_goes, exclusive_goes, strong_goes, no_clause}
 use Rattle.ec_theory.proofs.clause.read_clause.Goals as goal
 
 pub returns-in_err-names-clause-goes : goal.returns-in_err-names-clause-goes

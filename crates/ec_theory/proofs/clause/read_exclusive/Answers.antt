@@ -2,8 +2,8 @@ use Rattle.std.proofs.Common.{◌∙◌}
 use Rattle.std.proofs.lemmas.Result.{err_from_is_err_and}
 use Rattle.ec_theory.specs.Reader.{left_of}
 use Rattle.ec_theory.specs.Walk.{Beginning, PatternAt, AfterPattern, Left, Right}
-use Rattle.ec_theory.proofs.Walking.{exit_goes, goes_on_fault}
-use Rattle.ec_theory.proofs.Clauses.{left_to_right, right_ends, right_refused, exclusive_takes}
+use Rattle.ec_theory.proofs.WalkSteps.{exit_goes, goes_on_fault}
+use Rattle.ec_theory.proofs.ClauseWalk.{left_to_right, right_ends, right_refused, exclusive_takes}
 use Rattle.ec_theory.proofs.clause.read_exclusive.Goals as goal
 
 pub returns-in_err-right-clause-goes : goal.returns-in_err-right-clause-goes

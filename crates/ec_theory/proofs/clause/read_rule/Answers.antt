@@ -2,8 +2,8 @@ use Rattle.std.proofs.Common.{◌∙◌}
 use Rattle.std.proofs.lemmas.Result.{err_from_is_err_and}
 use Rattle.ec_theory.specs.Reader.{left_of}
 use Rattle.ec_theory.specs.Walk.{Beginning, PatternAt, AfterPattern, Event, Head}
-use Rattle.ec_theory.proofs.Walking.{exit_goes, goes_on_fault}
-use Rattle.ec_theory.proofs.Clauses.{event_to_head, rule_takes}
+use Rattle.ec_theory.proofs.WalkSteps.{exit_goes, goes_on_fault}
+use Rattle.ec_theory.proofs.ClauseWalk.{event_to_head, rule_takes}
 use Rattle.ec_theory.proofs.clause.read_rule.Goals as goal
 
 pub returns-in_err-head-clause-goes : goal.returns-in_err-head-clause-goes

@@ -3,8 +3,8 @@ use Rattle.std.proofs.lemmas.Int.{to_z-of_z}
 use Rattle.std.proofs.lemmas.Result.{err_from_is_err_and}
 use Rattle.ec_theory.specs.Reader.{left_of}
 use Rattle.ec_theory.specs.Walk.{Beginning, StrongNameAt}
-use Rattle.ec_theory.proofs.Walking.{exit_goes}
-use Rattle.ec_theory.proofs.Clauses.{strong_refused, slash_refused, arity_refused, strong_unended, strong_ends, strong_takes}
+use Rattle.ec_theory.proofs.WalkSteps.{exit_goes}
+use Rattle.ec_theory.proofs.ClauseWalk.{strong_refused, slash_refused, arity_refused, strong_unended, strong_ends, strong_takes}
 use Rattle.ec_theory.proofs.clause.read_strong.Goals as goal
 
 pub returns-in_default-clause-goes : goal.returns-in_default-clause-goes

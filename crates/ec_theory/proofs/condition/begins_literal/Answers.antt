@@ -1,6 +1,6 @@
 use Rattle.ec_theory.specs.Sign.{is_compare}
 use Rattle.ec_theory.specs.Reader.{compared}
-use Rattle.ec_theory.proofs.Steps.{steps_pass}
+use Rattle.ec_theory.proofs.NextTokens.{steps_pass}
 use Rattle.ec_theory.proofs.condition.begins_literal.Goals as goal
 
 pub returns-in-Some-compare : goal.returns-in-Some-compare

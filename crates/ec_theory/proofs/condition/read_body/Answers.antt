@@ -1,7 +1,7 @@
 use Rattle.std.proofs.lemmas.Result.{err_from_is_err_and}
 use Rattle.ec_theory.specs.Reader.{left_of}
 use Rattle.ec_theory.specs.Walk.{Beginning, AfterPattern, Head, ConditionAt}
-use Rattle.ec_theory.proofs.Walking.{exit_goes, goes_from}
+use Rattle.ec_theory.proofs.WalkSteps.{exit_goes, goes_from}
 use Rattle.ec_theory.proofs.ConditionLoop.{with_if, if_goes, without_if, dot_goes, body_refused}
 use Rattle.ec_theory.proofs.condition.read_body.Goals as goal
 

@@ -1,7 +1,7 @@
 use Rattle.ec_theory.specs.Walk.{Condition as PartCondition, ConditionAt, PatternAt, AfterPattern}
 use Rattle.ec_theory.specs.Reader.{left_of, BeginsLiteral, BeginsTest}
-use Rattle.ec_theory.proofs.Walking.{goes_from}
-use Rattle.ec_theory.proofs.Conditions.{literal_is, literal_not, literal_goes, not_goes}
+use Rattle.ec_theory.proofs.WalkSteps.{goes_from}
+use Rattle.ec_theory.proofs.ConditionWalk.{literal_is, literal_not, literal_goes, not_goes}
 use Rattle.std.proofs.lemmas.Bool.{MatchBool-at_true}
 use Rattle.ec_theory.proofs.condition.read_condition.Goals as goal
 

@@ -3,8 +3,8 @@ use Rattle.std.proofs.lemmas.Result.{err_from_is_err_and}
 use Rattle.ec_theory.specs.Reader.{left_of}
 use Rattle.std.proofs.Common.{length, arith}
 use Rattle.ec_theory.specs.Walk.{Beginning, ConditionAt}
-use Rattle.ec_theory.proofs.Walking.{exit_goes, steps_signs}
-use Rattle.ec_theory.proofs.Lengths.{condition_shorter, signs_length}
+use Rattle.ec_theory.proofs.WalkSteps.{exit_goes, steps_signs}
+use Rattle.ec_theory.proofs.ShorterRests.{condition_shorter, signs_length}
 use Rattle.ec_theory.proofs.ConditionLoop.{no_conditions, condition_more, condition_last, condition_ends, condition_unended}
 use Rattle.ec_theory.proofs.condition.read_conditions.Goals as goal
 

@@ -1,8 +1,8 @@
 use Rattle.std.proofs.lemmas.Result.{err_from_is_err_and}
 use Rattle.ec_theory.specs.Walk.{Condition as PartCondition, ConditionAt, AfterPattern}
 use Rattle.ec_theory.specs.Reader.{left_of}
-use Rattle.ec_theory.proofs.Walking.{exit_goes}
-use Rattle.ec_theory.proofs.Conditions.{condition_refused, test_refused, right_refused, test_goes, test_takes}
+use Rattle.ec_theory.proofs.WalkSteps.{exit_goes}
+use Rattle.ec_theory.proofs.ConditionWalk.{condition_refused, test_refused, right_refused, test_goes, test_takes}
 use Rattle.ec_theory.proofs.condition.read_test.Goals as goal
 
 pub returns-in_err-left-clause-goes : goal.returns-in_err-left-clause-goes

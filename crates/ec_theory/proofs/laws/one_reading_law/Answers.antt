@@ -1,4 +1,4 @@
-use Rattle.ec_theory.proofs.Unique.{reading_same}
+use Rattle.ec_theory.proofs.OneReading.{reading_same}
 use Rattle.ec_theory.proofs.laws.one_reading_law.Goals as goal
 
 pub returns : goal.returns

@@ -1,8 +1,8 @@
 use Rattle.std.proofs.lemmas.Result.{err_from_is_err_and}
 use Rattle.ec_theory.specs.Walk.{ArgumentAt, AfterPattern}
 use Rattle.ec_theory.specs.Reader.{left_of}
-use Rattle.ec_theory.proofs.Walking.{exit_goes}
-use Rattle.ec_theory.proofs.Loops.{argument_refused, argument_more, argument_last, argument_closes, argument_unclosed}
+use Rattle.ec_theory.proofs.WalkSteps.{exit_goes}
+use Rattle.ec_theory.proofs.ArgumentLoop.{argument_refused, argument_more, argument_last, argument_closes, argument_unclosed}
 use Rattle.ec_theory.proofs.pattern.read_arguments.Goals as goal
 
 pub returns-in_err-arg-clause-goes : goal.returns-in_err-arg-clause-goes

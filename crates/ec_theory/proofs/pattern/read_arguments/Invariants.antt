@@ -1,6 +1,6 @@
 use Rattle.std.proofs.Common.{length}
 use Rattle.ec_theory.specs.Reader.{left_of}
-use Rattle.ec_theory.proofs.Loops.{Arguments}
+use Rattle.ec_theory.proofs.ArgumentLoop.{Arguments}
 use Rattle.ec_theory.proofs.pattern.read_arguments.Given as goal
 
 abbrev pub invariant-loop-args : goal.invariant-loop-args

@@ -3,8 +3,8 @@ use Rattle.ec_theory.specs.declared.sign.Symbol.TheVariants.{Open}
 use Rattle.ec_theory.specs.Sign.{Given, is_given}
 use Rattle.ec_theory.specs.Walk.{AfterName, ArgumentAt, AfterPattern, moves, first_move}
 use Rattle.ec_theory.specs.Reader.{left_of}
-use Rattle.ec_theory.proofs.Walking.{step_goes, goes_from, same_stop}
-use Rattle.ec_theory.proofs.Loops.{applied_takes, alone_takes}
+use Rattle.ec_theory.proofs.WalkSteps.{step_goes, goes_from, same_stop}
+use Rattle.ec_theory.proofs.ArgumentLoop.{applied_takes, alone_takes}
 use Rattle.ec_theory.proofs.pattern.read_behind_name.Goals as goal
 
 pub returns-in-Some-clause-takes : goal.returns-in-Some-clause-takes

@@ -3,7 +3,7 @@ use Rattle.std.proofs.lemmas.Result.{err_from_is_err_and}
 use Rattle.ec_theory.specs.Sign.{Word, is_word}
 use Rattle.ec_theory.specs.Walk.{PatternAt, AfterName, AfterPattern, moves, first_move}
 use Rattle.ec_theory.specs.Reader.{left_of}
-use Rattle.ec_theory.proofs.Walking.{step_goes, refused, goes_on_fault, exit_goes}
+use Rattle.ec_theory.proofs.WalkSteps.{step_goes, refused, goes_on_fault, exit_goes}
 use Rattle.ec_theory.proofs.pattern.read_pattern.Goals as goal
 
 pub returns-in_default-clause-goes : goal.returns-in_default-clause-goes

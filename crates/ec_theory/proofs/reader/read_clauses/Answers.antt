@@ -2,8 +2,8 @@ use Rattle.std.proofs.Common.{map, ap, subst, arith}
 use Rattle.ec_tokens.specs.Lexeme.{Lexemes, lexeme_of}
 use Rattle.ec_theory.specs.Sign.{sign_of, signs_of}
 use Rattle.ec_theory.specs.Grammar.{ReadsFrom}
-use Rattle.ec_theory.proofs.Lengths.{signs_length}
-use Rattle.ec_theory.proofs.Theories.{clause_shorter, clauses_more, clauses_all}
+use Rattle.ec_theory.proofs.ShorterRests.{signs_length}
+use Rattle.ec_theory.proofs.ClauseLoop.{clause_shorter, clauses_more, clauses_all}
 use Rattle.ec_theory.proofs.reader.read_clauses.Goals as goal
 
 pub loop-next-smaller : goal.loop-next-smaller

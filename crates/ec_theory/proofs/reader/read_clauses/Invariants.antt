@@ -1,6 +1,6 @@
 use Rattle.std.proofs.Common.{length}
 use Rattle.ec_theory.specs.Reader.{left_of}
-use Rattle.ec_theory.proofs.Theories.{Clauses}
+use Rattle.ec_theory.proofs.ClauseLoop.{Clauses}
 use Rattle.ec_theory.proofs.reader.read_clauses.Given as goal
 
 abbrev pub invariant-loop-next : goal.invariant-loop-next

@@ -2,10 +2,11 @@ use Rattle.std.proofs.Common.{◌≡◌, Bool, false}
 use Rattle.ec_theory.specs.declared.sign.Keyword.{Keyword}
 use Rattle.ec_theory.specs.Sign.{is_keyword}
 use Rattle.ec_theory.specs.Reader.{left_of, next_passes}
-use Rattle.ec_theory.proofs.Steps.{if_none, no_keyword}
+use Rattle.ec_lists.proofs.Options.{IfNone-from}
+use Rattle.ec_theory.proofs.NextTokens.{no_keyword}
 use Rattle.ec_theory.proofs.cursor.Cursor.keyword.Goals as goal
 
 pub returns-in_err-text-clause-none : goal.returns-in_err-text-clause-none
 returns-in_err-text-clause-none c =
     let none_passes : (test : Keyword → Bool) → next_passes (is_keyword test) (left_of c.args.self) ≡ false = λ test. no_keyword test (left_of c.args.self) c.in_err-text.ensures.none in
-    if_none _ _ none_passes
+    IfNone-from _ _ none_passes

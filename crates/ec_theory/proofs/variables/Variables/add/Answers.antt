@@ -1,6 +1,6 @@
 use Rattle.std.proofs.Common.{sym, ap, ◌∙◌}
 use Rattle.ec_theory.specs.Sign.{with_sign, with_variable}
-use Rattle.ec_theory.proofs.Names.{texts_of, put_in}
+use Rattle.ec_theory.proofs.VariableSets.{texts_of, put_in}
 use Rattle.ec_theory.proofs.variables.Variables.add.Goals as goal
 
 pub returns-clause-added : goal.returns-clause-added

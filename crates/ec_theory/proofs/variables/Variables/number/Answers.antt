@@ -1,7 +1,7 @@
 use Rattle.std.proofs.Common.{ap, ◌∙◌}
 use Rattle.std.specs.Prelude.{unwrap_or}
 use Rattle.ec_theory.specs.Sign.{number_of}
-use Rattle.ec_theory.proofs.Names.{number_found}
+use Rattle.ec_theory.proofs.VariableSets.{number_found}
 use Rattle.ec_theory.proofs.variables.Variables.number.Goals as goal
 
 pub returns : goal.returns

@@ -1,7 +1,7 @@
 use Rattle.std.proofs.Common.{◌<◌, length, sym, ap, ◌∙◌, arith}
 use Rattle.ec_theory.specs.declared.sign.Symbol.TheVariants.{Dot}
 use Rattle.ec_theory.specs.Sign.{is_given, with_sign}
-use Rattle.ec_theory.proofs.Names.{seen_dot, seen_more, seen_all}
+use Rattle.ec_theory.proofs.VariableSets.{seen_dot, seen_more, seen_all}
 use Rattle.ec_theory.proofs.variables.Variables.of.Goals as goal
 
 pub returns-then-is_given-clause-ok : goal.returns-then-is_given-clause-ok

@@ -1,4 +1,4 @@
-use Rattle.ec_theory.proofs.Names.{Seen}
+use Rattle.ec_theory.proofs.VariableSets.{Seen}
 use Rattle.ec_theory.proofs.variables.Variables.of.Given as goal
 
 abbrev pub invariant-loop-token : goal.invariant-loop-token

@@ -10,7 +10,7 @@ use Rattle.ec_theory.specs.declared.clause.Clause.TheVariants as clause
 use Rattle.ec_theory.specs.declared.sign.Symbol.TheVariants.{Comma, Dot}
 use Rattle.ec_theory.specs.Sign.{Sign, Given, argument_of, variables_of}
 use Rattle.ec_theory.specs.Grammar.{TakesArguments, last, more, TakesPattern, alone, applied, TakesCondition, current, not_current, test, TakesConditions, final, further, TakesBody, empty, conditions, TakesClause, rule, exclusive, strong, tests_of, literals_of, ReadsFrom, no_more, one_more, with_clause}
-use Rattle.ec_theory.proofs.Finishing.{opens, compares, pattern_closed, body_closed}
+use Rattle.ec_theory.proofs.WalkEnds.{opens, compares, pattern_closed, body_closed}
 
 module _ (names : List (List ℕ)) where
   arguments_same : {signs : List Sign} {args args' : List PatArg} {rest rest' : List Sign} → TakesArguments names signs args rest → TakesArguments names signs args' rest' → (args ≡ args') × (rest ≡ rest')

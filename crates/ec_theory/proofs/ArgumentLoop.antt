@@ -10,7 +10,7 @@ use Rattle.ec_theory.specs.Sign.{Sign, Word, Given, signs_of, is_given, is_argum
 use Rattle.ec_theory.specs.Grammar.{TakesArguments, last, more, TakesPattern, alone, applied}
 use Rattle.ec_theory.specs.Walk.{Part, ArgumentAt, AfterArgument, AfterPattern, moves, first_move, stop_of}
 use Rattle.ec_theory.specs.Reader.{Steps, left_of, Refuses, TakesArgument, next_passes, IsStop}
-use Rattle.ec_theory.proofs.Walking.{steps_signs, step_goes, refused, refused_both, goes_on_fault, argument_passes, argument_step, no_argument_step}
+use Rattle.ec_theory.proofs.WalkSteps.{steps_signs, step_goes, refused, refused_both, goes_on_fault, argument_passes, argument_step, no_argument_step}
 
 -- the arguments so far: whatever arguments come next, all together stand at the first place; and the walk came here
 pub record Arguments (names : List (List ℕ)) (start : Lexemes) (args : List PatArg) (here : Lexemes) : Type 0 where

@@ -17,7 +17,7 @@ use Rattle.ec_theory.specs.Sign.{Sign, Word, Number, Given, signs_of, keyword_of
 use Rattle.ec_theory.specs.Grammar.{TakesPattern, TakesBody, TakesClause, rule, exclusive, strong}
 use Rattle.ec_theory.specs.Walk.{Event, Head, Left, Right, Beginning, PatternAt, AfterPattern, StrongNameAt, SlashAt, ArityAt, AfterArity, moves, moves_behind, first_move, first_stop, stop_of}
 use Rattle.ec_theory.specs.Reader.{Steps, Refuses, HasKeyword, first_passes, place_at, IsStop}
-use Rattle.ec_theory.proofs.Walking.{steps_signs, step_goes, refused, same_row, goes_on_fault}
+use Rattle.ec_theory.proofs.WalkSteps.{steps_signs, step_goes, refused, same_row, goes_on_fault}
 
 -- a word that begins a clause
 pub rule_goes : {kind : Kind} (l m : Lexemes) → HasKeyword l (Rule kind) m → stop_of Beginning l ≡ stop_of (PatternAt Event) m

@@ -9,7 +9,7 @@ use Rattle.ec_theory.specs.Sign.{Sign, sign_of, signs_of, variables_of}
 use Rattle.ec_theory.specs.Grammar.{TakesClause, rule, exclusive, strong, TakesBody, empty, conditions, TakesConditions, final, further, ReadsFrom, no_more, one_more, no_clauses, with_clause}
 use Rattle.ec_theory.specs.Walk.{Beginning, stop_of}
 use Rattle.ec_theory.specs.Reader.{clause_added}
-use Rattle.ec_theory.proofs.Lengths.{pattern_shorter, condition_shorter}
+use Rattle.ec_theory.proofs.ShorterRests.{pattern_shorter, condition_shorter}
 use Rattle.ec_theory.specs.declared.condition.Condition.{Condition}
 
 conditions_shorter : {names : List (List ℕ)} {signs : List Sign} {cs : List Condition} {rest : List Sign} → TakesConditions names signs cs rest → length rest < length signs

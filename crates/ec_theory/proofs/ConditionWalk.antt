@@ -14,8 +14,8 @@ use Rattle.ec_theory.specs.Sign.{Sign, Word, Variable, Number, Given, Compare, s
 use Rattle.ec_theory.specs.Grammar.{TakesCondition, current, not_current, test}
 use Rattle.ec_theory.specs.Walk.{Spot, Condition as PartCondition, PatternAt, AfterName, AfterPattern, ConditionAt, AfterConditionName, CompareAt, RightSideAt, step, moves, moves_behind, first_move, stop_of}
 use Rattle.ec_theory.specs.Reader.{Steps, Refuses, TakesArgument, TakesLiteral, left_of, BeginsLiteral, BeginsTest, no_word, compared, next_passes, first_passes, IsStop}
-use Rattle.ec_theory.proofs.Steps.{steps_pass}
-use Rattle.ec_theory.proofs.Walking.{steps_signs, step_goes, refused, refused_both, same_stop, goes_on_fault, argument_passes}
+use Rattle.ec_theory.proofs.NextTokens.{steps_pass}
+use Rattle.ec_theory.proofs.WalkSteps.{steps_signs, step_goes, refused, refused_both, same_stop, goes_on_fault, argument_passes}
 
 -- what is no argument is no word
 no_word_either : (s : Sign) → is_argument s ≡ false → is_word s ≡ false

@@ -7,8 +7,8 @@ use Rattle.ec_tokens.specs.declared.token.TokenKind.{TokenKind}
 use Rattle.ec_tokens.specs.declared.token.TokenKind.TheVariants.{Name, Variable, Number, Mark}
 use Rattle.ec_tokens.specs.Lexeme.{Lexeme, Lexemes, lexeme_of, is_spelt, is_spelling}
 use Rattle.std.specs.Str.{bytes_eq}
-use Rattle.std.specs.Prelude.{codes, IfNone}
-use Rattle.std.proofs.Common.{Option, Some, None}
+use Rattle.std.specs.Prelude.{codes}
+use Rattle.std.proofs.Common.{None}
 use Rattle.std.proofs.lemmas.Bool.{false≢true}
 use Rattle.ec_theory.specs.declared.sign.Keyword.{Keyword}
 use Rattle.ec_theory.specs.Sign.{Sign, Word, Variable as SignVariable, Number as SignNumber, Given, Compare, keyword_of, is_word, is_keyword, sign_of, name_sign, mark_sign}
@@ -68,8 +68,3 @@ no_keyword test l e = first_keyword test l.tokens e
 -- a word that begins nothing
 pub word_no_keyword : (test : Keyword → Bool) (l : Lexemes) (w : List ℕ) (m : Lexemes) → Steps l (Word w) m → keyword_of w ≡ None → next_passes (is_keyword test) l ≡ false
 word_no_keyword test l w m steps none = steps_fail (is_keyword test) l (Word w) m steps (rw none refl)
-
--- a fact holds whether or not there is a value
-pub if_none : {X : Type 0} (o : Option X) (P : Type 0) → P → IfNone o P
-if_none None P p = p
-if_none (Some x) P p = tt

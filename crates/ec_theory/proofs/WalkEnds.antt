@@ -14,7 +14,7 @@ use Rattle.ec_theory.specs.declared.clause.Clause.{Clause}
 use Rattle.ec_theory.specs.Sign.{Sign, Word, Variable, Number, Given, Compare, sign_of, argument_of, is_given, is_word, is_compare, is_argument}
 use Rattle.ec_theory.specs.Grammar.{TakesArguments, last, more, TakesPattern, alone, applied, TakesCondition, current, not_current, test, TakesConditions, final, further, TakesBody, empty, conditions, TakesClause, rule, exclusive, strong, ReadsFrom, no_more, one_more}
 use Rattle.ec_theory.specs.Walk.{Part, Event, Head, Left, Right, Condition as PartCondition, Spot, Beginning, PatternAt, AfterName, ArgumentAt, AfterPattern, ConditionAt, AfterConditionName, RightSideAt, step, moves, moves_behind, first_move, first_stop, is_beginning}
-use Rattle.ec_theory.proofs.Walking.{argument_passes}
+use Rattle.ec_theory.proofs.WalkSteps.{argument_passes}
 
 -- the walk over the tokens ends at a clause's beginning
 unfoldable pub finishes : Spot → List Sign → Bool
