@@ -3,6 +3,7 @@ use Rattle.std.specs.Prelude.{◌≡◌, ◌≤◌, ℕ, Bool, true, false, ◌&
 use Rattle.std.specs.List.{list_all}
 use Rattle.ec_terms.specs.declared.theory.Theory.{Theory}
 use Rattle.ec_tokens.specs.declared.place.Place.{Place}
+use Rattle.ec_tokens.specs.declared.token_list.TheConstants.{MOST_BYTES}
 use Rattle.ec_tokens.specs.declared.fault.TokenFault.{TokenFault}
 use Rattle.ec_tokens.specs.declared.fault.TokenFault.TheVariants as token
 use Rattle.ec_check.specs.declared.fault.Many.{Many}
@@ -19,7 +20,7 @@ use Rattle.ec_server.specs.Words.{Shape, check_theory, serve_theory}
 
 -- the most bytes that the file of a theory has
 abbrev pub most_theory_bytes : ℕ
-most_theory_bytes = 1048576
+most_theory_bytes = MOST_BYTES
 
 -- ---- what is said of a text that is no theory
 

@@ -27,7 +27,7 @@ pub(crate) enum NoTheory {
 
 /// Reads the theory that the bytes of a file spell.
 fn read_bytes(alloc: Global, bytes: &[u8]) -> Result<Checked, NoTheory>
-    requires { length bytes.now ≤ 1048576 }
+    requires { length bytes.now ≤ MOST_BYTES }
     ensures theory { IfOk result (λ theory. IsAccepted bytes.now theory) }
     ensures reason { IfErr result (λ reason. IsBytesReason bytes.now reason) }
     ensures taken { (theory : Theory) → IsAccepted bytes.now theory → IsOk result ⊎ IsErrOf result NoTheory.NoMemory }
