@@ -24,10 +24,11 @@ use Rattle.ec_terms.specs.declared.theory.Theory.{Theory}
 use Rattle.ec_rows.specs.Ordered.{is_ascending}
 use Rattle.ec_rows.proofs.OrderedLemmas.{and-left, and-right}
 use Rattle.ec_props.specs.Table.{KeptProp, term_at, props_with, number_of}
-use Rattle.ec_exclusive.specs.Added.{Added, has_prop, number_before, is_by_number, added_props, is_added}
+use Rattle.ec_numbered.specs.PropSet.{has_number, comes_before, are_ascending}
+use Rattle.ec_exclusive.specs.Added.{Added, added_props, is_added}
 use Rattle.ec_exclusive.specs.Neighbours.{both_exclusive, exclusive_at, has_form, of_form, joined, same_form, same_forms, is_neighbour}
-use Rattle.ec_exclusive.proofs.Numbers.{same_prop, same_members, has_prop-filter}
-use Rattle.ec_exclusive.proofs.Excluding.{is_by_number-filter}
+use Rattle.ec_numbered.proofs.Numbers.{same_prop, same_members, has_number-filter}
+use Rattle.ec_exclusive.proofs.Excluding.{are_ascending-filter}
 use Rattle.ec_exclusive.proofs.RunLemmas.{exclusive-joined}
 
 -- ---- sorted, each number once
@@ -39,34 +40,34 @@ number_cmp p q = nat_cmp p.0 q.0
 abbrev pub same_number : PropId → PropId → Bool
 same_number p q = p.0 == q.0
 
-less-before : (p q : PropId) → number_cmp p q ≡ Less → number_before p q ≡ true
+less-before : (p q : PropId) → number_cmp p q ≡ Less → comes_before p q ≡ true
 less-before p q less = let test : is_lt (nat_cmp p.0 q.0) ≡ true = ap is_lt less in grind arith
 
-all-before : (p : PropId) (ps : List PropId) → AllByRecursion (λ q. number_cmp p q ≡ Less) ps → list_all (number_before p) ps ≡ true
+all-before : (p : PropId) (ps : List PropId) → AllByRecursion (λ q. number_cmp p q ≡ Less) ps → list_all (comes_before p) ps ≡ true
 all-before p [] all = refl
 all-before p (q ∷ ps) all = ap₂ (λ a b. a && b) (less-before p q all.0) (all-before p ps all.1)
 
-is_by_number-from_sorted : (ps : List PropId) → IsStrictlySortedBy number_cmp ps → is_by_number ps ≡ true
+are_ascending-from_sorted : (ps : List PropId) → IsStrictlySortedBy number_cmp ps → are_ascending ps ≡ true
 unfolding IsStrictlySortedBy is_ascending
-is_by_number-from_sorted [] sorted = refl
-is_by_number-from_sorted (p ∷ ps) sorted = ap₂ (λ a b. a && b) (all-before p ps sorted.0) (is_by_number-from_sorted ps sorted.1)
+are_ascending-from_sorted [] sorted = refl
+are_ascending-from_sorted (p ∷ ps) sorted = ap₂ (λ a b. a && b) (all-before p ps sorted.0) (are_ascending-from_sorted ps sorted.1)
 
-has_prop-dedup_from : (q p : PropId) (ps : List PropId) → has_prop q (dedup_from same_number p ps) ≡ has_prop q (p ∷ ps)
-has_prop-dedup_from q p [] = refl
-has_prop-dedup_from q p (r ∷ ps) =
-    let same = has_prop-dedup_from q p ps in
-    let other = has_prop-dedup_from q r ps in
+has_number-dedup_from : (q p : PropId) (ps : List PropId) → has_number q.0 (dedup_from same_number p ps) ≡ has_number q.0 (p ∷ ps)
+has_number-dedup_from q p [] = refl
+has_number-dedup_from q p (r ∷ ps) =
+    let same = has_number-dedup_from q p ps in
+    let other = has_number-dedup_from q r ps in
     ⊎_elim (λ e. let number : r.0 ≡ p.0 = ap (λ (s : PropId). s.0) (same_prop r p e) in grind arith) (λ e. grind arith) (cases_Bool (r.0 == p.0))
 
-has_prop-dedup : (q : PropId) (ps : List PropId) → has_prop q (dedup same_number ps) ≡ has_prop q ps
-has_prop-dedup q [] = refl
-has_prop-dedup q (p ∷ ps) = has_prop-dedup_from q p ps
+has_number-dedup : (q : PropId) (ps : List PropId) → has_number q.0 (dedup same_number ps) ≡ has_number q.0 ps
+has_number-dedup q [] = refl
+has_number-dedup q (p ∷ ps) = has_number-dedup_from q p ps
 
 -- ---- what is found
 
 -- the properties that were found are the neighbours that some of the declarations join with the term
 pub record IsFoundIn (theory : Theory) (table : List KeptProp) (rows : List Added) (term : Ground) (found : List PropId) (declarations : List Exclusive) : Type 0 where
-  pub members : (q : PropId) → has_prop q found ≡ (is_neighbour theory table rows term q && list_any (λ d. has_prop q (joined term table d)) declarations)
+  pub members : (q : PropId) → has_number q.0 found ≡ (is_neighbour theory table rows term q && list_any (λ d. has_number q.0 (joined term table d)) declarations)
 
 -- patterns of one form have the same properties
 of_form-same : (table : List KeptProp) (p q : Pattern) → same_form p q ≡ true → of_form table p ≡ of_form table q
@@ -96,12 +97,12 @@ joined-same term table d e same =
 
 -- what a repeated declaration joins, an earlier one joins
 joined-repeated : (q : PropId) (term : Ground) (table : List KeptProp) (d : Exclusive) (earlier : List Exclusive) → list_any (same_forms d) earlier ≡ true →
-    has_prop q (joined term table d) ≡ true → list_any (λ e. has_prop q (joined term table e)) earlier ≡ true
+    has_number q.0 (joined term table d) ≡ true → list_any (λ e. has_number q.0 (joined term table e)) earlier ≡ true
 joined-repeated q term table d [] repeated there = absurd (false≢true repeated)
 joined-repeated q term table d (e ∷ earlier) repeated there =
-    ⊎_elim (λ same. ap (λ b. b || list_any (λ e. has_prop q (joined term table e)) earlier) (ap (has_prop q) (sym (joined-same term table d e same)) ∙ there))
+    ⊎_elim (λ same. ap (λ b. b || list_any (λ e. has_number q.0 (joined term table e)) earlier) (ap (has_number q.0) (sym (joined-same term table d e same)) ∙ there))
     (λ other. let rest : list_any (same_forms d) earlier ≡ true = grind arith in
-    ap (λ b. has_prop q (joined term table e) || b) (joined-repeated q term table d earlier rest there) ∙ or-true (has_prop q (joined term table e)))
+    ap (λ b. has_number q.0 (joined term table e) || b) (joined-repeated q term table d earlier rest there) ∙ or-true (has_number q.0 (joined term table e)))
     (cases_Bool (same_forms d e))
   where
     or-true : (b : Bool) → (b || true) ≡ true
@@ -113,20 +114,20 @@ module _ (theory : Theory) (table : List KeptProp) (rows : List Added) (term : G
       IsFoundIn theory table rows term found (take i declarations) → new ≡ found ++ filter (is_neighbour theory table rows term) (joined term table d) →
       IsFoundIn theory table rows term new (take (i + 1) declarations)
   IsFoundIn-more declarations i d found new within next are is = record {
-    members = λ q. ap (has_prop q) is ∙ list_any-append (λ (r : PropId). r.0 == q.0) found (filter (is_neighbour theory table rows term) (joined term table d))
-        ∙ ap₂ (λ a b. a || b) (are.members q) (has_prop-filter q (is_neighbour theory table rows term) (joined term table d))
-        ∙ both (is_neighbour theory table rows term q) (list_any (λ e. has_prop q (joined term table e)) (take i declarations)) (has_prop q (joined term table d))
+    members = λ q. ap (has_number q.0) is ∙ list_any-append (λ (r : PropId). r.0 == q.0) found (filter (is_neighbour theory table rows term) (joined term table d))
+        ∙ ap₂ (λ a b. a || b) (are.members q) (has_number-filter q (is_neighbour theory table rows term) (joined term table d))
+        ∙ both (is_neighbour theory table rows term q) (list_any (λ e. has_number q.0 (joined term table e)) (take i declarations)) (has_number q.0 (joined term table d))
         ∙ ap (λ b. is_neighbour theory table rows term q && b) (sym (any-more q));
   }
     where
       both : (w a b : Bool) → ((w && a) || (w && b)) ≡ (w && (a || b))
       both w a b = grind arith
 
-      any-more : (q : PropId) → list_any (λ e. has_prop q (joined term table e)) (take (i + 1) declarations)
-          ≡ (list_any (λ e. has_prop q (joined term table e)) (take i declarations) || has_prop q (joined term table d))
+      any-more : (q : PropId) → list_any (λ e. has_number q.0 (joined term table e)) (take (i + 1) declarations)
+          ≡ (list_any (λ e. has_number q.0 (joined term table e)) (take i declarations) || has_number q.0 (joined term table d))
       any-more q =
-          list_any_more (λ e. has_prop q (joined term table e)) declarations i d within
-          ∙ ap (λ e. list_any (λ f. has_prop q (joined term table f)) (take i declarations) || has_prop q (joined term table e)) (sym next)
+          list_any_more (λ e. has_number q.0 (joined term table e)) declarations i d within
+          ∙ ap (λ e. list_any (λ f. has_number q.0 (joined term table f)) (take i declarations) || has_number q.0 (joined term table e)) (sym next)
 
   -- one that is repeated adds nothing
   pub IsFoundIn-repeated : (declarations : List Exclusive) (i : ℕ) (d : Exclusive) (found : List PropId) → i < length declarations → d ≡ get_or declarations i d →
@@ -140,21 +141,21 @@ module _ (theory : Theory) (table : List KeptProp) (rows : List Added) (term : G
       absorbed false true step = sym (step refl)
       absorbed false false step = refl
 
-      same : (q : PropId) → list_any (λ e. has_prop q (joined term table e)) (take (i + 1) declarations) ≡ list_any (λ e. has_prop q (joined term table e)) (take i declarations)
+      same : (q : PropId) → list_any (λ e. has_number q.0 (joined term table e)) (take (i + 1) declarations) ≡ list_any (λ e. has_number q.0 (joined term table e)) (take i declarations)
       same q =
-          list_any_more (λ e. has_prop q (joined term table e)) declarations i d within
-          ∙ ap (λ e. list_any (λ f. has_prop q (joined term table f)) (take i declarations) || has_prop q (joined term table e)) (sym next)
-          ∙ absorbed (list_any (λ f. has_prop q (joined term table f)) (take i declarations)) (has_prop q (joined term table d))
+          list_any_more (λ e. has_number q.0 (joined term table e)) declarations i d within
+          ∙ ap (λ e. list_any (λ f. has_number q.0 (joined term table f)) (take i declarations) || has_number q.0 (joined term table e)) (sym next)
+          ∙ absorbed (list_any (λ f. has_number q.0 (joined term table f)) (take i declarations)) (has_number q.0 (joined term table d))
           (joined-repeated q term table d (take i declarations) repeated)
 
 module _ (theory : Theory) (table : List KeptProp) (rows : List Added) (p : PropId) (term : Ground) (kept : term_at p.0 table ≡ Some term) where
   -- whatever is exclusive to the term is joined with it
   is_joined : (q : PropId) (o : Option Ground) → term_at q.0 table ≡ o → both_exclusive theory (Some term) o ≡ true →
-      list_any (λ d. has_prop q (joined term table d)) theory.exclusives ≡ true
+      list_any (λ d. has_number q.0 (joined term table d)) theory.exclusives ≡ true
   is_joined q None there exclusive = absurd (false≢true exclusive)
   is_joined q (Some other) there exclusive = exclusive-joined theory term other q table there exclusive
 
-  member : (q : PropId) → (is_neighbour theory table rows term q && list_any (λ d. has_prop q (joined term table d)) theory.exclusives)
+  member : (q : PropId) → (is_neighbour theory table rows term q && list_any (λ d. has_number q.0 (joined term table d)) theory.exclusives)
       ≡ (exclusive_at theory table p q && is_added q rows)
   member q =
       let own : exclusive_at theory table p q ≡ both_exclusive theory (Some term) (term_at q.0 table) = ap (λ t. both_exclusive theory t (term_at q.0 table)) kept in
@@ -168,16 +169,16 @@ module _ (theory : Theory) (table : List KeptProp) (rows : List Added) (p : Prop
       neither : (added exclusive at any : Bool) → exclusive ≡ false → at ≡ exclusive → ((added && exclusive) && any) ≡ (at && added)
       neither added exclusive at any = grind arith
 
-  pub neighbours-found : (declarations : List Exclusive) (i : ℕ) (found sorted deduped : List PropId) → is_by_number (added_props rows) ≡ true → declarations ≡ theory.exclusives →
+  pub neighbours-found : (declarations : List Exclusive) (i : ℕ) (found sorted deduped : List PropId) → are_ascending (added_props rows) ≡ true → declarations ≡ theory.exclusives →
       length declarations ≤ i → IsFoundIn theory table rows term found (take i declarations) → IsPermutation found sorted → IsSorted number_cmp sorted →
       IsFiltered (DiffersFromLast same_number) [] sorted deduped → deduped ≡ filter (exclusive_at theory table p) (added_props rows)
   neighbours-found declarations i found sorted deduped ascending are end found_in moved in_order filtered =
       let once : deduped ≡ dedup same_number sorted = dedup_is same_number sorted deduped filtered in
       same_members deduped (filter (exclusive_at theory table p) (added_props rows))
-      (ap is_by_number once ∙ is_by_number-from_sorted (dedup same_number sorted)
+      (ap are_ascending once ∙ are_ascending-from_sorted (dedup same_number sorted)
       (IsStrictlySortedBy-dedup {R = number_cmp} (on_total (λ (r : PropId). r.0) nat_cmp_total) {E = same_number} (λ x y. unsigned_ties x.0 y.0) sorted in_order))
-      (is_by_number-filter (exclusive_at theory table p) (added_props rows) ascending)
-      (λ q. ap (has_prop q) once ∙ has_prop-dedup q sorted
+      (are_ascending-filter (exclusive_at theory table p) (added_props rows) ascending)
+      (λ q. ap (has_number q.0) once ∙ has_number-dedup q sorted
       ∙ sym (list_any-IsPermutation (λ (r : PropId). r.0 == q.0) found sorted moved) ∙ found_in.members q
-      ∙ ap (λ ds. is_neighbour theory table rows term q && list_any (λ d. has_prop q (joined term table d)) ds) (take_all i declarations end ∙ are) ∙ member q
-      ∙ sym (has_prop-filter q (exclusive_at theory table p) (added_props rows)))
+      ∙ ap (λ ds. is_neighbour theory table rows term q && list_any (λ d. has_number q.0 (joined term table d)) ds) (take_all i declarations end ∙ are) ∙ member q
+      ∙ sym (has_number-filter q (exclusive_at theory table p) (added_props rows)))

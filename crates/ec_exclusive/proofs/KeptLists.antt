@@ -1,5 +1,5 @@
 -- Lists that are kept by number: what is found in them.
-use Rattle.std.proofs.Common.{◌≡◌, ℕ, ◌+◌, ◌<◌, zero, suc, true, false, ◌&&◌, All, List, [], ◌∷◌, ◌++◌, get_or, Option, Some, None, is_some, refl, sym, ap, ap₂, subst, ◌∙◌, ⊎_elim, arith}
+use Rattle.std.proofs.Common.{◌≡◌, ℕ, ◌+◌, ◌<◌, zero, suc, true, false, ◌&&◌, All, List, [], ◌∷◌, get_or, Option, Some, None, is_some, refl, sym, ap, ap₂, subst, ◌∙◌, ⊎_elim, arith}
 use Rattle.std.specs.Prelude.{◌==◌, nat_lt}
 use Rattle.std.specs.List.{list_all}
 use Rattle.std.proofs.lemmas.Bool.{cases_Bool}
@@ -7,8 +7,9 @@ use Rattle.std.proofs.lemmas.List.{get_or_past}
 use Rattle.std.proofs.lemmas.List.Elements.{All-nil, All-cons, All-head, All-tail}
 use Rattle.ec_terms.specs.declared.ids.PropId.{PropId}
 use Rattle.ec_rows.specs.Ordered.{is_ascending}
-use Rattle.ec_exclusive.specs.Added.{Added, number_before, is_by_number, added_props, is_added, neighbours_of, added_from, added_of}
-use Rattle.ec_exclusive.proofs.Numbers.{same_prop}
+use Rattle.ec_numbered.specs.PropSet.{comes_before, are_ascending}
+use Rattle.ec_exclusive.specs.Added.{Added, added_props, is_added, neighbours_of, added_from, added_of}
+use Rattle.ec_numbered.proofs.Numbers.{same_prop}
 
 -- the property of a number
 abbrev pub numbered : ℕ → PropId
@@ -21,11 +22,11 @@ added_as p ps = record { prop = p; neighbours = ps }
 -- ---- rows
 
 -- a property that stands before all added ones has no list
-neighbours_of-before : (p : PropId) (rows : List Added) → list_all (number_before p) (added_props rows) ≡ true → neighbours_of p rows ≡ None
+neighbours_of-before : (p : PropId) (rows : List Added) → list_all (comes_before p) (added_props rows) ≡ true → neighbours_of p rows ≡ None
 neighbours_of-before p [] before = refl
 neighbours_of-before p (row ∷ rows) before =
     let here : nat_lt p.0 row.prop.0 ≡ true = grind arith in
-    let rest : list_all (number_before p) (added_props rows) ≡ true = grind arith in
+    let rest : list_all (comes_before p) (added_props rows) ≡ true = grind arith in
     let other : (row.prop.0 == p.0) ≡ false = grind arith in
     rw other (neighbours_of-before p rows rest)
 
@@ -48,7 +49,7 @@ All-neighbours_of P p ps (row ∷ rows) all is =
 -- ---- lists by number
 
 -- a number less than the first stands before all
-before-added_from : (k m : ℕ) (lists : List (Option (List PropId))) → m < k → list_all (number_before (numbered m)) (added_props (added_from k lists)) ≡ true
+before-added_from : (k m : ℕ) (lists : List (Option (List PropId))) → m < k → list_all (comes_before (numbered m)) (added_props (added_from k lists)) ≡ true
 unfolding added_from
 before-added_from k m [] less = refl
 before-added_from k m (None ∷ lists) less = before-added_from (k + 1) m lists (omega arith)
@@ -56,12 +57,12 @@ before-added_from k m (Some ps ∷ lists) less =
     let here : nat_lt m k ≡ true = grind arith in
     rw here (before-added_from (k + 1) m lists (omega arith))
 
-is_by_number-added_from : (k : ℕ) (lists : List (Option (List PropId))) → is_by_number (added_props (added_from k lists)) ≡ true
+are_ascending-added_from : (k : ℕ) (lists : List (Option (List PropId))) → are_ascending (added_props (added_from k lists)) ≡ true
 unfolding added_from is_ascending
-is_by_number-added_from k [] = refl
-is_by_number-added_from k (None ∷ lists) = is_by_number-added_from (k + 1) lists
-is_by_number-added_from k (Some ps ∷ lists) =
-    ap₂ (λ a b. a && b) (before-added_from (k + 1) k lists (omega arith)) (is_by_number-added_from (k + 1) lists)
+are_ascending-added_from k [] = refl
+are_ascending-added_from k (None ∷ lists) = are_ascending-added_from (k + 1) lists
+are_ascending-added_from k (Some ps ∷ lists) =
+    ap₂ (λ a b. a && b) (before-added_from (k + 1) k lists (omega arith)) (are_ascending-added_from (k + 1) lists)
 
 -- the list of a number
 neighbours_of-added_from : (k n : ℕ) (lists : List (Option (List PropId))) → neighbours_of (numbered (k + n)) (added_from k lists) ≡ get_or lists n None
@@ -92,8 +93,8 @@ All-added_from P k (Some ps ∷ lists) each =
 
 -- ---- all lists, from 0 on
 
-pub is_by_number-added_of : (lists : List (Option (List PropId))) → is_by_number (added_props (added_of lists)) ≡ true
-is_by_number-added_of lists = is_by_number-added_from 0 lists
+pub are_ascending-added_of : (lists : List (Option (List PropId))) → are_ascending (added_props (added_of lists)) ≡ true
+are_ascending-added_of lists = are_ascending-added_from 0 lists
 
 pub neighbours_of-added_of : (p : PropId) (lists : List (Option (List PropId))) → neighbours_of p (added_of lists) ≡ get_or lists p.0 None
 neighbours_of-added_of p lists =
@@ -113,12 +114,21 @@ pub All-at : (P : Added → Type 0) (lists : List (Option (List PropId))) (p : P
     P (added_as p ps)
 All-at P lists p ps all is = All-neighbours_of P p ps (added_of lists) all (neighbours_of-added_of p lists ∙ is)
 
--- a number without a list at the end changes nothing
-added_from-push : (k : ℕ) (lists : List (Option (List PropId))) → added_from k (lists ++ None ∷ []) ≡ added_from k lists
+-- lists that are the same at each number are the same rows
+added_from-same : (k : ℕ) (lists other : List (Option (List PropId))) → ((n : ℕ) → get_or other n None ≡ get_or lists n None) → added_from k other ≡ added_from k lists
 unfolding added_from
-added_from-push k [] = refl
-added_from-push k (None ∷ lists) = added_from-push (k + 1) lists
-added_from-push k (Some ps ∷ lists) = ap (λ rows. added_as (numbered k) ps ∷ rows) (added_from-push (k + 1) lists)
+added_from-same k [] [] same = refl
+added_from-same k [] (x ∷ other) same =
+    let none : x ≡ None = same zero in
+    subst (λ o. added_from k (o ∷ other) ≡ []) (sym none) (added_from-same (k + 1) [] other (λ n. same (suc n) ∙ get_or_past [] (suc n) None (omega arith) ∙ sym (get_or_past [] n None (omega arith))))
+added_from-same k (list ∷ lists) [] same =
+    let none : list ≡ None = sym (same zero) in
+    subst (λ o. [] ≡ added_from k (o ∷ lists)) (sym none) (added_from-same (k + 1) lists [] (λ n. get_or_past [] n None (omega arith) ∙ sym (get_or_past [] (suc n) None (omega arith)) ∙ same (suc n)))
+added_from-same k (list ∷ lists) (x ∷ other) same = first list x (same zero) (added_from-same (k + 1) lists other (λ n. same (suc n)))
+  where
+    first : (list x : Option (List PropId)) → x ≡ list → added_from (k + 1) other ≡ added_from (k + 1) lists → added_from k (x ∷ other) ≡ added_from k (list ∷ lists)
+    first None x is rest = subst (λ o. added_from k (o ∷ other) ≡ added_from k (None ∷ lists)) (sym is) rest
+    first (Some ps) x is rest = subst (λ o. added_from k (o ∷ other) ≡ added_from k (Some ps ∷ lists)) (sym is) (ap (λ rows. added_as (numbered k) ps ∷ rows) rest)
 
-pub added_of-push : (lists : List (Option (List PropId))) → added_of (lists ++ None ∷ []) ≡ added_of lists
-added_of-push lists = added_from-push 0 lists
+pub added_of-same : (lists other : List (Option (List PropId))) → ((n : ℕ) → get_or other n None ≡ get_or lists n None) → added_of other ≡ added_of lists
+added_of-same lists other same = added_from-same 0 lists other same

@@ -4,10 +4,11 @@ use Rattle.std.specs.Prelude.{◌==◌, option_map}
 use Rattle.std.proofs.lemmas.Bool.{cases_Bool}
 use Rattle.std.proofs.lemmas.List.Elements.{All-weaker, All-map, All-filter}
 use Rattle.ec_terms.specs.declared.ids.PropId.{PropId}
-use Rattle.ec_exclusive.specs.Added.{Added, has_prop, is_by_number, without_number, added_props, neighbours_of, stands_in_list, AreMutual, without_neighbour, without_added, added_from, added_of}
-use Rattle.ec_exclusive.proofs.Numbers.{has_prop-filter}
+use Rattle.ec_numbered.specs.PropSet.{has_number, are_ascending, without_number}
+use Rattle.ec_exclusive.specs.Added.{Added, added_props, neighbours_of, stands_in_list, AreMutual, without_neighbour, without_added, added_from, added_of}
+use Rattle.ec_numbered.proofs.Numbers.{has_number-filter}
 use Rattle.ec_exclusive.proofs.KeptLists.{numbered, neighbours_of-added_of}
-use Rattle.ec_exclusive.proofs.Excluding.{AreListed, is_by_number-filter, filter_filter}
+use Rattle.ec_exclusive.proofs.Excluding.{AreListed, are_ascending-filter, filter_filter}
 
 -- ---- rows without a property
 
@@ -47,12 +48,12 @@ stands_in_list-without : (p q r : PropId) (o : Option (List PropId)) →
     stands_in_list r (list_without p q o) ≡ ((not (q.0 == p.0) && not (r.0 == p.0)) && stands_in_list r o)
 stands_in_list-without p q r None = grind arith
 stands_in_list-without p q r (Some ps) =
-    let kept = has_prop-filter r (λ (s : PropId). not (s.0 == p.0)) ps in grind arith
+    let kept = has_number-filter r (λ (s : PropId). not (s.0 == p.0)) ps in grind arith
 
 pub AreMutual-less : (p : PropId) (rows : List Added) → AreMutual rows → AreMutual (without_added p rows)
 AreMutual-less p rows are = record {
-  by_number = All-less (λ (row : Added). IsTrue (is_by_number row.neighbours)) p rows
-      (λ row ascending. is_by_number-filter (λ (s : PropId). not (s.0 == p.0)) row.neighbours ascending) are.by_number;
+  by_number = All-less (λ (row : Added). IsTrue (are_ascending row.neighbours)) p rows
+      (λ row ascending. are_ascending-filter (λ (s : PropId). not (s.0 == p.0)) row.neighbours ascending) are.by_number;
   not_itself = λ q. let there = ap (stands_in_list q) (neighbours_of-less p q rows) ∙ stands_in_list-without p q q (neighbours_of q rows) in
       let never = are.not_itself q in
       grind arith;
@@ -65,7 +66,7 @@ AreMutual-less p rows are = record {
 -- ---- lists by number without a property
 
 -- a list in which a property does not stand
-pub without_number-none : (p : PropId) (ps : List PropId) → has_prop p ps ≡ false → without_number p ps ≡ ps
+pub without_number-none : (p : PropId) (ps : List PropId) → has_number p.0 ps ≡ false → without_number p ps ≡ ps
 without_number-none p [] none = refl
 without_number-none p (q ∷ ps) none = let ih = without_number-none p ps in grind arith
 
@@ -92,15 +93,15 @@ added_from-less p k (list ∷ lists) (x ∷ new) same each =
 
 pub added_of-less : (p : PropId) (lists new : List (Option (List PropId))) (own : List PropId) → AreMutual (added_of lists) → get_or lists p.0 None ≡ Some own →
     length new ≡ length lists →
-    ((q : PropId) → get_or new q.0 None ≡ cond (q.0 == p.0) None (cond (has_prop q own) (option_map (without_number p) (get_or lists q.0 None)) (get_or lists q.0 None))) →
+    ((q : PropId) → get_or new q.0 None ≡ cond (q.0 == p.0) None (cond (has_number q.0 own) (option_map (without_number p) (get_or lists q.0 None)) (get_or lists q.0 None))) →
     added_of new ≡ without_added p (added_of lists)
 added_of-less p lists new own are is same each =
     added_from-less p 0 lists new same
     (λ n. subst (λ m. get_or new n None ≡ list_without p (numbered m) (get_or lists n None)) (omega arith) (each (numbered n) ∙ other (numbered n) (get_or lists n None) refl))
   where
     other : (q : PropId) (o : Option (List PropId)) → get_or lists q.0 None ≡ o →
-        cond (q.0 == p.0) None (cond (has_prop q own) (option_map (without_number p) o) o) ≡ list_without p q o
-    other q None was = ⊎_elim (λ e. rw e) (λ e. rw e) (cases_Bool (has_prop q own))
+        cond (q.0 == p.0) None (cond (has_number q.0 own) (option_map (without_number p) o) o) ≡ list_without p q o
+    other q None was = ⊎_elim (λ e. rw e) (λ e. rw e) (cases_Bool (has_number q.0 own))
     other q (Some ps) was =
         let there : stands_in_list q (Some own) ≡ stands_in_list p (Some ps) =
         ap (stands_in_list q) (sym (neighbours_of-added_of p lists ∙ is)) ∙ are.both_ways p q ∙ ap (stands_in_list p) (neighbours_of-added_of q lists ∙ was) in

@@ -1,4 +1,3 @@
-pub mod Numbers
 pub mod KeptLists
 pub mod Excluding
 pub mod Leaving

@@ -1,6 +1,6 @@
 -- A new row: its list is that of its neighbours, and they take it into theirs.
-use Rattle.std.proofs.Common.{◌≡◌, Bool, true, false, cond, ◌&&◌, All, IsTrue, IsSome, List, get_or, filter, Option, Some, None, is_some, refl, sym, ap, subst, ◌∙◌, ⊎_elim, arith}
-use Rattle.std.specs.Prelude.{◌==◌, option_map, Vec}
+use Rattle.std.proofs.Common.{◌≡◌, Bool, true, false, cond, ◌&&◌, All, IsTrue, IsSome, List, get_or, filter, Option, Some, None, is_some, refl, sym, ap, subst, ◌∙◌, ⊎_elim}
+use Rattle.std.specs.Prelude.{◌==◌, option_map}
 use Rattle.std.proofs.lemmas.Bool.{cases_Bool, false≢true}
 use Rattle.ec_terms.specs.declared.ids.PropId.{PropId}
 use Rattle.ec_terms.specs.declared.ground.Ground.{Ground}
@@ -8,14 +8,16 @@ use Rattle.ec_terms.specs.declared.theory.Theory.{Theory}
 use Rattle.ec_terms.proofs.DomainLemmas.{are_exclusive-comm, are_exclusive-itself}
 use Rattle.ec_rows.proofs.OrderedLemmas.{and-right}
 use Rattle.ec_props.specs.Table.{KeptProp, prop_at, term_at}
-use Rattle.ec_exclusive.specs.Added.{Added, has_prop, is_by_number, with_number, is_added, added_props, AreMutual, added_of}
-use Rattle.ec_exclusive.specs.Kept.{list_at, lists_of, Lacks, list_with}
+use Rattle.ec_numbered.specs.PropSet.{has_number, are_ascending, with_number}
+use Rattle.ec_exclusive.specs.Added.{Added, is_added, added_props, AreMutual, added_of}
+use Rattle.ec_exclusive.specs.declared.rows.Row.{Row}
+use Rattle.ec_exclusive.specs.Kept.{list_at, lists_of, list_with}
 use Rattle.ec_exclusive.specs.Neighbours.{AreNeighbours, both_exclusive, exclusive_at}
-use Rattle.ec_exclusive.proofs.Numbers.{same_prop, has_prop-filter}
+use Rattle.ec_numbered.proofs.Numbers.{same_prop, has_number-filter}
 use Rattle.ec_exclusive.proofs.KeptLists.{All-added_of, All-at}
 use Rattle.ec_exclusive.proofs.FieldLists.{get_or-list_at}
-use Rattle.ec_exclusive.proofs.Excluding.{AreListed, AreListed-more, AreMutual-more, added_props-more, is_by_number-filter}
-use Rattle.ec_exclusive.proofs.RowLemmas.{is_some-rows, is_by_number-rows, is_by_number-at}
+use Rattle.ec_exclusive.proofs.Excluding.{AreListed, AreListed-more, AreMutual-more, added_props-more, are_ascending-filter}
+use Rattle.ec_exclusive.proofs.RowLemmas.{is_some-rows, are_ascending-rows}
 
 -- to be exclusive goes both ways
 both_exclusive-comm : (theory : Theory) (p q : Option Ground) → both_exclusive theory p q ≡ both_exclusive theory q p
@@ -39,34 +41,25 @@ none-from : (o : Option (List PropId)) → is_some o ≡ false → o ≡ None
 none-from None none = refl
 none-from (Some ps) none = absurd (false≢true (sym none))
 
-module _ {Z : Type 0} (theory : Theory) (table : List KeptProp) (lists : List (Option (Vec PropId Z))) (rows : List Added) (p : PropId) (own : List PropId)
+module _ (theory : Theory) (table : List KeptProp) (lists : List (Option Row)) (rows : List Added) (p : PropId) (own : List PropId)
     (is : added_of (lists_of lists) ≡ rows) (are : AreNeighbours theory table rows) (absent : is_added p rows ≡ false)
     (own_is : own ≡ filter (exclusive_at theory table p) (added_props rows)) where
   abbrev test : PropId → PropId → Bool
   test = exclusive_at theory table
 
-  pub ascends-own : is_by_number own ≡ true
-  ascends-own = ap is_by_number own_is ∙ is_by_number-filter (test p) (added_props rows) (is_by_number-rows lists rows is)
+  pub ascends-own : are_ascending own ≡ true
+  ascends-own = ap are_ascending own_is ∙ are_ascending-filter (test p) (added_props rows) (are_ascending-rows lists rows is)
 
   listed : AreListed test (added_of (lists_of lists)) (added_props (added_of (lists_of lists)))
   listed = subst (λ rs. AreListed test rs (added_props rs)) (sym is) are.lists
 
-  -- the lists of the neighbours lack the new property
-  Lacks-from : AreMutual (added_of (lists_of lists)) → (q : PropId) (o : Option (List PropId)) → list_at q lists ≡ o → is_some o ≡ true → Lacks p o
-  Lacks-from mutual_rows q None there some = absurd (false≢true some)
-  Lacks-from mutual_rows q (Some ps) there some =
-      let list : ps ≡ filter (test q) (added_props (added_of (lists_of lists))) =
-      All-at (λ (row : Added). row.neighbours ≡ filter (test row.prop) (added_props (added_of (lists_of lists)))) (lists_of lists) q ps listed (get_or-list_at lists q ∙ there) in
-      let not_added : has_prop p (added_props (added_of (lists_of lists))) ≡ false = ap (is_added p) is ∙ absent in
-      let stands : has_prop p ps ≡ (test q p && has_prop p (added_props (added_of (lists_of lists)))) = ap (has_prop p) list ∙ has_prop-filter p (test q) (added_props (added_of (lists_of lists))) in
-      (is_by_number-at lists q ps mutual_rows there, grind arith)
+  -- each neighbour is added
+  pub added-own : (q : PropId) → IsTrue (has_number q.0 own) → IsSome (list_at q lists)
+  added-own q there =
+      let both : (test p q && has_number q.0 (added_props rows)) ≡ true = sym (ap (has_number q.0) own_is ∙ has_number-filter q (test p) (added_props rows)) ∙ there in
+      is_some-rows lists rows q is ∙ and-right (test p q) (has_number q.0 (added_props rows)) both
 
-  pub lacks : AreMutual (added_of (lists_of lists)) → (q : PropId) → IsTrue (has_prop q own) → Lacks p (list_at q lists)
-  lacks mutual_rows q there =
-      let both : (test p q && has_prop q (added_props rows)) ≡ true = sym (ap (has_prop q) own_is ∙ has_prop-filter q (test p) (added_props rows)) ∙ there in
-      Lacks-from mutual_rows q (list_at q lists) refl (is_some-rows lists rows q is ∙ and-right (test p q) (has_prop q (added_props rows)) both)
-
-  module _ (new : List (Option (Vec PropId Z))) (with_own : (q : PropId) → list_at q new ≡ list_with p own q (list_at q lists)) where
+  module _ (new : List (Option Row)) (with_own : (q : PropId) → list_at q new ≡ list_with p own q (list_at q lists)) where
     no_list : get_or (lists_of lists) p.0 None ≡ None
     no_list = get_or-list_at lists p ∙ none-from (list_at p lists) (is_some-rows lists rows p is ∙ absent)
 
@@ -99,8 +92,8 @@ module _ {Z : Type 0} (theory : Theory) (table : List KeptProp) (lists : List (O
       kept_after : (q : PropId) (ps : List PropId) → get_or (lists_of new) q.0 None ≡ Some ps → IsSome (prop_at q.0 table)
       kept_after q ps there =
           ⊎_elim (λ e. subst (λ r. IsSome (prop_at r.0 table)) (same_prop p q e) kept)
-          (λ e. let rest : cond (has_prop q own) (option_map (with_number p) (get_or (lists_of lists) q.0 None)) (get_or (lists_of lists) q.0 None) ≡ Some ps = rw e at (sym (after q) ∙ there) in
-          kept_before q ps (get_or (lists_of lists) q.0 None) (has_prop q own) refl rest) (cases_Bool (p.0 == q.0))
+          (λ e. let rest : cond (has_number q.0 own) (option_map (with_number p) (get_or (lists_of lists) q.0 None)) (get_or (lists_of lists) q.0 None) ≡ Some ps = rw e at (sym (after q) ∙ there) in
+          kept_before q ps (get_or (lists_of lists) q.0 None) (has_number q.0 own) refl rest) (cases_Bool (p.0 == q.0))
 
       pub AreNeighbours-with : AreNeighbours theory table (added_of (lists_of new))
       AreNeighbours-with = record {

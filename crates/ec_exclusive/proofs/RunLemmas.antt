@@ -22,7 +22,7 @@ use Rattle.ec_terms.specs.Domain.{both_fit, excludes, are_exclusive}
 use Rattle.ec_terms.specs.Term.{name_cmp}
 use Rattle.ec_rows.proofs.OrderedLemmas.{and-left, and-right}
 use Rattle.ec_props.specs.Table.{KeptProp, term_at, props_below, props_with, props_above, number_of}
-use Rattle.ec_exclusive.specs.Added.{has_prop}
+use Rattle.ec_numbered.specs.PropSet.{has_number}
 use Rattle.ec_exclusive.specs.Neighbours.{has_form, of_form, joined}
 
 -- ---- the run
@@ -128,14 +128,14 @@ unfolding both_fit
 of-both_fit left right p q both = (of-fits _ left p (and-left _ _ both), of-fits _ right q (and-right _ _ both))
 
 -- a kept property is among those of its form
-of_form-has : (q : PropId) (term : Ground) (pattern : Pattern) (ks : List KeptProp) → term_at q.0 ks ≡ Some term → has_form term pattern ≡ true → has_prop q (of_form ks pattern) ≡ true
+of_form-has : (q : PropId) (term : Ground) (pattern : Pattern) (ks : List KeptProp) → term_at q.0 ks ≡ Some term → has_form term pattern ≡ true → has_number q.0 (of_form ks pattern) ≡ true
 of_form-has q term pattern [] there has = cc
 of_form-has q term pattern (k ∷ ks) there has =
     ⊎_elim
     (λ e. let some : Some k.term ≡ Some term = rw e at there in
     let same : k.term ≡ term = cc in
     let kept : has_form k.term pattern ≡ true = ap (λ t. has_form t pattern) same ∙ has in
-    rw kept (ap (λ b. b || has_prop q (of_form ks pattern)) e))
+    rw kept (ap (λ b. b || has_number q.0 (of_form ks pattern)) e))
     (λ e. let rest : term_at q.0 ks ≡ Some term = rw e at there in
     let ih = of_form-has q term pattern ks rest has in
     ⊎_elim (λ kept. rw kept (ap (λ b. (k.id == q.0) || b) ih ∙ or-true (k.id == q.0))) (λ kept. rw kept ih) (cases_Bool (has_form k.term pattern)))
@@ -146,7 +146,7 @@ of_form-has q term pattern (k ∷ ks) there has =
 
 -- what a declaration speaks of, it joins
 joined-has : (p term : Ground) (q : PropId) (ks : List KeptProp) (declaration : Exclusive) → term_at q.0 ks ≡ Some term → excludes p term declaration ≡ true →
-    has_prop q (joined p ks declaration) ≡ true
+    has_number q.0 (joined p ks declaration) ≡ true
 unfolding excludes
 joined-has p term q ks declaration there speaks =
     ⊎_elim
@@ -160,8 +160,8 @@ joined-has p term q ks declaration there speaks =
       args = both.0.args ∙ sym other.args ∙ both.1.args;
     } in
     rw left (of_form-has q term declaration.right ks there (has_form-of term declaration.right form)))
-    (λ left. ap (λ b. has_prop q (cond b (of_form ks declaration.right) (cond (has_form p declaration.right) (of_form ks declaration.left) []))) left
-    ∙ ap (λ b. has_prop q (cond b (of_form ks declaration.left) [])) (has_form-of p declaration.right both.1)
+    (λ left. ap (λ b. has_number q.0 (cond b (of_form ks declaration.right) (cond (has_form p declaration.right) (of_form ks declaration.left) []))) left
+    ∙ ap (λ b. has_number q.0 (cond b (of_form ks declaration.left) [])) (has_form-of p declaration.right both.1)
     ∙ of_form-has q term declaration.left ks there (has_form-of term declaration.left both.0))
     (cases_Bool (has_form p declaration.left)))
     (cases_Bool (both_fit declaration.left declaration.right p term))
@@ -170,12 +170,12 @@ joined-has p term q ks declaration there speaks =
     or-second a b = grind arith
 
 any-joined : (p term : Ground) (q : PropId) (ks : List KeptProp) (declarations : List Exclusive) → term_at q.0 ks ≡ Some term → list_any (excludes p term) declarations ≡ true →
-    list_any (λ d. has_prop q (joined p ks d)) declarations ≡ true
+    list_any (λ d. has_number q.0 (joined p ks d)) declarations ≡ true
 any-joined p term q ks [] there speaks = absurd (false≢true speaks)
 any-joined p term q ks (d ∷ declarations) there speaks =
-    ⊎_elim (λ e. ap (λ b. b || list_any (λ d. has_prop q (joined p ks d)) declarations) (joined-has p term q ks d there e))
+    ⊎_elim (λ e. ap (λ b. b || list_any (λ d. has_number q.0 (joined p ks d)) declarations) (joined-has p term q ks d there e))
     (λ e. let rest : list_any (excludes p term) declarations ≡ true = grind arith in
-    ap (λ b. has_prop q (joined p ks d) || b) (any-joined p term q ks declarations there rest) ∙ or-true (has_prop q (joined p ks d)))
+    ap (λ b. has_number q.0 (joined p ks d) || b) (any-joined p term q ks declarations there rest) ∙ or-true (has_number q.0 (joined p ks d)))
     (cases_Bool (excludes p term d))
   where
     or-true : (b : Bool) → (b || true) ≡ true
@@ -183,6 +183,6 @@ any-joined p term q ks (d ∷ declarations) there speaks =
 
 -- what is exclusive to a term, some declaration joins with it
 pub exclusive-joined : (theory : Theory) (p term : Ground) (q : PropId) (ks : List KeptProp) → term_at q.0 ks ≡ Some term → are_exclusive theory p term ≡ true →
-    list_any (λ d. has_prop q (joined p ks d)) theory.exclusives ≡ true
+    list_any (λ d. has_number q.0 (joined p ks d)) theory.exclusives ≡ true
 unfolding are_exclusive
 exclusive-joined theory p term q ks there exclusive = any-joined p term q ks theory.exclusives there (and-right _ _ exclusive)

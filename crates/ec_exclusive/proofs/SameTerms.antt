@@ -8,7 +8,7 @@ use Rattle.ec_terms.specs.declared.theory.Theory.{Theory}
 use Rattle.ec_props.specs.Table.{KeptProp, prop_at, term_at}
 use Rattle.ec_exclusive.specs.Added.{Added, added_props, is_added, neighbours_of, without_added}
 use Rattle.ec_exclusive.specs.Neighbours.{AreNeighbours, ReadTermsAlone, both_exclusive, exclusive_at}
-use Rattle.ec_exclusive.proofs.Numbers.{itself}
+use Rattle.ec_numbered.proofs.Numbers.{itself}
 use Rattle.ec_exclusive.proofs.KeptLists.{is_added-neighbours_of, All-neighbours_of}
 use Rattle.ec_exclusive.proofs.Leaving.{list_without, neighbours_of-less}
 

@@ -1,30 +1,8 @@
 -- Properties that are added, each with a list of others, all by their numbers; and how such lists are kept by number.
-use Rattle.std.specs.Prelude.{◌≡◌, ℕ, ◌+◌, Bool, false, not, ◌==◌, nat_lt, List, [], ◌∷◌, map, filter, find, Option, Some, None, option_map, IsTrue}
-use Rattle.std.specs.List.{All, list_any}
+use Rattle.std.specs.Prelude.{◌≡◌, ℕ, ◌+◌, Bool, false, not, ◌==◌, List, [], ◌∷◌, map, filter, find, Option, Some, None, option_map, IsTrue}
+use Rattle.std.specs.List.{All}
 use Rattle.ec_terms.specs.declared.ids.PropId.{PropId}
-use Rattle.ec_rows.specs.Ordered.{is_ascending, with_member}
-
--- ---- lists of numbers
-
--- a property stands in a list
-abbrev pub has_prop : PropId → List PropId → Bool
-has_prop p ps = list_any (λ q. q.0 == p.0) ps
-
--- a property stands before another where its number is less
-abbrev pub number_before : PropId → PropId → Bool
-number_before p q = nat_lt p.0 q.0
-
--- the numbers ascend, and none stands there twice
-abbrev pub is_by_number : List PropId → Bool
-is_by_number ps = is_ascending number_before ps
-
--- the list with a property in its place
-abbrev pub with_number : PropId → List PropId → List PropId
-with_number p ps = with_member number_before p ps
-
--- the list without a property
-abbrev pub without_number : PropId → List PropId → List PropId
-without_number p ps = filter (λ q. not (q.0 == p.0)) ps
+use Rattle.ec_numbered.specs.PropSet.{has_number, are_ascending, without_number}
 
 -- ---- added properties
 
@@ -39,7 +17,7 @@ added_props rows = map (λ row. row.prop) rows
 
 -- a property is added
 abbrev pub is_added : PropId → List Added → Bool
-is_added p rows = has_prop p (added_props rows)
+is_added p rows = has_number p.0 (added_props rows)
 
 -- the neighbours of a property, if it is added
 abbrev pub neighbours_of : PropId → List Added → Option (List PropId)
@@ -48,11 +26,11 @@ neighbours_of p rows = option_map (λ row. row.neighbours) (find (λ row. row.pr
 -- a property stands in a list, if there is one
 abbrev pub stands_in_list : PropId → Option (List PropId) → Bool
 stands_in_list p None = false
-stands_in_list p (Some ps) = has_prop p ps
+stands_in_list p (Some ps) = has_number p.0 ps
 
 -- Each list ascends, no property is its own neighbour, and of two either both have the other as a neighbour or neither has.
 pub record AreMutual (rows : List Added) : Type 0 where
-  pub by_number : All (λ (row : Added). IsTrue (is_by_number row.neighbours)) rows
+  pub by_number : All (λ (row : Added). IsTrue (are_ascending row.neighbours)) rows
   pub not_itself : (p : PropId) → stands_in_list p (neighbours_of p rows) ≡ false
   pub both_ways : (p q : PropId) → stands_in_list q (neighbours_of p rows) ≡ stands_in_list p (neighbours_of q rows)
 

@@ -2,8 +2,8 @@
 #![tactic(auto)]
 
 mod laws;
-mod lists;
 mod neighbours;
+mod rows;
 mod search;
 #[cfg(test)]
 mod tests;

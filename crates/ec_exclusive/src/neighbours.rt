@@ -3,11 +3,13 @@ ghost use Rattle.ec_terms.specs.declared.ids.PropId.{PropId};
 ghost use Rattle.ec_terms.specs.declared.theory.Theory.{Theory};
 ghost use Rattle.ec_terms.specs.Matchable.{IsMatchable};
 ghost use Rattle.ec_props.specs.Table.{KeptProp, prop_at};
-ghost use Rattle.ec_exclusive.specs.Added.{added_props, is_added as added, is_by_number, neighbours_of, with_number, without_added};
+ghost use Rattle.ec_numbered.specs.PropSet.{are_ascending, with_number};
+ghost use Rattle.ec_exclusive.specs.Added.{added_props, is_added as added, neighbours_of, without_added};
 ghost use Rattle.ec_exclusive.specs.Neighbours.{AreNeighbours, exclusive_at};
 
-use crate::lists::{add_row, remove_row};
+use crate::rows::{Row, add_row, make_room, remove_row};
 use crate::search::find_neighbours;
+use ec_numbered::ByNumber;
 use ec_props::PropTable;
 use ec_terms::{NoMemory, PropId, Theory};
 use std::alloc::Global;
@@ -17,7 +19,7 @@ use std::marker::Model;
 /// table. They are kept by number, so that a list is found at once, and no term is kept here.
 #[derive(Drop)]
 pub struct Neighbours {
-    lists: Vec<Option<Vec<PropId>>>,
+    rows: ByNumber<Row>,
     alloc: Global,
 }
 
@@ -28,9 +30,9 @@ impl Model for Neighbours {
 
     ghost Value = { List Added };
 
-    ghost view = { λ neighbours. added_of (lists_of neighbours.lists.items) };
+    ghost view = { λ neighbours. added_of (lists_of neighbours.rows) };
 
-    ghost invariant = { λ neighbours. AreMutual (added_of (lists_of neighbours.lists.items)) };
+    ghost invariant = { λ neighbours. AreMutual (added_of (lists_of neighbours.rows)) };
 }
 
 impl Neighbours {
@@ -39,7 +41,7 @@ impl Neighbours {
         ensures { IfOk result (λ neighbours. neighbours ≡ []) }
     {
         Ok(Neighbours {
-            lists: Vec::new(alloc),
+            rows: ByNumber::new(alloc),
             alloc,
         })
     }
@@ -47,21 +49,21 @@ impl Neighbours {
     /// Whether a property is added. The added properties are in the order of their numbers.
     pub fn is_added(&self, p: PropId) -> bool
         ensures added { result ≡ added p self.now }
-        ensures order { IsTrue (is_by_number (added_props self.now)) }
+        ensures order { IsTrue (are_ascending (added_props self.now)) }
     {
-        p.0 < self.lists.len() && self.lists[p.0].is_some()
+        self.rows.get(p).is_some()
     }
 
     /// The neighbours of an added property, in the order of their numbers.
     pub fn of(&self, p: PropId) -> &[PropId]
         requires { IsTrue (added p self.now) }
         ensures list { neighbours_of p self.now ≡ Some result.now }
-        ensures order { IsTrue (is_by_number result.now) }
+        ensures order { IsTrue (are_ascending result.now) }
         ensures exclusive { (theory : Theory) (table : List KeptProp) → AreNeighbours theory table self.now → result.now ≡ filter (exclusive_at theory table p) (added_props self.now) }
         ensures kept { (theory : Theory) (table : List KeptProp) → AreNeighbours theory table self.now → All (λ q. IsSome (prop_at q.0 table)) result.now }
     {
-        match &self.lists[p.0] {
-            Some(list) => list,
+        match self.rows.get(p) {
+            Some(row) => row.neighbours.as_slice(),
             None => unreachable!(),
         }
     }
@@ -78,8 +80,9 @@ impl Neighbours {
         ensures neighbours { OnOk result (AreNeighbours theory.now props.now self.new) }
         ensures err { OnErr result (self.new ≡ self.old) }
     {
-        let own = find_neighbours(self, theory, props, p, self.alloc)?;
-        add_row(&mut self.lists, p, own)?;
+        let neighbours = find_neighbours(self, theory, props, p, self.alloc)?;
+        make_room(&mut self.rows, p, neighbours.as_slice())?;
+        add_row(&mut self.rows, p, Row { neighbours });
         Ok(())
     }
 
@@ -89,6 +92,6 @@ impl Neighbours {
         ensures rows { self.new ≡ without_added p self.old }
         ensures neighbours { (theory : Theory) (table : List KeptProp) → AreNeighbours theory table self.old → AreNeighbours theory table self.new }
     {
-        remove_row(&mut self.lists, p);
+        let _ = remove_row(&mut self.rows, p);
     }
 }

@@ -5,10 +5,12 @@ ghost use Rattle.ec_terms.specs.Binding.{IsSmall};
 ghost use Rattle.ec_terms.specs.Matchable.{IsMatchable, IsMatchableExclusive};
 ghost use Rattle.ec_terms.specs.Term.{ground_of, names_are_names};
 ghost use Rattle.ec_props.specs.Table.{prop_at};
-ghost use Rattle.ec_exclusive.specs.Added.{added_props, is_by_number};
+ghost use Rattle.ec_numbered.specs.PropSet.{are_ascending};
+ghost use Rattle.ec_exclusive.specs.Added.{added_props};
 ghost use Rattle.ec_exclusive.specs.Neighbours.{exclusive_at, has_form as of_the_form, of_form, joined, is_neighbour as neighbour, same_form as of_one_form, same_forms as of_the_same_forms};
 
 use crate::neighbours::Neighbours;
+use ec_numbered::PropSet;
 use ec_props::PropTable;
 use ec_terms::{Exclusive, GroundRef, NoMemory, Pattern, PropId, Theory, are_exclusive};
 use std::alloc::Global;
@@ -115,10 +117,10 @@ pub(crate) fn find_neighbours(
     props: &PropTable,
     p: PropId,
     alloc: Global,
-) -> Result<Vec<PropId>, NoMemory>
+) -> Result<PropSet, NoMemory>
     requires matchable { IsMatchable theory.now }
     requires kept { IsSome (prop_at p.0 props.now) }
-    requires order { IsTrue (is_by_number (added_props added.now)) }
+    requires order { IsTrue (are_ascending (added_props added.now)) }
     ensures { IfOk result (λ found. found.items ≡ filter (exclusive_at theory.now props.now p) (added_props added.now)) }
 {
     let term = props.ground(p);
@@ -132,5 +134,5 @@ pub(crate) fn find_neighbours(
     }
     found.sort_unstable();
     found.dedup();
-    Ok(found)
+    Ok(PropSet::from_ascending(found))
 }

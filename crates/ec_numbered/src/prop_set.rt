@@ -36,6 +36,14 @@ impl PropSet {
         }
     }
 
+    /// The set of the properties in an ascending list.
+    pub fn from_ascending(props: Vec<PropId>) -> PropSet
+        requires { IsTrue (are_ascending props.items) }
+        ensures { result.items ≡ props.items }
+    {
+        PropSet { props }
+    }
+
     /// How many properties there are.
     pub fn len(&self) -> usize
         ensures { result ≡ length self.now.items }

@@ -1,32 +1,36 @@
--- The list that was found is the new property's, and it goes into the lists of all that stand in it.
-use Rattle.ec_exclusive.proofs.RowLemmas.{is_by_number-rows}
-use Rattle.ec_exclusive.proofs.NewRow.{ascends-own, lacks, added_props-with, AreMutual-with, AreNeighbours-with}
+-- The search finds the neighbours, and the row of the property makes it one of theirs.
+use Rattle.std.proofs.Common.{◌≡◌, ap, subst, IsTrue, ◌∙◌}
+use Rattle.ec_terms.specs.declared.ids.PropId.{PropId}
+use Rattle.ec_numbered.specs.PropSet.{has_number}
+use Rattle.ec_exclusive.specs.Kept.{list_at, list_with}
+use Rattle.ec_exclusive.proofs.RowLemmas.{are_ascending-rows}
+use Rattle.ec_exclusive.proofs.NewRow.{added-own, added_props-with, AreMutual-with, AreNeighbours-with}
 use Rattle.ec_exclusive.proofs.neighbours.Neighbours.add.Goals as goal
+use Rattle.ec_exclusive.proofs.neighbours.Neighbours.add.Goals.{After-add_row}
 
 pub find_neighbours-requires-clause-order : goal.find_neighbours-requires-clause-order
-find_neighbours-requires-clause-order c = is_by_number-rows c.self.inside.lists.items c.args.self.now c.self.view_is
+find_neighbours-requires-clause-order c = are_ascending-rows c.self.inside.rows c.args.self.now c.self.view_is
 
-pub add_row-requires-clause-ascends : goal.add_row-requires-clause-ascends
-add_row-requires-clause-ascends c =
-    ascends-own c.args.theory.now c.args.props.now c.self.inside.lists.items c.args.self.now c.args.p c.in_ok-own.own.items
-    c.self.view_is c.requires.neighbours c.requires.absent c.in_ok-own.ensures
+pub make_room-requires : goal.make_room-requires
+make_room-requires c = λ q there.
+    added-own c.args.theory.now c.args.props.now c.self.inside.rows c.args.self.now c.args.p c.in_ok-neighbours.neighbours.items
+    c.self.view_is c.requires.neighbours c.requires.absent c.in_ok-neighbours.ensures q (subst (λ ps. IsTrue (has_number q.0 ps)) c.as_slice.ensures.items there)
 
-pub add_row-requires-clause-lacks : goal.add_row-requires-clause-lacks
-add_row-requires-clause-lacks c =
-    lacks c.args.theory.now c.args.props.now c.self.inside.lists.items c.args.self.now c.args.p c.in_ok-own.own.items
-    c.self.view_is c.requires.neighbours c.requires.absent c.in_ok-own.ensures c.self.invariant
+-- the lists once the property has its row
+with_own : (c : After-add_row) (q : PropId) → list_at q c.add_row.new.rows ≡ list_with c.args.p c.in_ok-neighbours.neighbours.items q (list_at q c.self.inside.rows)
+with_own c q = c.add_row.ensures q ∙ ap (list_with c.args.p c.in_ok-neighbours.neighbours.items q) (c.in_ok-make_room.ensures.lists q)
 
 pub invariant_of-self-2 : goal.invariant_of-self-2
 invariant_of-self-2 c =
-    AreMutual-with c.args.theory.now c.args.props.now c.self.inside.lists.items c.args.self.now c.args.p c.in_ok-own.own.items
-    c.self.view_is c.requires.neighbours c.requires.absent c.in_ok-own.ensures c.add_row.new.lists.items c.in_ok-add_row.ensures.lists
+    AreMutual-with c.args.theory.now c.args.props.now c.self.inside.rows c.args.self.now c.args.p c.in_ok-neighbours.neighbours.items
+    c.self.view_is c.requires.neighbours c.requires.absent c.in_ok-neighbours.ensures c.add_row.new.rows (with_own (goal.at.invariant_of-self-2 c).After-add_row)
 
 pub returns-clause-added : goal.returns-clause-added
 returns-clause-added c =
-    added_props-with c.args.theory.now c.args.props.now c.self.inside.lists.items c.args.self.now c.args.p c.in_ok-own.own.items
-    c.self.view_is c.requires.neighbours c.requires.absent c.in_ok-own.ensures c.add_row.new.lists.items c.in_ok-add_row.ensures.lists
+    added_props-with c.args.theory.now c.args.props.now c.self.inside.rows c.args.self.now c.args.p c.in_ok-neighbours.neighbours.items
+    c.self.view_is c.requires.neighbours c.requires.absent c.in_ok-neighbours.ensures c.add_row.new.rows (with_own (goal.at.returns-clause-added c).After-add_row)
 
 pub returns-clause-neighbours : goal.returns-clause-neighbours
 returns-clause-neighbours c =
-    AreNeighbours-with c.args.theory.now c.args.props.now c.self.inside.lists.items c.args.self.now c.args.p c.in_ok-own.own.items
-    c.self.view_is c.requires.neighbours c.requires.absent c.in_ok-own.ensures c.add_row.new.lists.items c.in_ok-add_row.ensures.lists c.requires.kept
+    AreNeighbours-with c.args.theory.now c.args.props.now c.self.inside.rows c.args.self.now c.args.p c.in_ok-neighbours.neighbours.items
+    c.self.view_is c.requires.neighbours c.requires.absent c.in_ok-neighbours.ensures c.add_row.new.rows (with_own (goal.at.returns-clause-neighbours c).After-add_row) c.requires.kept

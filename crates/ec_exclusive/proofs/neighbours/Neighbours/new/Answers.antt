@@ -1,9 +1,9 @@
--- With no lists there are no rows.
+-- With no rows nothing is added.
 use Rattle.ec_exclusive.proofs.RowLemmas.{AreMutual-none, added_of-nil}
 use Rattle.ec_exclusive.proofs.neighbours.Neighbours.new.Goals as goal
 
 pub invariant_of-result : goal.invariant_of-result
-invariant_of-result c = AreMutual-none c.new.result.items c.new.ensures.items
+invariant_of-result c = AreMutual-none c.new.result c.new.ensures
 
 pub returns : goal.returns
-returns c = added_of-nil c.new.result.items c.new.ensures.items
+returns c = added_of-nil c.new.result c.new.ensures
