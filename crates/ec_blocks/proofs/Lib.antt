@@ -1,1 +1,8 @@
+pub mod ChainLemmas
+pub mod DebtLemmas
+pub mod EditLemmas
+pub mod JoinLemmas
+pub mod PlaceLemmas
+pub mod SearchLemmas
 pub mod SpliceLemmas
+pub mod StartLemmas

@@ -5,7 +5,7 @@ use Rattle.std.proofs.lemmas.List.{length-take-le, take-append-drop, drop-drop, 
 
 module _ {X : Type 0} where
   -- what stands in front of a place, then other members
-  front-length : (xs ys : List X) (from n : ℕ) → from ≤ length xs → n ≤ length ys → length (take from xs ++ take n ys) ≡ from + n
+  pub front-length : (xs ys : List X) (from n : ℕ) → from ≤ length xs → n ≤ length ys → length (take from xs ++ take n ys) ≡ from + n
   front-length xs ys from n within enough = length-append (take from xs) (take n ys) ∙ ap₂ (λ a b. a + b) (length-take-le from xs within) (length-take-le n ys enough)
 
   -- one more member written over

@@ -1,29 +1,42 @@
-ghost use Rattle.std.specs.Prelude.{◌≡◌, ◌+◌, ◌-◌, ◌<◌, ◌≤◌, ◌++◌, ◌∷◌, [], Bool, true, false, Some, OnOk, OnErr, IsTrue, ◌↔◌, length, take, drop, slice_get, slice_set, vec_len};
+ghost use Rattle.std.specs.Prelude.{◌≡◌, ◌+◌, ◌-◌, ◌<◌, ◌≤◌, ◌++◌, ◌∷◌, [], Bool, true, false, Some, OnOk, OnErr, IsTrue, ◌↔◌, length, take, drop, slice_get, slice_set, IfOk, IfSome, IfNone};
 ghost use Rattle.std.specs.Fn.{ComputesKey};
 ghost use Rattle.std.specs.List.{insert, remove, splice};
 ghost use Rattle.std.specs.List.Sorted.{IsPartitionedBy, IsPartitionPoint};
-ghost use Rattle.std.specs.Vec.{vec_capacity};
+ghost use Rattle.ec_blocks.specs.Body.{seen_of, IsBody, HasPlace};
+ghost use Rattle.ec_blocks.specs.Chain.{joined, room_of};
 
+use crate::chain::{CAPACITY, Chain, insert_within};
 use ec_rows::Copied;
 use ec_terms::NoMemory;
 use std::alloc::Global;
 use std::marker::Model;
 
-/// A list whose calls take no memory once there is room. Contracts see it as the list of its members, and
-/// how many further members it takes without memory, wherever they are put.
+/// What holds the members: one `Vec` as long as they are few, so that a short list takes little memory.
+#[derive(Drop)]
+pub(crate) enum Body<X> {
+    Few(Vec<X>),
+    Many(Chain<X>),
+}
+
+/// A list in which members are put in and taken out cheaply anywhere: in blocks of at most 64 members, found
+/// by binary search, so that an edit moves one block and never the whole tail. Its calls take no memory once
+/// there is room. Contracts see it as the list of its members, and how many further members it takes without
+/// memory, wherever they are put.
 #[derive(Drop)]
 pub struct Blocks<X> {
-    items: Vec<X>,
+    body: Body<X>,
 }
 
 impl<X> Model for Blocks<X> {
-    ghost use Rattle.std.specs.Prelude.{◌-◌, vec_len};
-    ghost use Rattle.std.specs.Vec.{vec_capacity};
     ghost use Rattle.ec_rows.specs.Ordered.{Reserved};
 
     ghost Value = { Reserved X };
 
-    ghost view = { λ blocks. record { items = blocks.items.items; spare = vec_capacity blocks.items - vec_len blocks.items } };
+    ghost use Rattle.ec_blocks.specs.Body.{seen_of, IsBody};
+
+    ghost view = { λ blocks. seen_of blocks.body };
+
+    ghost invariant = { λ blocks. IsBody blocks.body };
 }
 
 impl<X: Copied + Drop> Blocks<X> {
@@ -32,7 +45,7 @@ impl<X: Copied + Drop> Blocks<X> {
         ensures { result.items ≡ [] }
     {
         Blocks {
-            items: Vec::new(alloc),
+            body: Body::Few(Vec::new(alloc)),
         }
     }
 
@@ -40,7 +53,10 @@ impl<X: Copied + Drop> Blocks<X> {
     pub fn len(&self) -> usize
         ensures { result ≡ length self.now.items }
     {
-        self.items.len()
+        match &self.body {
+            Body::Few(members) => members.len(),
+            Body::Many(chain) => chain.total(),
+        }
     }
 
     /// Whether there are no members.
@@ -55,7 +71,10 @@ impl<X: Copied + Drop> Blocks<X> {
         requires { i < length self.now.items }
         ensures { slice_get self.now.items i ≡ Some result.now }
     {
-        &self.items[i]
+        match &self.body {
+            Body::Few(members) => &members[i],
+            Body::Many(chain) => chain.get(i),
+        }
     }
 
     /// The members from a place on that lie together in memory.
@@ -64,7 +83,10 @@ impl<X: Copied + Drop> Blocks<X> {
         ensures some { 1 ≤ length result.now }
         ensures run { result.now ≡ take (length result.now) (drop i self.now.items) }
     {
-        &self.items[i..]
+        match &self.body {
+            Body::Few(members) => &members[i..],
+            Body::Many(chain) => chain.run(i),
+        }
     }
 
     /// The place where the members that pass a test end, if no member that passes comes after one that does
@@ -74,7 +96,10 @@ impl<X: Copied + Drop> Blocks<X> {
         ensures bound { result ≤ length self.now.items }
         ensures partitioned { (p : X → Bool) → ComputesKey F.FnMut p pred → IsPartitionedBy p self.now.items → IsPartitionPoint (λ x. p x ≡ true) (λ x. p x ≡ false) self.now.items result }
     {
-        self.items.partition_point(pred)
+        match &self.body {
+            Body::Few(members) => members.partition_point(pred),
+            Body::Many(chain) => chain.partition_point(&pred),
+        }
     }
 
     /// The same, where the place is likely to be `near`, which is looked at first. It may be any number.
@@ -93,7 +118,10 @@ impl<X: Copied + Drop> Blocks<X> {
         ensures items { self.new.items ≡ slice_set self.old.items i x }
         ensures spare { self.old.spare ≤ self.new.spare }
     {
-        self.items[i] = x;
+        match &mut self.body {
+            Body::Few(members) => members[i] = x,
+            Body::Many(chain) => chain.set_at(i, x),
+        }
     }
 
     /// Inserts a member at a place, where there is room for one. It takes no memory.
@@ -103,9 +131,9 @@ impl<X: Copied + Drop> Blocks<X> {
         ensures items { self.new.items ≡ insert self.old.items i x }
         ensures spare { self.old.spare ≤ self.new.spare + 1 }
     {
-        match self.items.insert(i, x) {
-            Ok(()) => {}
-            Err(_) => unreachable!(),
+        match &mut self.body {
+            Body::Few(members) => insert_within(members, i, x),
+            Body::Many(chain) => chain.insert_at(i, x),
         }
     }
 
@@ -116,7 +144,10 @@ impl<X: Copied + Drop> Blocks<X> {
         ensures items { self.new.items ≡ remove self.old.items i }
         ensures spare { self.old.spare ≤ self.new.spare }
     {
-        self.items.remove(i)
+        match &mut self.body {
+            Body::Few(members) => members.remove(i),
+            Body::Many(chain) => chain.remove_at(i),
+        }
     }
 
     /// Puts copies of the members `with` in place of those from one place up to another. It takes no memory,
@@ -181,7 +212,16 @@ impl<X: Copied + Drop> Blocks<X> {
         ensures spare { self.old.spare ≤ self.new.spare + 1 }
         ensures same_spare { OnErr result (self.old.spare ≤ self.new.spare) }
     {
-        self.items.push(x)?;
+        match chain_for(&self.body, 1)? {
+            Some(mut chain) => {
+                chain.push(x)?;
+                self.body = Body::Many(chain);
+            }
+            None => match &mut self.body {
+                Body::Few(members) => members.push(x)?,
+                Body::Many(chain) => chain.push(x)?,
+            },
+        }
         Ok(())
     }
 
@@ -192,7 +232,13 @@ impl<X: Copied + Drop> Blocks<X> {
         ensures ok { OnOk result (n ≤ self.new.spare) }
         ensures spare { self.old.spare ≤ self.new.spare }
     {
-        self.items.reserve(n)?;
+        match chain_for(&self.body, n)? {
+            Some(chain) => self.body = Body::Many(chain),
+            None => match &mut self.body {
+                Body::Few(members) => members.reserve(n)?,
+                Body::Many(chain) => chain.reserve(n)?,
+            },
+        }
         Ok(())
     }
 
@@ -201,6 +247,43 @@ impl<X: Copied + Drop> Blocks<X> {
         ensures items { self.new.items ≡ [] }
         ensures spare { self.old.spare ≤ self.new.spare }
     {
-        self.items.clear();
+        match &mut self.body {
+            Body::Few(members) => members.clear(),
+            Body::Many(chain) => chain.clear(),
+        }
     }
+}
+
+/// The chain to take the place of few members, if they and `n` more are too many for one `Vec`.
+fn chain_for<X: Copied + Drop>(body: &Body<X>, n: usize) -> Result<Option<Chain<X>>, NoMemory>
+    requires { IsBody body.now }
+    ensures members { IfOk result (λ found. IfSome found (λ chain. joined chain.blocks ≡ (seen_of body.now).items)) }
+    ensures room { IfOk result (λ found. IfSome found (λ chain. n ≤ room_of chain.blocks chain.spares)) }
+    ensures spare { IfOk result (λ found. IfSome found (λ chain. (seen_of body.now).spare ≤ room_of chain.blocks chain.spares)) }
+    ensures none { IfOk result (λ found. IfNone found (HasPlace body.now n)) }
+{
+    match body {
+        Body::Few(members) => {
+            if n <= CAPACITY - members.len() {
+                return Ok(None);
+            }
+            Ok(Some(chain_of(*members.allocator(), members, n)?))
+        }
+        Body::Many(_) => Ok(None),
+    }
+}
+
+/// A chain with copies of some members, and room for `n` more.
+fn chain_of<X: Copied + Drop>(alloc: Global, members: &[X], n: usize) -> Result<Chain<X>, NoMemory>
+    requires { length members.now ≤ 64 }
+    ensures members { IfOk result (λ chain. joined chain.blocks ≡ members.now) }
+    ensures room { IfOk result (λ chain. n ≤ room_of chain.blocks chain.spares) }
+{
+    let mut chain = Chain::new(alloc);
+    if !members.is_empty() {
+        chain.add_spare()?;
+        chain.append(members);
+    }
+    chain.reserve(n)?;
+    Ok(chain)
 }

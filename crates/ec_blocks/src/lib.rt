@@ -2,5 +2,8 @@
 #![tactic(auto)]
 
 mod blocks;
+mod by_place;
+mod chain;
+mod places;
 
 pub use blocks::Blocks;

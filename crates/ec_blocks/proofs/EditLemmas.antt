@@ -1,0 +1,139 @@
+-- A chain of blocks after an edit of one of them, as the code makes it.
+use Rattle.std.proofs.Common.{◌≡◌, ℕ, ◌+◌, ◌-◌, ◌<◌, ◌≤◌, suc, true, List, [], ◌∷◌, ◌++◌, length, map, get_or, take, drop, set, Some, sym, ap, ap₂, ◌∙◌, add-one, zero-add, length-drop, arith}
+use Rattle.std.specs.List.{insert, remove, list_all}
+use Rattle.std.proofs.lemmas.List.{map-set, map_push, get_or-set_same, length-take-le}
+use Rattle.std.proofs.lemmas.Bool.Decides.{nat_tests}
+use Rattle.ec_blocks.specs.Chain.{joined, block_at, last_of, starts_from, is_block}
+use Rattle.ec_blocks.specs.ChainParts.{IsChain, is_kept, is_spare}
+use Rattle.ec_rows.proofs.OrderedLemmas.{list_all-remove}
+use Rattle.ec_blocks.proofs.StartLemmas.{starts-append, starts-gone, starts-split, lasts-split}
+use Rattle.ec_blocks.proofs.ChainLemmas.{place-within, block-is, start-is, last_of-drop, list_all-at, list_all-push, list_all-set, list_all-insert, map-insert, map-remove, is_kept-from, is_kept-block, is_kept-room, is_block-some, is_block-most, IsChain-same, IsChain-more, IsChain-less}
+
+module _ {X B : Type 0} (items : B → List X) (capacity : B → ℕ) (blocks : List B) (starts : List ℕ) (lasts : List X) (spares : List B)
+    (chain : IsChain items capacity blocks starts lasts spares) (lists : List (List X)) (are : map items blocks ≡ lists) where
+  module _ (k : ℕ) (block : k < length lists) (old : B) (is : old ≡ get_or blocks k old) where
+    within : k < length blocks
+    within = place-within items capacity blocks lists k are block
+
+    old-kept : is_kept items capacity old ≡ true
+    old-kept = list_all-at (is_kept items capacity) blocks k old chain.kept within is
+
+    pub old-some : 1 ≤ length (items old)
+    old-some = is_block-some (items old) (is_kept-block items capacity old old-kept)
+
+    pub old-most : length (items old) ≤ 64
+    old-most = is_block-most (items old) (is_kept-block items capacity old old-kept)
+
+    pub old-room : 64 ≤ capacity old
+    old-room = is_kept-room items capacity old old-kept
+
+    pub old-list : items old ≡ block_at k lists
+    old-list = block-is items capacity blocks lists k old are block is
+
+    -- the members of all blocks, where those of one are edited
+    pub edited : (f : List X → List X) (new : B) → items new ≡ f (items old) → map items (set blocks k new) ≡ set lists k (f (block_at k lists))
+    edited f new made = map-set items blocks k new ∙ ap₂ (λ bs b. set bs k b) are (made ∙ ap f old-list)
+
+    module _ (new read : B) (read_is : read ≡ get_or (set blocks k new) k read) (members : List X) (members_are : members ≡ items read)
+        (lasts' : List X) (last : map Some lasts' ≡ set (map Some lasts) k (last_of members)) (room : capacity old ≤ capacity new) where
+      last-new : map Some lasts' ≡ set (map Some lasts) k (last_of (items new))
+      last-new = last ∙ ap (λ ms. set (map Some lasts) k (last_of ms)) (members_are ∙ ap items (read_is ∙ get_or-set_same blocks k new read within))
+
+      -- it keeps its length
+      pub edited-same : length (items new) ≡ length (items old) → IsChain items capacity (set blocks k new) starts lasts' spares
+      edited-same same =
+          let some = old-some in let most = old-most in let wide = old-room in
+          IsChain-same items capacity blocks starts lasts spares chain k old new within is (is_kept-from items capacity new (omega arith) (omega arith) (omega arith)) lasts' last-new same
+
+      -- it gets one more
+      pub edited-more : (starts' : List ℕ) → length (items new) ≡ length (items old) + 1 → length (items old) < 64 →
+          starts' ≡ take (k + 1) starts ++ map (λ place. place + 1) (drop (k + 1) starts) → IsChain items capacity (set blocks k new) starts' lasts' spares
+      edited-more starts' more free raised =
+          let wide = old-room in
+          IsChain-more items capacity blocks starts lasts spares chain k old new within is (is_kept-from items capacity new (omega arith) (omega arith) (omega arith)) lasts' last-new starts' more raised
+
+      -- it gets one less
+      pub edited-less : (starts' : List ℕ) → length (items new) + 1 ≡ length (items old) → 2 ≤ length (items old) →
+          starts' ≡ take (k + 1) starts ++ map (λ place. place - 1) (drop (k + 1) starts) → IsChain items capacity (set blocks k new) starts' lasts' spares
+      edited-less starts' less some lowered =
+          let most = old-most in let wide = old-room in
+          IsChain-less items capacity blocks starts lasts spares chain k old new within is (is_kept-from items capacity new (omega arith) (omega arith) (omega arith)) lasts' last-new starts' less lowered
+
+  -- one more spare block
+  pub spare-more : (blocks' : List B) (starts' : List ℕ) (lasts' : List X) (spares' : List B) (spare : B) → blocks' ≡ blocks → starts' ≡ starts → lasts' ≡ lasts →
+      spares' ≡ spares ++ spare ∷ [] → is_spare items capacity spare ≡ true → IsChain items capacity blocks' starts' lasts' spares'
+  spare-more blocks' starts' lasts' spares' spare bs ss ls more empty = record {
+    kept = ap (list_all (is_kept items capacity)) bs ∙ chain.kept;
+    spare = ap (list_all (is_spare items capacity)) more ∙ list_all-push (is_spare items capacity) spares spare empty chain.spare;
+    starts_are = ss ∙ chain.starts_are ∙ ap (λ zs. starts_from 0 (map items zs)) (sym bs);
+    lasts_are = ap (map Some) ls ∙ chain.lasts_are ∙ ap (λ zs. map last_of (map items zs)) (sym bs);
+  }
+
+  pub is_spare-from : (b : B) → items b ≡ [] → 64 ≤ capacity b → is_spare items capacity b ≡ true
+  is_spare-from b empty room = rw empty (grind (arith, nat_tests))
+
+  -- a block more at the end
+  pub appended : (blocks' : List B) (starts' : List ℕ) (lasts' : List X) (spares' : List B) (new : B) (start : ℕ) (x : X) (members : List X) →
+      blocks' ≡ blocks ++ new ∷ [] → starts' ≡ starts ++ start ∷ [] → lasts' ≡ lasts ++ x ∷ [] → items new ≡ members → is_block members ≡ true → 64 ≤ capacity new →
+      start ≡ length (joined lists) → Some x ≡ last_of members → list_all (is_spare items capacity) spares' ≡ true → IsChain items capacity blocks' starts' lasts' spares'
+  appended blocks' starts' lasts' spares' new start x members bs ss ls made block room begins last empty =
+      let there : map items blocks' ≡ lists ++ members ∷ [] =
+      ap (map items) bs ∙ map_push items blocks new ∙ ap₂ (λ us m. us ++ m ∷ []) are made in
+      record {
+        kept = ap (list_all (is_kept items capacity)) bs
+            ∙ list_all-push (is_kept items capacity) blocks new
+            (is_kept-from items capacity new (rw made (is_block-some members block)) (rw made (is_block-most members block)) room) chain.kept;
+        spare = empty;
+        starts_are = ss ∙ ap₂ (λ ps p. ps ++ p ∷ []) (chain.starts_are ∙ ap (starts_from 0) are) (begins ∙ sym (zero-add (length (joined lists))))
+            ∙ sym (ap (starts_from 0) there ∙ starts-append 0 lists members);
+        lasts_are = ap (map Some) ls ∙ map_push Some lasts x ∙ ap₂ (λ os o. os ++ o ∷ []) (chain.lasts_are ∙ ap (map last_of) are) last
+            ∙ sym (ap (map last_of) there ∙ map_push last_of lists members);
+      }
+
+  -- a block of one member goes, and is a spare one
+  pub gone : (k : ℕ) → k < length lists → length (block_at k lists) ≡ 1 → (blocks' : List B) (lowered starts' : List ℕ) (lasts' : List X) (spares' : List B) (spare : B) →
+      blocks' ≡ remove blocks k → lowered ≡ take (k + 1) starts ++ map (λ place. place - 1) (drop (k + 1) starts) → starts' ≡ remove lowered k → lasts' ≡ remove lasts k →
+      spares' ≡ spares ++ spare ∷ [] → is_spare items capacity spare ≡ true → IsChain items capacity blocks' starts' lasts' spares'
+  gone k within one blocks' lowered starts' lasts' spares' spare bs low ss ls more empty =
+      let there : map items blocks' ≡ remove lists k = ap (map items) bs ∙ map-remove items blocks k ∙ ap (λ us. remove us k) are in
+      record {
+        kept = ap (list_all (is_kept items capacity)) bs ∙ list_all-remove (is_kept items capacity) blocks k chain.kept;
+        spare = ap (list_all (is_spare items capacity)) more ∙ list_all-push (is_spare items capacity) spares spare empty chain.spare;
+        starts_are = ss ∙ ap (λ ps. remove ps k) (low ∙ ap₂ (λ n ps. take n ps ++ map (λ place. place - 1) (drop n ps)) (add-one k) (chain.starts_are ∙ ap (starts_from 0) are))
+            ∙ sym (ap (starts_from 0) there ∙ starts-gone 0 lists k within one);
+        lasts_are = ap (map Some) ls ∙ map-remove Some lasts k ∙ ap (λ os. remove os k) (chain.lasts_are ∙ ap (map last_of) are)
+            ∙ sym (ap (map last_of) there ∙ map-remove last_of lists k);
+      }
+
+  -- a full block becomes two
+  pub halved : (k : ℕ) (block : k < length lists) (old : B) (is : old ≡ get_or blocks k old) (front behind read : B) (members : List X) (start : ℕ)
+      (blocks' : List B) (starts' : List ℕ) (lasts' : List X) (spares' : List B) → length (block_at k lists) ≡ 64 →
+      items front ≡ take 32 (items old) → items behind ≡ drop 32 (items old) → capacity front ≡ capacity old → 64 ≤ capacity behind →
+      read ≡ get_or (set blocks k front) k read → members ≡ items read → start ≡ get_or starts k start →
+      blocks' ≡ insert (set blocks k front) (k + 1) behind → starts' ≡ insert starts (k + 1) (start + 32) →
+      map Some lasts' ≡ insert (map Some lasts) k (last_of members) → list_all (is_spare items capacity) spares' ≡ true → IsChain items capacity blocks' starts' lasts' spares'
+  halved k block old is front behind read members start blocks' starts' lasts' spares' full is_front is_behind same room read_is members_are begins bs ss ls empty =
+      let b : List X = block_at k lists in
+      let list : items old ≡ b = old-list k block old is in
+      let u : items front ≡ take 32 b = is_front ∙ ap (take 32) list in
+      let v : items behind ≡ drop 32 b = is_behind ∙ ap (drop 32) list in
+      let u_length : length (items front) ≡ 32 = ap length u ∙ length-take-le 32 b (omega arith) in
+      let v_length : length (items behind) ≡ 32 = ap length v ∙ length-drop 32 b ∙ (omega arith) in
+      let wide : 64 ≤ capacity old = old-room k block old is in
+      let inside : k < length blocks = within k block old is in
+      let there : map items blocks' ≡ insert (set lists k (items front)) (suc k) (items behind) =
+      ap (map items) bs ∙ map-insert items (set blocks k front) (k + 1) behind
+      ∙ ap₂ (λ us n. insert us n (items behind)) (map-set items blocks k front ∙ ap (λ us. set us k (items front)) are) (add-one k) in
+      let member : last_of members ≡ last_of (items front) = ap last_of (members_are ∙ ap items (read_is ∙ get_or-set_same blocks k front read inside)) in
+      let last : last_of (items behind) ≡ last_of b = ap last_of v ∙ last_of-drop 32 b (omega arith) in
+      record {
+        kept = ap (list_all (is_kept items capacity)) bs
+            ∙ list_all-insert (is_kept items capacity) (set blocks k front) (k + 1) behind (is_kept-from items capacity behind (omega arith) (omega arith) room)
+            (list_all-set (is_kept items capacity) blocks k front (is_kept-from items capacity front (omega arith) (omega arith) (omega arith)) chain.kept);
+        spare = empty;
+        starts_are = ss ∙ ap₂ (λ ps n. insert ps n (start + 32)) (chain.starts_are ∙ ap (starts_from 0) are) (add-one k)
+            ∙ ap (λ p. insert (starts_from 0 lists) (suc k) p) (omega (arith, start-is items capacity blocks starts lasts spares chain lists k start are block begins))
+            ∙ sym (ap (starts_from 0) there ∙ starts-split 0 lists k (items front) (items behind) block (omega arith));
+        lasts_are = ls ∙ ap₂ (λ os o. insert os k o) (chain.lasts_are ∙ ap (map last_of) are) member
+            ∙ sym (ap (map last_of) there ∙ lasts-split lists k (items front) (items behind) block last);
+      }

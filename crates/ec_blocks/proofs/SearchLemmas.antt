@@ -1,0 +1,99 @@
+-- A search over blocks: first among their last members, then within one of them.
+use Rattle.std.proofs.Common.{◌≡◌, ℕ, ◌+◌, ◌-◌, ◌<◌, ◌≤◌, zero, suc, Bool, true, false, List, [], ◌∷◌, length, map, get_or, Some, None, refl, sym, ap, ◌∙◌, ⊎_elim, true≢false, arith}
+use Rattle.std.specs.List.{list_all}
+use Rattle.std.specs.List.Sorted.{IsPartitionedBy, IsPartitionPoint}
+use Rattle.std.proofs.lemmas.Bool.{cases_Bool, cases_lt}
+use Rattle.std.proofs.lemmas.List.{get_or-map, length-map}
+use Rattle.std.proofs.lemmas.List.Concat.{get_or-flat_map}
+use Rattle.std.proofs.lemmas.Option.{get_or_from_slice_get}
+use Rattle.ec_blocks.specs.Chain.{joined, block_at, start_of, last_of, is_block}
+use Rattle.ec_blocks.proofs.StartLemmas.{start_of-suc, start_of-le, start_of-all}
+use Rattle.ec_blocks.proofs.ChainLemmas.{is_block-some, list_all-at}
+
+-- the members of a list end to pass where the one in front passes and the one there does not
+pub IsPartitionPoint-from_edges : {X : Type 0} (p : X → Bool) (xs : List X) (r : ℕ) → IsPartitionedBy p xs → ((d : X) → 1 ≤ r → p (get_or xs (r - 1) d) ≡ true) →
+    ((d : X) → r < length xs → p (get_or xs r d) ≡ false) → r ≤ length xs → IsPartitionPoint (λ x. p x ≡ true) (λ x. p x ≡ false) xs r
+IsPartitionPoint-from_edges p xs r parted front behind within = (
+  λ k d low high. parted k (r - 1) d (omega arith) (omega arith) (front d (omega arith)),
+  λ k d low high. ⊎_elim (λ passes. absurd (true≢false (sym (parted r k d low high passes) ∙ behind d (omega arith)))) (λ fails. fails) (cases_Bool (p (get_or xs k d))),
+)
+
+module _ {X : Type 0} (p : X → Bool) (blocks : List (List X)) (all : list_all is_block blocks ≡ true) (parted : IsPartitionedBy p (joined blocks)) where
+  -- a member of a block, among all members
+  stands : (k j : ℕ) (d : X) → k < length blocks → j < length (block_at k blocks) → get_or (joined blocks) (start_of k blocks + j) d ≡ get_or (block_at k blocks) j d
+  stands k j d within inside = get_or-flat_map (λ b. b) blocks k j [] d within inside
+
+  some-in : (k : ℕ) → k < length blocks → 1 ≤ length (block_at k blocks)
+  some-in k within = is_block-some (block_at k blocks) (list_all-at is_block blocks k (block_at k blocks) all within (get_or_same blocks k))
+    where
+      get_or_same : (bs : List (List X)) (i : ℕ) → get_or bs i [] ≡ get_or bs i (get_or bs i [])
+      get_or_same [] i = refl
+      get_or_same (b ∷ bs) zero = refl
+      get_or_same (b ∷ bs) (suc i) = get_or_same bs i
+
+  end-le : (k : ℕ) → k < length blocks → start_of k blocks + length (block_at k blocks) ≤ length (joined blocks)
+  end-le k within = omega (arith, start_of-suc blocks k within, start_of-le blocks (suc k) (length blocks) (omega arith), start_of-all blocks)
+
+  -- the test cuts each block
+  pub block-parted : (k : ℕ) → k < length blocks → IsPartitionedBy p (block_at k blocks)
+  block-parted k within i j d le inside passes =
+      ap p (sym (stands k i d within (omega arith)))
+      ∙ parted (start_of k blocks + i) (start_of k blocks + j) d (omega arith) (omega (arith, end-le k within)) (ap p (stands k j d within inside) ∙ passes)
+
+  module _ (lasts : List X) (are : map Some lasts ≡ map last_of blocks) where
+    lasts-length : length lasts ≡ length blocks
+    lasts-length = sym (length-map lasts Some) ∙ ap length are ∙ length-map blocks last_of
+
+    -- the last member of a block
+    last-is : (k : ℕ) (d : X) → k < length blocks → get_or (block_at k blocks) (length (block_at k blocks) - 1) d ≡ get_or lasts k d
+    last-is k d within =
+        get_or_from_slice_get (block_at k blocks) (length (block_at k blocks) - 1) (get_or lasts k d) d
+        (sym (get_or-map last_of blocks k [] None within) ∙ ap (λ os. get_or os k None) (sym are) ∙ get_or-map Some lasts k d None (omega (arith, lasts-length)))
+
+    -- and where it stands
+    last-stands : (k : ℕ) (d : X) → k < length blocks → get_or (joined blocks) (start_of (suc k) blocks - 1) d ≡ get_or lasts k d
+    last-stands k d within =
+        ap (λ n. get_or (joined blocks) n d) (omega (arith, start_of-suc blocks k within, some-in k within))
+        ∙ stands k (length (block_at k blocks) - 1) d within (omega (arith, some-in k within)) ∙ last-is k d within
+
+    -- the test cuts the last members
+    pub lasts-parted : IsPartitionedBy p lasts
+    lasts-parted i j d le inside passes =
+        let at : j < length blocks = omega (arith, lasts-length) in
+        ap p (sym (last-stands i d (omega arith)))
+        ∙ parted (start_of (suc i) blocks - 1) (start_of (suc j) blocks - 1) d (omega (arith, start_of-le blocks (suc i) (suc j) (omega arith)))
+        (omega (arith, end-le j at, start_of-suc blocks j at, some-in j at)) (ap p (last-stands j d at) ∙ passes)
+
+    -- the end of what passes, found within a block
+    pub found-within : (k c : ℕ) → k < length blocks → ((m : ℕ) (d : X) → k ≡ suc m → p (get_or lasts m d) ≡ true) → ((d : X) → p (get_or lasts k d) ≡ false) →
+        c ≤ length (block_at k blocks) → IsPartitionPoint (λ x. p x ≡ true) (λ x. p x ≡ false) (block_at k blocks) c →
+        IsPartitionPoint (λ x. p x ≡ true) (λ x. p x ≡ false) (joined blocks) (start_of k blocks + c)
+    found-within k c within front here upto point =
+        IsPartitionPoint-from_edges p (joined blocks) (start_of k blocks + c) parted front_passes behind_fails (omega (arith, end-le k within))
+      where
+        front_passes : (d : X) → 1 ≤ start_of k blocks + c → p (get_or (joined blocks) (start_of k blocks + c - 1) d) ≡ true
+        front_passes d some = in_front d k c refl refl some
+          where
+            in_front : (d : X) (k' c' : ℕ) → k ≡ k' → c ≡ c' → 1 ≤ start_of k' blocks + c' → p (get_or (joined blocks) (start_of k blocks + c - 1) d) ≡ true
+            in_front d k' (suc c') same count some =
+                ap (λ n. p (get_or (joined blocks) n d)) (omega arith) ∙ ap p (stands k c' d within (omega arith)) ∙ point.0 c' d (omega arith) (omega arith)
+            in_front d (suc m) zero same count some =
+                ap (λ n. p (get_or (joined blocks) n d)) (omega (arith, ap (λ n. start_of n blocks) same)) ∙ ap p (last-stands m d (omega arith)) ∙ front m d same
+            in_front d zero zero same count some = absurd (omega arith)
+
+        behind_fails : (d : X) → start_of k blocks + c < length (joined blocks) → p (get_or (joined blocks) (start_of k blocks + c) d) ≡ false
+        behind_fails d inside =
+            ⊎_elim (λ before. ap p (stands k c d within before) ∙ point.1 c d (omega arith) before)
+            (λ all_pass. absurd (true≢false (sym (point.0 (length (block_at k blocks) - 1) d (omega arith) (omega (arith, some-in k within))) ∙ ap p (last-is k d within) ∙ here d)))
+            (cases_lt c (length (block_at k blocks)))
+
+    -- and where all pass
+    pub found-behind : (k : ℕ) → k ≡ length blocks → ((m : ℕ) (d : X) → k ≡ suc m → p (get_or lasts m d) ≡ true) →
+        IsPartitionPoint (λ x. p x ≡ true) (λ x. p x ≡ false) (joined blocks) (length (joined blocks))
+    found-behind zero end front =
+        IsPartitionPoint-from_edges p (joined blocks) (length (joined blocks)) parted (λ d some. absurd (omega (arith, start_of-all blocks, ap (λ n. start_of n blocks) end)))
+        (λ d inside. absurd (omega arith)) (omega arith)
+    found-behind (suc m) end front =
+        IsPartitionPoint-from_edges p (joined blocks) (length (joined blocks)) parted
+        (λ d some. ap (λ n. p (get_or (joined blocks) n d)) (omega (arith, start_of-all blocks, ap (λ n. start_of n blocks) end)) ∙ ap p (last-stands m d (omega arith)) ∙ front m d refl)
+        (λ d inside. absurd (omega arith)) (omega arith)

@@ -1,0 +1,33 @@
+-- A block that gets one less.
+use Rattle.std.proofs.Common.{length, ap, arith}
+use Rattle.std.specs.List.{remove}
+use Rattle.std.specs.Vec.{vec_capacity}
+use Rattle.std.proofs.lemmas.List.Edits.{length-remove}
+use Rattle.ec_blocks.proofs.ChainLemmas.{starts-count, starts-some, place-within}
+use Rattle.ec_blocks.proofs.EditLemmas.{old-list, edited, edited-less}
+use Rattle.ec_blocks.proofs.chain.Chain.remove.Goals as goal
+
+pub lower-requires-clause-within : goal.lower-requires-clause-within
+lower-requires-clause-within g c =
+    omega (arith, starts-count (λ b. b.items) (λ b. vec_capacity b) _ _ _ _ c.self.invariant.0, place-within (λ b. b.items) (λ b. vec_capacity b) c.self.inside.blocks.items _ c.args.k (ap (λ v. v.blocks) c.self.view_is) c.requires.block)
+
+pub lower-requires-clause-some : goal.lower-requires-clause-some
+lower-requires-clause-some g c = starts-some (λ b. b.items) (λ b. vec_capacity b) _ _ _ _ c.self.invariant.0 c.args.k
+
+pub invariant_of-self : goal.invariant_of-self
+invariant_of-self g c =
+    let list = old-list (λ b. b.items) (λ b. vec_capacity b) c.self.inside.blocks.items c.self.inside.starts.items c.self.inside.lasts.items c.self.inside.spares.items c.self.invariant.0 c.args.self.now.blocks (ap (λ v. v.blocks) c.self.view_is) c.args.k c.requires.block c.index_mut.result.now c.index_mut.ensures.value in (
+      edited-less (λ b. b.items) (λ b. vec_capacity b) c.self.inside.blocks.items c.self.inside.starts.items c.self.inside.lasts.items c.self.inside.spares.items c.self.invariant.0 c.args.self.now.blocks (ap (λ v. v.blocks) c.self.view_is) c.args.k c.requires.block c.index_mut.result.now c.index_mut.ensures.value c.remove_within-x.new.block c.index.result.now c.index.ensures c.deref.result.now c.deref.ensures.value c.keep_last.new.lasts.items c.keep_last.ensures.lasts c.remove_within-x.ensures.capacity c.lower.new.places.items
+          (omega (arith, ap length c.remove_within-x.ensures.items, length-remove c.index_mut.result.now.items c.args.place (omega (arith, ap length list))))
+          (omega (arith, ap length list)) c.lower.ensures.places,
+      record {
+        few = c.self.invariant.1.few;
+        blocks_fit = c.self.invariant.1.blocks_fit;
+        starts_fit = omega arith;
+        lasts_fit = omega arith;
+        spares_fit = c.self.invariant.1.spares_fit;
+      },
+    )
+
+pub returns-clause-blocks : goal.returns-clause-blocks
+returns-clause-blocks g c = edited (λ b. b.items) (λ b. vec_capacity b) c.self.inside.blocks.items c.self.inside.starts.items c.self.inside.lasts.items c.self.inside.spares.items c.self.invariant.0 c.args.self.now.blocks (ap (λ v. v.blocks) c.self.view_is) c.args.k c.requires.block c.index_mut.result.now c.index_mut.ensures.value (λ xs. remove xs c.args.place) c.remove_within-x.new.block c.remove_within-x.ensures.items

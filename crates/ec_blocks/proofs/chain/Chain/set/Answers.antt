@@ -1,0 +1,21 @@
+-- A block that changes, and keeps its length.
+use Rattle.std.proofs.Common.{length, length-set, set, ap, ◌∙◌, arith}
+use Rattle.std.specs.Vec.{vec_capacity}
+use Rattle.ec_blocks.proofs.EditLemmas.{edited, edited-same}
+use Rattle.ec_blocks.proofs.chain.Chain.set.Goals as goal
+
+pub invariant_of-self : goal.invariant_of-self
+invariant_of-self g c = (
+  edited-same (λ b. b.items) (λ b. vec_capacity b) c.self.inside.blocks.items c.self.inside.starts.items c.self.inside.lasts.items c.self.inside.spares.items c.self.invariant.0 c.args.self.now.blocks (ap (λ v. v.blocks) c.self.view_is) c.args.k c.requires.block c.index_mut.result.now c.index_mut.ensures.value c.put_within.new.block c.index.result.now c.index.ensures c.deref.result.now c.deref.ensures.value c.keep_last.new.lasts.items c.keep_last.ensures.lasts c.put_within.ensures.capacity
+      (ap length c.put_within.ensures.items ∙ length-set c.index_mut.result.now.items c.args.place c.args.x),
+  record {
+    few = c.self.invariant.1.few;
+    blocks_fit = c.self.invariant.1.blocks_fit;
+    starts_fit = omega arith;
+    lasts_fit = omega arith;
+    spares_fit = c.self.invariant.1.spares_fit;
+  },
+)
+
+pub returns-clause-blocks : goal.returns-clause-blocks
+returns-clause-blocks g c = edited (λ b. b.items) (λ b. vec_capacity b) c.self.inside.blocks.items c.self.inside.starts.items c.self.inside.lasts.items c.self.inside.spares.items c.self.invariant.0 c.args.self.now.blocks (ap (λ v. v.blocks) c.self.view_is) c.args.k c.requires.block c.index_mut.result.now c.index_mut.ensures.value (λ xs. set xs c.args.place c.args.x) c.put_within.new.block c.put_within.ensures.items

@@ -1,0 +1,169 @@
+//! The edits of a chain by places among all members.
+ghost use Rattle.std.specs.Prelude.{◌≡◌, ◌+◌, ◌<◌, ◌≤◌, ◌++◌, ◌∷◌, [], Some, true, false, ℕ, ◌-◌, ◌*◌, OnOk, OnErr, length, take, drop, slice_get, slice_set};
+ghost use Rattle.std.specs.List.{insert, remove};
+ghost use Rattle.std.proofs.Common.{suc};
+ghost use Rattle.ec_blocks.specs.Chain.{joined, block_at, debt, room_of};
+
+use crate::chain::{CAPACITY, Chain, HALF};
+use ec_rows::Copied;
+use ec_terms::NoMemory;
+
+impl<X: Copied + Drop> Chain<X> {
+    /// The member at a place.
+    pub(crate) fn get(&self, i: usize) -> &X
+        requires { i < length (joined self.now.blocks) }
+        ensures { slice_get (joined self.now.blocks) i ≡ Some result.now }
+    {
+        let k = self.locate(i);
+        let place = i - self.start(k);
+        &self.block(k)[place]
+    }
+
+    /// The members from a place on that are in one block.
+    pub(crate) fn run(&self, i: usize) -> &[X]
+        requires { i < length (joined self.now.blocks) }
+        ensures some { 1 ≤ length result.now }
+        ensures run { result.now ≡ take (length result.now) (drop i (joined self.now.blocks)) }
+    {
+        let k = self.locate(i);
+        let place = i - self.start(k);
+        &self.block(k)[place..]
+    }
+
+    /// Puts a member in place of the one at a place.
+    pub(crate) fn set_at(&mut self, i: usize, x: X)
+        requires { i < length (joined self.old.blocks) }
+        ensures members { joined self.new.blocks ≡ slice_set (joined self.old.blocks) i x }
+        ensures room { room_of self.old.blocks self.old.spares ≤ room_of self.new.blocks self.new.spares }
+    {
+        let k = self.locate(i);
+        let place = i - self.start(k);
+        self.set(k, place, x);
+    }
+
+    /// Takes out the member at a place.
+    pub(crate) fn remove_at(&mut self, i: usize) -> X
+        requires { i < length (joined self.old.blocks) }
+        ensures member { slice_get (joined self.old.blocks) i ≡ Some result }
+        ensures members { joined self.new.blocks ≡ remove (joined self.old.blocks) i }
+        ensures room { room_of self.old.blocks self.old.spares ≤ room_of self.new.blocks self.new.spares }
+    {
+        let k = self.locate(i);
+        if self.block(k).len() == 1 {
+            return self.remove_block(k);
+        }
+        let place = i - self.start(k);
+        self.remove(k, place)
+    }
+
+    /// Inserts a member at a place.
+    pub(crate) fn insert_at(&mut self, i: usize, x: X)
+        requires within { i ≤ length (joined self.old.blocks) }
+        requires room { 1 ≤ room_of self.old.blocks self.old.spares }
+        ensures members { joined self.new.blocks ≡ insert (joined self.old.blocks) i x }
+        ensures room { room_of self.old.blocks self.old.spares ≤ room_of self.new.blocks self.new.spares + 1 }
+    {
+        if i == self.total() {
+            self.insert_behind(x);
+        } else {
+            self.insert_in_front(i, x);
+        }
+    }
+
+    /// Whether the last block is full, or there is none.
+    fn is_last_full(&self) -> bool
+        ensures full { result ≡ true → (k : ℕ) → suc k ≡ length self.now.blocks → length (block_at k self.now.blocks) ≡ 64 }
+        ensures some { result ≡ false → 1 ≤ length self.now.blocks }
+        ensures free { result ≡ false → length (block_at (length self.now.blocks - 1) self.now.blocks) < 64 }
+    {
+        let count = self.count();
+        if count == 0 {
+            return true;
+        }
+        self.block(count - 1).len() == CAPACITY
+    }
+
+    /// Inserts a member behind all others.
+    fn insert_behind(&mut self, x: X)
+        requires { 1 ≤ self.old.spares }
+        ensures members { joined self.new.blocks ≡ joined self.old.blocks ++ x ∷ [] }
+        ensures debt { debt self.new.blocks + 32 * self.old.spares ≤ debt self.old.blocks + 32 * self.new.spares + 1 }
+        ensures spares { self.old.spares ≤ self.new.spares + 1 }
+    {
+        if self.is_last_full() {
+            self.begin(x);
+        } else {
+            let last = self.count() - 1;
+            let place = self.block(last).len();
+            self.insert(last, place, x);
+        }
+    }
+
+    /// Inserts a member in front of the one at a place.
+    fn insert_in_front(&mut self, i: usize, x: X)
+        requires within { i < length (joined self.old.blocks) }
+        requires spare { 1 ≤ self.old.spares }
+        ensures members { joined self.new.blocks ≡ insert (joined self.old.blocks) i x }
+        ensures debt { debt self.new.blocks + 32 * self.old.spares ≤ debt self.old.blocks + 32 * self.new.spares + 1 }
+        ensures spares { self.old.spares ≤ self.new.spares + 1 }
+    {
+        let k = self.locate(i);
+        let place = i - self.start(k);
+        if self.block(k).len() < CAPACITY {
+            self.insert(k, place, x);
+            return;
+        }
+        self.split(k);
+        if place <= HALF {
+            self.insert(k, place, x);
+        } else {
+            self.insert(k + 1, place - HALF, x);
+        }
+    }
+
+    /// Adds a member behind all others. It takes a spare block, or makes one. `Err`: memory ran out.
+    pub(crate) fn push(&mut self, x: X) -> Result<(), NoMemory>
+        ensures ok { OnOk result (joined self.new.blocks ≡ joined self.old.blocks ++ x ∷ []) }
+        ensures err { OnErr result (joined self.new.blocks ≡ joined self.old.blocks) }
+        ensures room { room_of self.old.blocks self.old.spares ≤ room_of self.new.blocks self.new.spares + 1 }
+        ensures same_room { OnErr result (room_of self.old.blocks self.old.spares ≤ room_of self.new.blocks self.new.spares) }
+    {
+        if self.spares() == 0 {
+            self.add_spare()?;
+        }
+        self.insert_behind(x);
+        Ok(())
+    }
+
+    /// How far the blocks are on the way to their next splits.
+    fn debt(&self) -> usize
+        ensures { result ≡ debt self.now.blocks }
+    {
+        let count = self.count();
+        if count == 0 {
+            return HALF;
+        }
+        let mut owed = self.block(count - 1).len();
+        for k in 0..count - 1 {
+            owed += self.block(k).len().saturating_sub(HALF);
+        }
+        owed
+    }
+
+    /// Makes room for `n` further members, by as few spare blocks as serve.
+    pub(crate) fn reserve(&mut self, n: usize) -> Result<(), NoMemory>
+        ensures same { self.new.blocks ≡ self.old.blocks }
+        ensures ok { OnOk result (n ≤ room_of self.new.blocks self.new.spares) }
+        ensures room { room_of self.old.blocks self.old.spares ≤ room_of self.new.blocks self.new.spares }
+    {
+        let debt = self.debt();
+        let _count = self.count();
+        for _k in 0..n {
+            if n <= (HALF * self.spares()).saturating_sub(debt) {
+                return Ok(());
+            }
+            self.add_spare()?;
+        }
+        Ok(())
+    }
+}

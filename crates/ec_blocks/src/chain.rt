@@ -1,0 +1,389 @@
+//! A list in blocks of at most 64 members, one behind another.
+ghost use Rattle.std.specs.Prelude.{◌≡◌, ◌+◌, ◌-◌, ◌*◌, ◌^◌, ◌<◌, ◌≤◌, ◌++◌, ◌∷◌, [], Bool, true, false, Some, IsTrue, OnOk, OnErr, length, take, drop, slice_get, slice_set, map, vec_len};
+ghost use Rattle.std.specs.Fn.{ComputesKey};
+ghost use Rattle.std.specs.List.{insert, remove, list_all};
+ghost use Rattle.std.specs.List.Sorted.{IsPartitionedBy, IsPartitionPoint};
+ghost use Rattle.std.specs.Vec.{vec_capacity};
+ghost use Rattle.ec_blocks.specs.Chain.{joined, block_at, start_of, last_of, is_block};
+ghost use Rattle.ec_blocks.specs.ChainParts.{is_kept, is_spare};
+
+use crate::places::{count_up_to, lower, raise};
+use ec_rows::Copied;
+use ec_terms::NoMemory;
+use std::alloc::Global;
+use std::marker::Model;
+
+/// How many members a block holds at the most.
+pub(crate) const CAPACITY: usize = 64;
+
+/// Half of a full block.
+pub(crate) const HALF: usize = 32;
+
+/// How many blocks there can be, so that their members can be counted.
+const LIMIT: usize = 1 << 57;
+
+/// Blocks one behind another, and empty ones that lie ready.
+#[derive(Drop)]
+pub(crate) struct Chain<X> {
+    blocks: Vec<Vec<X>>,
+    /// How many members are in front of each block.
+    starts: Vec<usize>,
+    /// A copy of the last member of each block, so that a search reads one array.
+    lasts: Vec<X>,
+    spares: Vec<Vec<X>>,
+}
+
+impl<X> Model for Chain<X> {
+    ghost use Rattle.std.specs.Prelude.{map, vec_len};
+    ghost use Rattle.std.specs.Vec.{vec_capacity};
+    ghost use Rattle.ec_blocks.specs.Chain.{Chained};
+    ghost use Rattle.ec_blocks.specs.ChainParts.{IsChain, HasRooms};
+
+    ghost Value = { Chained X };
+
+    ghost view = { λ chain. record { blocks = map (λ block. block.items) chain.blocks.items; spares = vec_len chain.spares } };
+
+    ghost invariant = { λ chain. IsChain (λ block. block.items) (λ block. vec_capacity block) chain.blocks.items chain.starts.items chain.lasts.items chain.spares.items × HasRooms (vec_len chain.blocks) (vec_len chain.spares) (vec_capacity chain.blocks) (vec_capacity chain.starts) (vec_capacity chain.lasts) (vec_capacity chain.spares) };
+}
+
+impl<X: Copied + Drop> Chain<X> {
+    /// No blocks. It takes no memory.
+    pub(crate) fn new(alloc: Global) -> Chain<X>
+        ensures { result ≡ record { blocks = []; spares = 0 } }
+    {
+        Chain {
+            blocks: Vec::new(alloc),
+            starts: Vec::new(alloc),
+            lasts: Vec::new(alloc),
+            spares: Vec::new(alloc),
+        }
+    }
+
+    /// How many blocks there are.
+    pub(crate) fn count(&self) -> usize
+        ensures count { result ≡ length self.now.blocks }
+        ensures few { length self.now.blocks + self.now.spares ≤ 2 ^ 57 }
+        ensures kept { IsTrue (list_all is_block self.now.blocks) }
+    {
+        self.blocks.len()
+    }
+
+    /// How many spare blocks there are.
+    pub(crate) fn spares(&self) -> usize
+        ensures count { result ≡ self.now.spares }
+        ensures few { self.now.spares ≤ 2 ^ 57 }
+    {
+        self.spares.len()
+    }
+
+    /// How many members are in front of a block.
+    pub(crate) fn start(&self, k: usize) -> usize
+        requires { k < length self.now.blocks }
+        ensures { result ≡ start_of k self.now.blocks }
+    {
+        self.starts[k]
+    }
+
+    /// The members of a block.
+    pub(crate) fn block(&self, k: usize) -> &[X]
+        requires { k < length self.now.blocks }
+        ensures block { result.now ≡ block_at k self.now.blocks }
+        ensures kept { IsTrue (is_block result.now) }
+    {
+        &self.blocks[k]
+    }
+
+    /// Puts a member in place of one in a block.
+    pub(crate) fn set(&mut self, k: usize, place: usize, x: X)
+        requires block { k < length self.old.blocks }
+        requires place { place < length (block_at k self.old.blocks) }
+        ensures blocks { self.new.blocks ≡ slice_set self.old.blocks k (slice_set (block_at k self.old.blocks) place x) }
+        ensures spares { self.new.spares ≡ self.old.spares }
+    {
+        put_within(&mut self.blocks[k], place, x);
+        keep_last(&self.blocks[k], &mut self.lasts, k);
+    }
+
+    /// Inserts a member in a block that is not full.
+    pub(crate) fn insert(&mut self, k: usize, place: usize, x: X)
+        requires block { k < length self.old.blocks }
+        requires place { place ≤ length (block_at k self.old.blocks) }
+        requires room { length (block_at k self.old.blocks) < 64 }
+        ensures blocks { self.new.blocks ≡ slice_set self.old.blocks k (insert (block_at k self.old.blocks) place x) }
+        ensures spares { self.new.spares ≡ self.old.spares }
+    {
+        insert_within(&mut self.blocks[k], place, x);
+        keep_last(&self.blocks[k], &mut self.lasts, k);
+        raise(&mut self.starts, k + 1);
+    }
+
+    /// How many members there are.
+    pub(crate) fn total(&self) -> usize
+        ensures { result ≡ length (joined self.now.blocks) }
+    {
+        let count = self.blocks.len();
+        if count == 0 {
+            return 0;
+        }
+        self.starts[count - 1] + self.blocks[count - 1].len()
+    }
+
+    /// The block that a place is in.
+    pub(crate) fn locate(&self, i: usize) -> usize
+        requires { i < length (joined self.now.blocks) }
+        ensures within { result < length self.now.blocks }
+        ensures from { start_of result self.now.blocks ≤ i }
+        ensures to { i < start_of result self.now.blocks + length (block_at result self.now.blocks) }
+        ensures kept { IsTrue (list_all is_block self.now.blocks) }
+        ensures few { length self.now.blocks ≤ 2 ^ 57 }
+    {
+        count_up_to(&self.starts, i) - 1
+    }
+
+    /// The place where the members that pass a test end.
+    pub(crate) fn partition_point<F: Fn(&X) -> bool>(&self, pred: &F) -> usize
+        requires { F.IsAlwaysCallable pred.now }
+        ensures bound { result ≤ length (joined self.now.blocks) }
+        ensures partitioned { (p : X → Bool) → ComputesKey F.FnMut p pred.now → IsPartitionedBy p (joined self.now.blocks) → IsPartitionPoint (λ x. p x ≡ true) (λ x. p x ≡ false) (joined self.now.blocks) result }
+    {
+        let k = cut(&self.lasts, pred);
+        if k == self.blocks.len() {
+            return self.total();
+        }
+        self.starts[k] + cut(&self.blocks[k], pred)
+    }
+
+    /// Takes out a member of a block of several.
+    pub(crate) fn remove(&mut self, k: usize, place: usize) -> X
+        requires block { k < length self.old.blocks }
+        requires place { place < length (block_at k self.old.blocks) }
+        requires others { 2 ≤ length (block_at k self.old.blocks) }
+        ensures member { slice_get (block_at k self.old.blocks) place ≡ Some result }
+        ensures blocks { self.new.blocks ≡ slice_set self.old.blocks k (remove (block_at k self.old.blocks) place) }
+        ensures spares { self.new.spares ≡ self.old.spares }
+    {
+        let x = remove_within(&mut self.blocks[k], place);
+        keep_last(&self.blocks[k], &mut self.lasts, k);
+        lower(&mut self.starts, k + 1);
+        x
+    }
+
+    /// Takes out a block of one member, which is then a spare one, and gives the member.
+    pub(crate) fn remove_block(&mut self, k: usize) -> X
+        requires block { k < length self.old.blocks }
+        requires alone { length (block_at k self.old.blocks) ≡ 1 }
+        ensures member { slice_get (block_at k self.old.blocks) 0 ≡ Some result }
+        ensures blocks { self.new.blocks ≡ remove self.old.blocks k }
+        ensures spares { self.new.spares ≡ self.old.spares + 1 }
+    {
+        lower(&mut self.starts, k + 1);
+        self.starts.remove(k);
+        self.lasts.remove(k);
+        let mut block = self.blocks.remove(k);
+        let x = remove_within(&mut block, 0);
+        self.spares.push_reserved(block);
+        x
+    }
+
+    /// Makes two halves of a full block, by means of a spare one.
+    pub(crate) fn split(&mut self, k: usize)
+        requires block { k < length self.old.blocks }
+        requires full { length (block_at k self.old.blocks) ≡ 64 }
+        requires spare { 1 ≤ self.old.spares }
+        ensures blocks { self.new.blocks ≡ insert (slice_set self.old.blocks k (take 32 (block_at k self.old.blocks))) (k + 1) (drop 32 (block_at k self.old.blocks)) }
+        ensures spares { self.new.spares + 1 ≡ self.old.spares }
+    {
+        let mut behind = take_spare(&mut self.spares);
+        move_half(&mut self.blocks[k], &mut behind);
+        insert_last(&self.blocks[k], &mut self.lasts, k);
+        let start = self.starts[k] + HALF;
+        insert_within(&mut self.starts, k + 1, start);
+        insert_within(&mut self.blocks, k + 1, behind);
+    }
+
+    /// Adds a block with copies of these members at the end, by means of a spare one.
+    pub(crate) fn append(&mut self, members: &[X])
+        requires block { IsTrue (is_block members.now) }
+        requires spare { 1 ≤ self.old.spares }
+        ensures blocks { self.new.blocks ≡ self.old.blocks ++ members.now ∷ [] }
+        ensures spares { self.new.spares + 1 ≡ self.old.spares }
+    {
+        let start = self.total();
+        let mut block = take_spare(&mut self.spares);
+        fill(&mut block, members);
+        self.starts.push_reserved(start);
+        self.lasts
+            .push_reserved(members[members.len() - 1].copied());
+        self.blocks.push_reserved(block);
+    }
+
+    /// Begins a block with one member at the end, by means of a spare one.
+    pub(crate) fn begin(&mut self, x: X)
+        requires { 1 ≤ self.old.spares }
+        ensures blocks { self.new.blocks ≡ self.old.blocks ++ (x ∷ []) ∷ [] }
+        ensures spares { self.new.spares + 1 ≡ self.old.spares }
+    {
+        let start = self.total();
+        let mut block = take_spare(&mut self.spares);
+        let last = x.copied();
+        block.push_reserved(x);
+        self.starts.push_reserved(start);
+        self.lasts.push_reserved(last);
+        self.blocks.push_reserved(block);
+    }
+
+    /// Makes one more spare block. `Err`: memory ran out.
+    pub(crate) fn add_spare(&mut self) -> Result<(), NoMemory>
+        ensures blocks { self.new.blocks ≡ self.old.blocks }
+        ensures ok { OnOk result (self.new.spares ≡ self.old.spares + 1) }
+        ensures err { OnErr result (self.new.spares ≡ self.old.spares) }
+    {
+        let count = self.blocks.len();
+        let spares = self.spares.len();
+        if count + spares >= LIMIT {
+            return Err(NoMemory);
+        }
+        self.blocks.reserve(spares + 1)?;
+        self.starts.reserve(spares + 1)?;
+        self.lasts.reserve(spares + 1)?;
+        self.spares.reserve(count + 1)?;
+        let block = Vec::with_capacity(*self.blocks.allocator(), CAPACITY)?;
+        self.spares.push_reserved(block);
+        Ok(())
+    }
+
+    /// Makes all blocks spare ones.
+    pub(crate) fn clear(&mut self)
+        ensures blocks { self.new.blocks ≡ [] }
+        ensures spares { self.new.spares ≡ self.old.spares + length self.old.blocks }
+    {
+        empty(&mut self.blocks, &mut self.spares);
+        self.starts.clear();
+        self.lasts.clear();
+    }
+}
+
+/// The place where the members that pass a test end.
+fn cut<X, F: Fn(&X) -> bool>(members: &[X], pred: &F) -> usize
+    requires { F.IsAlwaysCallable pred.now }
+    ensures bound { result ≤ length members.now }
+    ensures partitioned { (p : X → Bool) → ComputesKey F.FnMut p pred.now → IsPartitionedBy p members.now → IsPartitionPoint (λ x. p x ≡ true) (λ x. p x ≡ false) members.now result }
+{
+    members.partition_point(pred)
+}
+
+/// Puts a member in place of the one at a place.
+fn put_within<X: Drop>(block: &mut Vec<X>, place: usize, x: X)
+    requires within { place < vec_len block.old }
+    ensures items { block.new.items ≡ slice_set block.old.items place x }
+    ensures len { vec_len block.new ≡ vec_len block.old }
+    ensures capacity { vec_capacity block.old ≤ vec_capacity block.new }
+{
+    block[place] = x;
+}
+
+/// Inserts a member at a place, where the block has room for it.
+pub(crate) fn insert_within<X: Drop>(block: &mut Vec<X>, place: usize, x: X)
+    requires within { place ≤ vec_len block.old }
+    requires room { vec_len block.old < vec_capacity block.old }
+    ensures items { block.new.items ≡ insert block.old.items place x }
+    ensures len { vec_len block.new ≡ vec_len block.old + 1 }
+    ensures capacity { vec_capacity block.old ≤ vec_capacity block.new }
+{
+    match block.insert(place, x) {
+        Ok(()) => {}
+        Err(_) => unreachable!(),
+    }
+}
+
+/// Keeps a copy of the last member of a block in its place.
+fn keep_last<X: Copied + Drop>(block: &[X], lasts: &mut Vec<X>, k: usize)
+    requires some { 1 ≤ length block.now }
+    requires within { k < vec_len lasts.old }
+    ensures lasts { map Some lasts.new.items ≡ slice_set (map Some lasts.old.items) k (last_of block.now) }
+    ensures len { vec_len lasts.new ≡ vec_len lasts.old }
+    ensures capacity { vec_capacity lasts.new ≡ vec_capacity lasts.old }
+{
+    lasts[k] = block[block.len() - 1].copied();
+}
+
+/// Takes out the member at a place.
+fn remove_within<X: Drop>(block: &mut Vec<X>, place: usize) -> X
+    requires { place < vec_len block.old }
+    ensures member { slice_get block.old.items place ≡ Some result }
+    ensures items { block.new.items ≡ remove block.old.items place }
+    ensures len { vec_len block.new + 1 ≡ vec_len block.old }
+    ensures capacity { vec_capacity block.old ≤ vec_capacity block.new }
+{
+    block.remove(place)
+}
+
+/// Puts a copy of the last member of a block in front of the one of the block behind it.
+fn insert_last<X: Copied + Drop>(block: &[X], lasts: &mut Vec<X>, k: usize)
+    requires some { 1 ≤ length block.now }
+    requires within { k ≤ vec_len lasts.old }
+    requires room { vec_len lasts.old < vec_capacity lasts.old }
+    ensures lasts { map Some lasts.new.items ≡ insert (map Some lasts.old.items) k (last_of block.now) }
+    ensures len { vec_len lasts.new ≡ vec_len lasts.old + 1 }
+    ensures capacity { vec_capacity lasts.old ≤ vec_capacity lasts.new }
+{
+    insert_within(lasts, k, block[block.len() - 1].copied());
+}
+
+/// Adds copies of members at the end of a block that has room for them.
+fn fill<X: Copied + Drop>(block: &mut Vec<X>, members: &[X])
+    requires { vec_len block.old + length members.now ≤ vec_capacity block.old }
+    ensures items { block.new.items ≡ block.old.items ++ members.now }
+    ensures capacity { vec_capacity block.new ≡ vec_capacity block.old }
+{
+    for x in members {
+        block.push_reserved(x.copied());
+    }
+}
+
+/// Moves the second half of a full block to an empty one.
+fn move_half<X: Copied + Drop>(block: &mut Vec<X>, behind: &mut Vec<X>)
+    requires full { vec_len block.old ≡ 64 }
+    requires empty { behind.old.items ≡ [] }
+    requires room { 64 ≤ vec_capacity behind.old }
+    ensures front { block.new.items ≡ take 32 block.old.items }
+    ensures back { behind.new.items ≡ drop 32 block.old.items }
+    ensures capacity { vec_capacity block.new ≡ vec_capacity block.old }
+    ensures back_capacity { vec_capacity behind.new ≡ vec_capacity behind.old }
+{
+    fill(behind, &block[HALF..]);
+    block.truncate(HALF);
+}
+
+/// Takes a block out of the spare ones.
+fn take_spare<X: Drop>(spares: &mut Vec<Vec<X>>) -> Vec<X>
+    requires some { 1 ≤ vec_len spares.old }
+    requires spare { IsTrue (list_all (is_spare (λ block. block.items) (λ block. vec_capacity block)) spares.old.items) }
+    ensures empty { result.items ≡ [] }
+    ensures room { 64 ≤ vec_capacity result }
+    ensures len { vec_len spares.new + 1 ≡ vec_len spares.old }
+    ensures capacity { vec_capacity spares.new ≡ vec_capacity spares.old }
+    ensures spare { IsTrue (list_all (is_spare (λ block. block.items) (λ block. vec_capacity block)) spares.new.items) }
+{
+    match spares.pop() {
+        Some(block) => block,
+        None => unreachable!(),
+    }
+}
+
+/// Makes all blocks spare ones.
+fn empty<X: Drop>(blocks: &mut Vec<Vec<X>>, spares: &mut Vec<Vec<X>>)
+    requires kept { IsTrue (list_all (is_kept (λ block. block.items) (λ block. vec_capacity block)) blocks.old.items) }
+    requires spare { IsTrue (list_all (is_spare (λ block. block.items) (λ block. vec_capacity block)) spares.old.items) }
+    requires room { vec_len blocks.old + vec_len spares.old ≤ vec_capacity spares.old }
+    ensures none { blocks.new.items ≡ [] }
+    ensures spare { IsTrue (list_all (is_spare (λ block. block.items) (λ block. vec_capacity block)) spares.new.items) }
+    ensures len { vec_len spares.new ≡ vec_len blocks.old + vec_len spares.old }
+    ensures blocks_capacity { vec_capacity blocks.new ≡ vec_capacity blocks.old }
+    ensures spares_capacity { vec_capacity spares.new ≡ vec_capacity spares.old }
+{
+    while let Some(mut block) = blocks.pop() {
+        block.clear();
+        spares.push_reserved(block);
+    }
+}
