@@ -1,9 +1,18 @@
 //! An ordered list in which members are put in and taken out cheaply anywhere.
 #![tactic(auto)]
 
+mod block_marks;
+mod block_spans;
+mod block_times;
 mod blocks;
 mod by_place;
 mod chain;
 mod places;
+mod search;
+#[cfg(test)]
+mod tests;
 
+pub use block_marks::BlockMarks;
+pub use block_spans::BlockSpans;
+pub use block_times::BlockTimes;
 pub use blocks::Blocks;

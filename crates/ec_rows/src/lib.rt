@@ -23,6 +23,7 @@ pub use copied::Copied;
 pub use laws::rows_ext;
 pub use mark::Mark;
 pub use mark_row::MarkRow;
+pub use search::Timed;
 pub use span::{End, Span};
 pub use span_row::SpanRow;
 pub use time_row::TimeRow;

@@ -7,11 +7,12 @@ ghost use Rattle.ec_rows.specs.Ordered.{is_ascending, by_time, members_before, m
 
 use ec_moment::Moment;
 
-/// A member of a row, which stands in it at a time.
-pub(crate) trait Timed<T: Moment> {
+/// A member of a row, which stands in it at a time: a mark at its own, a span at its start.
+pub trait Timed<T: Moment> {
     // The time of the member.
     ghost time: { Self → T };
 
+    /// The time of the member.
     fn time(&self) -> T
         ensures { result ≡ time self.now };
 }

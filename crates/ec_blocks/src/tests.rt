@@ -1,0 +1,112 @@
+//! What no clause shows: that memory is given, and that a row in blocks and one in a `Vec` go the same way.
+ghost use Rattle.std.specs.Prelude.{◌<◌};
+
+use crate::{BlockMarks, Blocks};
+use ec_moment::Tick;
+use ec_rows::{Mark, MarkRow, VecMarks};
+use ec_terms::{NoMemory, PropId};
+use std::alloc::Global;
+
+/// Numbers that look random: the high bits of a congruential generator of 64 bits.
+#[derive(Drop)]
+struct Draws {
+    state: u64,
+}
+
+impl Draws {
+    fn draw(&mut self, n: u64) -> u64
+        requires { 0 < n }
+        ensures { result < n }
+    {
+        self.state = self
+            .state
+            .wrapping_mul(6364136223846793005)
+            .wrapping_add(1442695040888963407);
+        (self.state >> 33) % n
+    }
+}
+
+/// Whether the marks of two rows are the same.
+fn are_same<A: MarkRow<Tick>, B: MarkRow<Tick>>(a: &A, b: &B) -> bool {
+    if a.len() != b.len() {
+        return false;
+    }
+    for i in 0..a.len() {
+        if a.get(i) != b.get(i) {
+            return false;
+        }
+    }
+    true
+}
+
+/// Puts a mark in both rows, or takes one out of both.
+fn change<A: MarkRow<Tick>, B: MarkRow<Tick>>(
+    draws: &mut Draws,
+    a: &mut A,
+    b: &mut B,
+) -> Result<(), NoMemory> {
+    if draws.draw(10) < 7 {
+        let mark = Mark {
+            at: Tick(draws.draw(1000) as i64),
+            inits: 1,
+            terms: draws.draw(3) as u32,
+            clashes: 0,
+        };
+        a.reserve(1)?;
+        b.reserve(1)?;
+        a.put(mark);
+        b.put(mark);
+    } else {
+        let place = draws.draw(400) as usize;
+        if place < a.len() {
+            let _ = a.take_out(place);
+        }
+        if place < b.len() {
+            let _ = b.take_out(place);
+        }
+    }
+    Ok(())
+}
+
+/// Whether two rows are the same after each of 500 changes.
+fn go_the_same_way<A: MarkRow<Tick>, B: MarkRow<Tick>>(alloc: Global) -> Result<bool, NoMemory> {
+    let mut draws = Draws { state: 1 };
+    let mut a = A::new(alloc)?;
+    let mut b = B::new(alloc)?;
+    for _ in 0..500 {
+        change(&mut draws, &mut a, &mut b)?;
+        if !are_same(&a, &b) {
+            return Ok(false);
+        }
+    }
+    Ok(100 < a.len())
+}
+
+/// The places where members stand that were put in front of all others, one by one.
+fn filled_from_behind(alloc: Global) -> Result<Blocks<PropId>, NoMemory> {
+    let mut list = Blocks::new(alloc);
+    for i in 0..300 {
+        list.reserve(1)?;
+        list.insert(0, PropId(299 - i));
+    }
+    Ok(list)
+}
+
+#[test]
+fn rows_in_blocks_go_as_rows_in_one_vec(rt: HostRuntime) -> Result<(), NoMemory> {
+    assert!(rt; go_the_same_way::<VecMarks<Tick>, BlockMarks<Tick>>(rt.alloc())?);
+    Ok(())
+}
+
+#[test]
+fn a_list_in_blocks_keeps_its_order(rt: HostRuntime) -> Result<(), NoMemory> {
+    let mut list = filled_from_behind(rt.alloc())?;
+    list.push(PropId(300))?;
+    assert!(rt; list.len() == 301);
+    for i in 0..301 {
+        assert!(rt; i < list.len());
+        assert!(rt; *list.get(i) == PropId(i));
+    }
+    assert!(rt; list.partition_point(|p| p.0 < 77) == 77);
+    Ok(())
+}
