@@ -1,5 +1,6 @@
 mod KeptRows
 mod Pass
+mod Cut
 mod PassOrder
 mod Written
 mod FirstBroken

@@ -18,7 +18,7 @@ use Rattle.ec_intervals.specs.Steps.{first_open, open_behind, ended_by, broken_b
 
 -- ---- lists
 
-cons_option-append : {X : Type 0} (o : Option X) (xs : List X) → cons_option o xs ≡ option_to_list o ++ xs
+pub cons_option-append : {X : Type 0} (o : Option X) (xs : List X) → cons_option o xs ≡ option_to_list o ++ xs
 cons_option-append None xs = refl
 cons_option-append (Some x) xs = refl
 
@@ -57,8 +57,20 @@ initiates-not_breaks : (strong : Bool) (m : PlainMark) → is_marked m ≡ true 
 initiates-not_breaks strong m some no_break = grind (arith, nat_tests)
 
 -- a mark that terminates breaks
-breaks-terminates : (strong : Bool) (m : PlainMark) → mark_terminates m ≡ true → mark_breaks strong m ≡ true
+pub breaks-terminates : (strong : Bool) (m : PlainMark) → mark_terminates m ≡ true → mark_breaks strong m ≡ true
 breaks-terminates strong m terminates = grind (arith, nat_tests)
+
+-- behind a mark with a count a begin is open exactly where the mark initiates, whatever was open in front of it
+pub is_some-open_behind : (strong : Bool) (begun : Option Begin) (m : PlainMark) → is_marked m ≡ true → is_some (open_behind strong begun m) ≡ mark_initiates m
+is_some-open_behind strong begun m some = by_cases (mark_breaks strong m) (mark_initiates m) begun (initiates-not_breaks strong m some)
+  where
+    by_cases : (breaks initiates : Bool) (begun : Option Begin) → (breaks ≡ false → initiates ≡ true) →
+        is_some (cond (initiates && (breaks || not (is_some begun))) (Some (begin_at m.instant)) (cond breaks None begun)) ≡ initiates
+    by_cases true true begun counted = refl
+    by_cases true false begun counted = refl
+    by_cases false true (Some begin) counted = refl
+    by_cases false true None counted = refl
+    by_cases false false begun counted = absurd (let no = counted refl in cc)
 
 -- the mark of a row at the instant of one of its marks
 row_mark-member : (marks : List PlainMark) (m : PlainMark) → is_ascending plain_before marks ≡ true → IsMember marks m → row_mark marks m.instant ≡ Some m
@@ -75,7 +87,7 @@ row_mark-member (n ∷ ns) m ascending (inr later) =
 -- ---- the pass
 
 -- the next mark of a row behind a begin that breaks
-abbrev next_mark : Bool → List PlainMark → Begin → Option PlainMark
+abbrev pub next_mark : Bool → List PlainMark → Begin → Option PlainMark
 next_mark strong marks begin = find (mark_breaks strong) (filter (λ (m : PlainMark). is_after begin m.instant) marks)
 
 module _ {X : Type 0} (f : Begin → Option PlainMark → Option X) (strong : Bool) where
@@ -103,7 +115,7 @@ module _ {X : Type 0} (f : Begin → Option PlainMark → Option X) (strong : Bo
       omega (arith, one, rest)
 
   -- what becomes of some starts
-  abbrev started : List PlainMark → List ℤ → List X
+  abbrev pub started : List PlainMark → List ℤ → List X
   started marks starts = filter_map (λ begin. f begin (next_mark strong marks begin)) (map begin_at starts)
 
   -- starts behind the first mark do not read it
@@ -134,15 +146,15 @@ module _ {X : Type 0} (f : Begin → Option PlainMark → Option X) (strong : Bo
         start_if true t starts = t ∷ starts
         start_if false t starts = starts
 
-    -- they lie behind what all marks lie behind
-    row_starts-later : (t : ℤ) (before : Option PlainMark) (ms : List PlainMark) → list_all (λ (n : PlainMark). int_lt t n.instant) ms ≡ true →
-        list_all (int_lt t) (row_starts strong initial before ms) ≡ true
-    row_starts-later t before [] later = refl
-    row_starts-later t before (m ∷ ms) later =
-        let rest : list_all (int_lt t) (row_starts strong initial (Some m) ms) ≡ true = row_starts-later t (Some m) ms (and-right _ _ later) in
-        ap (list_all (int_lt t)) (row_starts-first before m ms)
+    -- what holds of the instants of all marks holds of the starts
+    pub list_all-row_starts : (p : ℤ → Bool) (before : Option PlainMark) (ms : List PlainMark) → list_all (λ (n : PlainMark). p n.instant) ms ≡ true →
+        list_all p (row_starts strong initial before ms) ≡ true
+    list_all-row_starts p before [] later = refl
+    list_all-row_starts p before (m ∷ ms) later =
+        let rest : list_all p (row_starts strong initial (Some m) ms) ≡ true = list_all-row_starts p (Some m) ms (and-right _ _ later) in
+        ap (list_all p) (row_starts-first before m ms)
         ∙ cond_both (mark_starts strong initial before m) (m.instant ∷ row_starts strong initial (Some m) ms) (row_starts strong initial (Some m) ms)
-        (λ starts. list_all (int_lt t) starts ≡ true) (λ _. ap (λ b. b && list_all (int_lt t) (row_starts strong initial (Some m) ms)) (and-left _ _ later) ∙ rest) (λ _. rest)
+        (λ starts. list_all p starts ≡ true) (λ _. ap (λ b. b && list_all p (row_starts strong initial (Some m) ms)) (and-left _ _ later) ∙ rest) (λ _. rest)
 
     module _ (m : PlainMark) (ms : List PlainMark) (row : IsPlainRow (m ∷ ms)) where
       abbrev rest : List ℤ
@@ -152,7 +164,7 @@ module _ {X : Type 0} (f : Begin → Option PlainMark → Option X) (strong : Bo
       behind breaks initiates begun = cond (initiates && (breaks || not (is_some begun))) (Some (begin_at m.instant)) (cond breaks None begun)
 
       later : started (m ∷ ms) rest ≡ started ms rest
-      later = started-later m ms rest (row_starts-later m.instant (Some m) ms (behind_first m ms row))
+      later = started-later m ms rest (list_all-row_starts (int_lt m.instant) (Some m) ms (behind_first m ms row))
 
       first : (xs : List X) → xs ++ (outcome (find (mark_breaks strong) ms) (Some (begin_at m.instant)) ++ started ms rest) ≡ xs ++ started (m ∷ ms) (m.instant ∷ rest)
       first xs =
@@ -171,13 +183,6 @@ module _ {X : Type 0} (f : Begin → Option PlainMark → Option X) (strong : Bo
       step false true None counted = first []
       step false false begun counted = absurd (let no = counted refl in cc)
 
-      open_is : (breaks initiates : Bool) (begun : Option Begin) → (breaks ≡ false → initiates ≡ true) → is_some (behind breaks initiates begun) ≡ initiates
-      open_is true true begun counted = refl
-      open_is true false begun counted = refl
-      open_is false true (Some begin) counted = refl
-      open_is false true None counted = refl
-      open_is false false begun counted = absurd (let no = counted refl in cc)
-
     -- the pass gives what becomes of the open begin, and then of each start
     pub pass-starts : (before : Option PlainMark) (begun : Option Begin) (marks : List PlainMark) → is_some begun ≡ current_after initial before → IsPlainRow marks →
         pass begun marks ≡ outcome (find (mark_breaks strong) marks) begun ++ started marks (row_starts strong initial before marks)
@@ -186,7 +191,7 @@ module _ {X : Type 0} (f : Begin → Option PlainMark → Option X) (strong : Bo
     pass-starts before begun (m ∷ ms) current row =
         let counted : mark_breaks strong m ≡ false → mark_initiates m ≡ true = initiates-not_breaks strong m (and-left (is_marked m) (list_all is_marked ms) row.counted) in
         ap (λ xs. option_to_list (closing begun m) ++ xs)
-        (pass-starts (Some m) (open_behind strong begun m) ms (open_is m ms row (mark_breaks strong m) (mark_initiates m) begun counted) (IsPlainRow-rest m ms row))
+        (pass-starts (Some m) (open_behind strong begun m) ms (is_some-open_behind strong begun m (and-left (is_marked m) (list_all is_marked ms) row.counted)) (IsPlainRow-rest m ms row))
         ∙ step m ms row (mark_breaks strong m) (mark_initiates m) begun counted
         ∙ ap (λ starts. outcome (find (mark_breaks strong) (m ∷ ms)) begun ++ started (m ∷ ms) starts)
         (ap (λ b. cond (mark_initiates m && (mark_breaks strong m || not b)) (m.instant ∷ row_starts strong initial (Some m) ms) (row_starts strong initial (Some m) ms)) current

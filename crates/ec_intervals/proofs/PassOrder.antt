@@ -13,12 +13,12 @@ use Rattle.ec_intervals.proofs.Pass.{IsPlainRow, IsPlainRow-rest, behind_first, 
 
 -- ---- lists
 
-list_all-each : {X : Type 0} (xs : List X) → list_all (λ x. true) xs ≡ true
+pub list_all-each : {X : Type 0} (xs : List X) → list_all (λ x. true) xs ≡ true
 list_all-each [] = refl
 list_all-each (x ∷ xs) = list_all-each xs
 
 -- one more in front, if there is one
-list_all-cons : {X : Type 0} (p : X → Bool) (o : Option X) (xs : List X) → option_map_or p o true ≡ true → list_all p xs ≡ true → list_all p (option_to_list o ++ xs) ≡ true
+pub list_all-cons : {X : Type 0} (p : X → Bool) (o : Option X) (xs : List X) → option_map_or p o true ≡ true → list_all p xs ≡ true → list_all p (option_to_list o ++ xs) ≡ true
 list_all-cons p None xs first rest = rest
 list_all-cons p (Some x) xs first rest = ap (λ b. b && list_all p xs) first ∙ rest
 

@@ -1,7 +1,7 @@
 -- A row of marks read from left to right: which begin is open in front of a mark, and what a mark ends, breaks and opens.
-use Rattle.std.specs.Prelude.{Bool, true, false, not, ◌&&◌, ◌||◌, if◌then◌else◌, List, ℤ, int_le, Option, Some, None, option_map, is_some, IsTrue}
+use Rattle.std.specs.Prelude.{Bool, true, false, not, ◌&&◌, ◌||◌, if◌then◌else◌, List, [], ◌∷◌, ◌++◌, find, ℤ, int_lt, int_le, Option, Some, None, option_map, is_some, IsTrue}
 use Rattle.std.specs.List.{list_all}
-use Rattle.std.specs.Option.{option_map_or}
+use Rattle.std.specs.Option.{option_map_or, option_to_list}
 use Rattle.ec_axioms.specs.Timeline.{Begin, before_all, begin_at, Interval, is_after}
 use Rattle.ec_axioms.specs.Marks.{PlainMark, mark_initiates, mark_terminates, mark_breaks}
 use Rattle.ec_rows.specs.Ordered.{is_ascending}
@@ -37,6 +37,35 @@ ended_by begun mark = if mark_terminates mark then option_map (interval_up_to ma
 -- the begin that a mark breaks: the open one, where the mark breaks and does not terminate
 abbrev pub broken_by : Bool → Option Begin → PlainMark → Option (Begin × ℤ)
 broken_by strong begun mark = if mark_breaks strong mark && not (mark_terminates mark) then option_map (λ begin. (begin, mark.instant)) begun else None
+
+-- ---- several marks
+
+-- the begin that is open behind some marks
+unfoldable pub open_through : Bool → Option Begin → List PlainMark → Option Begin
+open_through strong begun [] = begun
+open_through strong begun (m ∷ ms) = open_through strong (open_behind strong begun m) ms
+
+-- the intervals that some marks end, one after the other
+unfoldable pub ended_through : Bool → Option Begin → List PlainMark → List Interval
+ended_through strong begun [] = []
+ended_through strong begun (m ∷ ms) = option_to_list (ended_by begun m) ++ ended_through strong (open_behind strong begun m) ms
+
+-- the intervals that some marks spell: those that they end, and that of the begin which is open behind them all
+abbrev pub spelt_through : Bool → Option Begin → List PlainMark → List Interval
+spelt_through strong begun marks = ended_through strong begun marks ++ option_to_list (option_map unended_interval (open_through strong begun marks))
+
+-- a mark lies behind an instant, if one is given
+abbrev pub is_behind : Option ℤ → PlainMark → Bool
+is_behind until mark = option_map_or (λ u. int_lt u mark.instant) until false
+
+-- the marks up to an instant and the first one behind it; all marks, where no instant is given
+unfoldable pub up_to_first_behind : Option ℤ → List PlainMark → List PlainMark
+up_to_first_behind until [] = []
+up_to_first_behind until (m ∷ ms) = m ∷ (if is_behind until m then [] else up_to_first_behind until ms)
+
+-- the instant of the first mark behind an instant, if one is given
+abbrev pub first_behind : Option ℤ → List PlainMark → Option ℤ
+first_behind until marks = option_map (λ (m : PlainMark). m.instant) (find (is_behind until) marks)
 
 -- ---- intervals in order
 
