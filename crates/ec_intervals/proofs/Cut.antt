@@ -3,18 +3,18 @@ use Rattle.std.proofs.Common.{◌≡◌, ℤ, Bool, true, false, cond, not, ◌&
 use Rattle.std.specs.List.{list_all}
 use Rattle.std.specs.Option.{option_map_or, option_to_list}
 use Rattle.std.proofs.lemmas.Bool.{false≢true}
-use Rattle.std.proofs.lemmas.List.{append-nil, append_assoc}
+use Rattle.std.proofs.lemmas.List.{append-nil, append_assoc, append_cancel_left}
 use Rattle.std.proofs.lemmas.List.Elements.{filter-append}
 use Rattle.ec_axioms.specs.Timeline.{Begin, before_all, begin_at, Interval}
 use Rattle.ec_axioms.specs.Marks.{PlainMark, is_marked, mark_initiates, mark_terminates, mark_breaks, row_starts}
 use Rattle.ec_rows.proofs.OrderedLemmas.{and-left, and-right, filter-all}
-use Rattle.ec_intervals.specs.Steps.{open_behind, ended_by, interval_up_to, unended_interval, open_through, ended_through, spelt_through}
+use Rattle.ec_intervals.specs.Steps.{open_behind, ended_by, interval_up_to, unended_interval, lasting, open_through, ended_through, spelt_through}
 use Rattle.ec_intervals.proofs.Pass.{IsPlainRow, IsPlainRow-rest, pass, outcome, started, interval_by, next_mark, breaks-terminates, cons_option-append, is_some-open_behind, pass-starts, closing-ended_by, list_all-row_starts}
 use Rattle.ec_intervals.proofs.PassOrder.{list_all-cons}
 
 -- ---- a list that is cut where a test begins to fail
 
-filter-none : {X : Type 0} (p : X → Bool) (xs : List X) → list_all (λ x. not (p x)) xs ≡ true → filter p xs ≡ []
+pub filter-none : {X : Type 0} (p : X → Bool) (xs : List X) → list_all (λ x. not (p x)) xs ≡ true → filter p xs ≡ []
 filter-none p [] none = refl
 filter-none p (x ∷ xs) none = here (p x) (and-left (not (p x)) (list_all (λ y. not (p y)) xs) none) (filter-none p xs (and-right (not (p x)) (list_all (λ y. not (p y)) xs) none))
   where
@@ -22,13 +22,22 @@ filter-none p (x ∷ xs) none = here (p x) (and-left (not (p x)) (list_all (λ y
     here true kept rest = absurd (false≢true kept)
     here false kept rest = rest
 
-filter-cut : {X : Type 0} (p : X → Bool) (xs ys : List X) → list_all p xs ≡ true → list_all (λ x. not (p x)) ys ≡ true → filter p (xs ++ ys) ≡ xs
+pub filter-cut : {X : Type 0} (p : X → Bool) (xs ys : List X) → list_all p xs ≡ true → list_all (λ x. not (p x)) ys ≡ true → filter p (xs ++ ys) ≡ xs
 filter-cut p xs ys front back = filter-append p xs ys ∙ ap₂ (λ a b. a ++ b) (filter-all p xs front) (filter-none p ys back) ∙ append-nil xs
+
+-- the part that passes, and the part that does not
+pub filter-front : {X : Type 0} (p : X → Bool) (xs ys zs : List X) → xs ++ ys ≡ zs → list_all p xs ≡ true → list_all (λ x. not (p x)) ys ≡ true → filter p zs ≡ xs
+filter-front p xs ys zs same front back = ap (filter p) (sym same) ∙ filter-cut p xs ys front back
 
 -- there is one such cut
 pub cut-front : {X : Type 0} (p : X → Bool) (xs ys xs' ys' : List X) → xs ++ ys ≡ xs' ++ ys' →
     list_all p xs ≡ true → list_all (λ x. not (p x)) ys ≡ true → list_all p xs' ≡ true → list_all (λ x. not (p x)) ys' ≡ true → xs ≡ xs'
-cut-front p xs ys xs' ys' same front back front' back' = sym (filter-cut p xs ys front back) ∙ ap (filter p) same ∙ filter-cut p xs' ys' front' back'
+cut-front p xs ys xs' ys' same front back front' back' = sym (filter-cut p xs ys front back) ∙ filter-front p xs' ys' (xs ++ ys) (sym same) front' back'
+
+pub cut-behind : {X : Type 0} (p : X → Bool) (xs ys xs' ys' : List X) → xs ++ ys ≡ xs' ++ ys' →
+    list_all p xs ≡ true → list_all (λ x. not (p x)) ys ≡ true → list_all p xs' ≡ true → list_all (λ x. not (p x)) ys' ≡ true → ys ≡ ys'
+cut-behind p xs ys xs' ys' same front back front' back' =
+    append_cancel_left xs' ys ys' (ap (λ zs. zs ++ ys) (sym (cut-front p xs ys xs' ys' same front back front' back')) ∙ same)
 
 -- ---- two parts
 
@@ -81,11 +90,6 @@ module _ (strong : Bool) where
 abbrev pub fate : Option PlainMark → Option (Option ℤ)
 fate None = Some None
 fate (Some m) = cond (mark_terminates m) (Some (Some m.instant)) None
-
--- the interval from a begin up to an end, where there are both
-abbrev pub lasting : Option (Option ℤ) → Option Begin → Option Interval
-lasting None begun = None
-lasting (Some until) begun = option_map (λ begin. record { from = begin; until = until }) begun
 
 lasting-none : (end : Option (Option ℤ)) → lasting end None ≡ None
 lasting-none None = refl
@@ -146,10 +150,6 @@ begins_where p (begin_at s) = p s
 abbrev pub ends_where : (ℤ → Bool) → Interval → Bool
 ends_where p interval = option_map_or p interval.until false
 
--- what is open does not begin at an instant that passes a test
-abbrev pub opens_not : (ℤ → Bool) → Option Begin → Bool
-opens_not p begun = option_map_or (λ begin. not (begins_where p begin)) begun true
-
 module _ (p : ℤ → Bool) (strong : Bool) where
   ended_by-ends : (begun : Option Begin) (m : PlainMark) → p m.instant ≡ true → option_map_or (ends_where p) (ended_by begun m) true ≡ true
   ended_by-ends begun m here = by_cases (mark_terminates m) begun
@@ -166,38 +166,6 @@ module _ (p : ℤ → Bool) (strong : Bool) where
   ended_through-ends begun (m ∷ ms) all =
       list_all-cons (ends_where p) (ended_by begun m) (ended_through strong (open_behind strong begun m) ms)
       (ended_by-ends begun m (and-left _ _ all)) (ended_through-ends (open_behind strong begun m) ms (and-right _ _ all))
-
-  ended_by-begins : (begun : Option Begin) (m : PlainMark) → opens_not p begun ≡ true → option_map_or (λ (i : Interval). not (begins_where p i.from)) (ended_by begun m) true ≡ true
-  ended_by-begins begun m front = by_cases (mark_terminates m) begun front
-    where
-      by_cases : (b : Bool) (begun : Option Begin) → opens_not p begun ≡ true →
-          option_map_or (λ (i : Interval). not (begins_where p i.from)) (cond b (option_map (interval_up_to m.instant) begun) None) true ≡ true
-      by_cases true None front = refl
-      by_cases true (Some begin) front = front
-      by_cases false begun front = refl
-
-  opens_not-behind : (begun : Option Begin) (m : PlainMark) → opens_not p begun ≡ true → not (p m.instant) ≡ true → opens_not p (open_behind strong begun m) ≡ true
-  opens_not-behind begun m front here = by_cases (mark_initiates m && (mark_breaks strong m || not (is_some begun))) (mark_breaks strong m)
-    where
-      by_cases : (opens breaks : Bool) → opens_not p (cond opens (Some (begin_at m.instant)) (cond breaks None begun)) ≡ true
-      by_cases true breaks = here
-      by_cases false true = refl
-      by_cases false false = front
-
-  -- and begins at one of them or at what is open in front of them
-  pub ended_through-begins : (begun : Option Begin) (ms : List PlainMark) → opens_not p begun ≡ true → list_all (λ (m : PlainMark). not (p m.instant)) ms ≡ true →
-      list_all (λ (i : Interval). not (begins_where p i.from)) (ended_through strong begun ms) ≡ true
-  unfolding ended_through
-  ended_through-begins begun [] front all = refl
-  ended_through-begins begun (m ∷ ms) front all =
-      list_all-cons (λ (i : Interval). not (begins_where p i.from)) (ended_by begun m) (ended_through strong (open_behind strong begun m) ms)
-      (ended_by-begins begun m front) (ended_through-begins (open_behind strong begun m) ms (opens_not-behind begun m front (and-left _ _ all)) (and-right _ _ all))
-
-  pub opens_not-through : (begun : Option Begin) (ms : List PlainMark) → opens_not p begun ≡ true → list_all (λ (m : PlainMark). not (p m.instant)) ms ≡ true →
-      opens_not p (open_through strong begun ms) ≡ true
-  unfolding open_through
-  opens_not-through begun [] front all = front
-  opens_not-through begun (m ∷ ms) front all = opens_not-through (open_behind strong begun m) ms (opens_not-behind begun m front (and-left _ _ all)) (and-right _ _ all)
 
   -- what starts later begins at one of the marks
   pub later-begins : (current : Bool) (ms : List PlainMark) → list_all (λ (m : PlainMark). p m.instant) ms ≡ true → list_all (λ (i : Interval). begins_where p i.from) (later strong current ms) ≡ true
@@ -218,15 +186,44 @@ module _ (p : ℤ → Bool) (strong : Bool) where
           ap (list_all (λ (i : Interval). begins_where p i.from)) (cons_option-append (interval_by (begin_at s) (next_mark strong ms (begin_at s))) (started interval_by strong ms starts))
           ∙ one s (next_mark strong ms (begin_at s)) (started interval_by strong ms starts) (and-left (p s) (list_all p starts) all) (from_starts starts (and-right (p s) (list_all p starts) all))
 
+module _ (q : Begin → Bool) (strong : Bool) where
+  ended_by-begins : (begun : Option Begin) (m : PlainMark) → option_map_or q begun true ≡ true → option_map_or (λ (i : Interval). q i.from) (ended_by begun m) true ≡ true
+  ended_by-begins begun m front = by_cases (mark_terminates m) begun front
+    where
+      by_cases : (b : Bool) (begun : Option Begin) → option_map_or q begun true ≡ true →
+          option_map_or (λ (i : Interval). q i.from) (cond b (option_map (interval_up_to m.instant) begun) None) true ≡ true
+      by_cases true None front = refl
+      by_cases true (Some begin) front = front
+      by_cases false begun front = refl
+
+  open_behind-begins : (begun : Option Begin) (m : PlainMark) → option_map_or q begun true ≡ true → q (begin_at m.instant) ≡ true → option_map_or q (open_behind strong begun m) true ≡ true
+  open_behind-begins begun m front here = by_cases (mark_initiates m && (mark_breaks strong m || not (is_some begun))) (mark_breaks strong m)
+    where
+      by_cases : (opens breaks : Bool) → option_map_or q (cond opens (Some (begin_at m.instant)) (cond breaks None begun)) true ≡ true
+      by_cases true breaks = here
+      by_cases false true = refl
+      by_cases false false = front
+
+  -- what holds of the open begin and of the instants of some marks holds of the begin of each interval that they end
+  pub ended_through-begins : (begun : Option Begin) (ms : List PlainMark) → option_map_or q begun true ≡ true → list_all (λ (m : PlainMark). q (begin_at m.instant)) ms ≡ true →
+      list_all (λ (i : Interval). q i.from) (ended_through strong begun ms) ≡ true
+  unfolding ended_through
+  ended_through-begins begun [] front all = refl
+  ended_through-begins begun (m ∷ ms) front all =
+      list_all-cons (λ (i : Interval). q i.from) (ended_by begun m) (ended_through strong (open_behind strong begun m) ms)
+      (ended_by-begins begun m front) (ended_through-begins (open_behind strong begun m) ms (open_behind-begins begun m front (and-left _ _ all)) (and-right _ _ all))
+
+  -- and of what is open behind them
+  pub open_through-begins : (begun : Option Begin) (ms : List PlainMark) → option_map_or q begun true ≡ true → list_all (λ (m : PlainMark). q (begin_at m.instant)) ms ≡ true →
+      option_map_or q (open_through strong begun ms) true ≡ true
+  unfolding open_through
+  open_through-begins begun [] front all = front
+  open_through-begins begun (m ∷ ms) front all = open_through-begins (open_behind strong begun m) ms (open_behind-begins begun m front (and-left _ _ all)) (and-right _ _ all)
+
 -- while the begin before all events is open nothing is ended
-pub ended_through-before_all : (strong : Bool) (begun : Option Begin) (ms : List PlainMark) → open_through strong begun ms ≡ Some before_all →
-    (begun ≡ Some before_all) × (ended_through strong begun ms ≡ [])
-unfolding open_through ended_through
-ended_through-before_all strong begun [] is = (is, refl)
-ended_through-before_all strong begun (m ∷ ms) is =
-    let rest = ended_through-before_all strong (open_behind strong begun m) ms is in
-    let here = one (mark_initiates m) (mark_breaks strong m) (mark_terminates m) begun (breaks-terminates strong m) rest.0 in
-    (here.0, ap₂ (λ o xs. option_to_list o ++ xs) here.1 rest.1)
+pub open_behind-before_all : (strong : Bool) (begun : Option Begin) (m : PlainMark) → open_behind strong begun m ≡ Some before_all →
+    (begun ≡ Some before_all) × (ended_by begun m ≡ None)
+open_behind-before_all strong begun m is = one (mark_initiates m) (mark_breaks strong m) (mark_terminates m) begun (breaks-terminates strong m) is
   where
     one : (initiates breaks terminates : Bool) (begun : Option Begin) → (terminates ≡ true → breaks ≡ true) →
         cond (initiates && (breaks || not (is_some begun))) (Some (begin_at m.instant)) (cond breaks None begun) ≡ Some before_all →
@@ -238,3 +235,12 @@ ended_through-before_all strong begun (m ∷ ms) is =
     one false true terminates begun so is = absurd (let no = is in cc)
     one false false true begun so is = absurd (false≢true (so refl))
     one false false false begun so is = (is, refl)
+
+pub ended_through-before_all : (strong : Bool) (begun : Option Begin) (ms : List PlainMark) → open_through strong begun ms ≡ Some before_all →
+    (begun ≡ Some before_all) × (ended_through strong begun ms ≡ [])
+unfolding open_through ended_through
+ended_through-before_all strong begun [] is = (is, refl)
+ended_through-before_all strong begun (m ∷ ms) is =
+    let rest = ended_through-before_all strong (open_behind strong begun m) ms is in
+    let here = open_behind-before_all strong begun m rest.0 in
+    (here.0, ap₂ (λ o xs. option_to_list o ++ xs) here.1 rest.1)

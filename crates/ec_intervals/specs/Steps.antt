@@ -1,7 +1,7 @@
 -- A row of marks read from left to right: which begin is open in front of a mark, and what a mark ends, breaks and opens.
 use Rattle.std.specs.Prelude.{Bool, true, false, not, ◌&&◌, ◌||◌, if◌then◌else◌, List, [], ◌∷◌, ◌++◌, find, ℤ, int_lt, int_le, Option, Some, None, option_map, is_some, IsTrue}
-use Rattle.std.specs.List.{list_all}
-use Rattle.std.specs.Option.{option_map_or, option_to_list}
+use Rattle.std.specs.List.{list_all, last_or}
+use Rattle.std.specs.Option.{option_map_or, option_and_then, option_to_list}
 use Rattle.ec_axioms.specs.Timeline.{Begin, before_all, begin_at, Interval, is_after}
 use Rattle.ec_axioms.specs.Marks.{PlainMark, mark_initiates, mark_terminates, mark_breaks}
 use Rattle.ec_rows.specs.Ordered.{is_ascending}
@@ -30,6 +30,11 @@ interval_up_to t begin = record { from = begin; until = Some t }
 abbrev pub unended_interval : Begin → Interval
 unended_interval begin = record { from = begin; until = None }
 
+-- the interval from the open begin up to an end, where there are both
+abbrev pub lasting : Option (Option ℤ) → Option Begin → Option Interval
+lasting None begun = None
+lasting (Some until) begun = option_map (λ begin. record { from = begin; until = until }) begun
+
 -- the interval that a mark ends: from the open begin up to the mark, where the mark terminates
 abbrev pub ended_by : Option Begin → PlainMark → Option Interval
 ended_by begun mark = if mark_terminates mark then option_map (interval_up_to mark.instant) begun else None
@@ -53,6 +58,14 @@ ended_through strong begun (m ∷ ms) = option_to_list (ended_by begun m) ++ end
 -- the intervals that some marks spell: those that they end, and that of the begin which is open behind them all
 abbrev pub spelt_through : Bool → Option Begin → List PlainMark → List Interval
 spelt_through strong begun marks = ended_through strong begun marks ++ option_to_list (option_map unended_interval (open_through strong begun marks))
+
+-- the interval ends, and not behind t
+abbrev pub ends_by : ℤ → Interval → Bool
+ends_by t interval = option_map_or (λ x. int_le x t) interval.until false
+
+-- the end of the last of some intervals, where that goes on behind t
+abbrev pub end_behind : ℤ → List Interval → Option (Option ℤ)
+end_behind t intervals = option_and_then (λ (interval : Interval). if ends_by t interval then None else Some interval.until) (last_or None intervals)
 
 -- a mark lies behind an instant, if one is given
 abbrev pub is_behind : Option ℤ → PlainMark → Bool
