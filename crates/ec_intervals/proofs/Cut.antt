@@ -8,7 +8,7 @@ use Rattle.std.proofs.lemmas.List.Elements.{filter-append}
 use Rattle.ec_axioms.specs.Timeline.{Begin, before_all, begin_at, Interval}
 use Rattle.ec_axioms.specs.Marks.{PlainMark, is_marked, mark_initiates, mark_terminates, mark_breaks, row_starts}
 use Rattle.ec_rows.proofs.OrderedLemmas.{and-left, and-right, filter-all}
-use Rattle.ec_intervals.specs.Steps.{open_behind, ended_by, interval_up_to, unended_interval, lasting, open_through, ended_through, spelt_through}
+use Rattle.ec_intervals.specs.Steps.{open_behind, ended_by, interval_up_to, unended_interval, begins_where, ends_where, lasting, open_through, ended_through, spelt_through}
 use Rattle.ec_intervals.proofs.Pass.{IsPlainRow, IsPlainRow-rest, pass, outcome, started, interval_by, next_mark, breaks-terminates, cons_option-append, is_some-open_behind, pass-starts, closing-ended_by, list_all-row_starts}
 use Rattle.ec_intervals.proofs.PassOrder.{list_all-cons}
 
@@ -140,15 +140,6 @@ module _ (strong : Bool) where
       (is_some-open_through strong begun xs m (and-left (is_marked m) (list_all is_marked ms) behind.counted)))
 
 -- ---- where intervals begin and end
-
--- the begin is an instant that passes a test
-abbrev pub begins_where : (ℤ → Bool) → Begin → Bool
-begins_where p before_all = false
-begins_where p (begin_at s) = p s
-
--- there is an end, and it passes a test
-abbrev pub ends_where : (ℤ → Bool) → Interval → Bool
-ends_where p interval = option_map_or p interval.until false
 
 module _ (p : ℤ → Bool) (strong : Bool) where
   ended_by-ends : (begun : Option Begin) (m : PlainMark) → p m.instant ≡ true → option_map_or (ends_where p) (ended_by begun m) true ≡ true

@@ -13,9 +13,9 @@ use Rattle.ec_axioms.specs.Marks.{PlainMark, is_marked, mark_initiates, mark_ter
 use Rattle.ec_axioms.proofs.Members.{IsMember, IsMember-append_cases, list_all-member, list_all-from_members, find-Some}
 use Rattle.ec_axioms.proofs.Ranks.{int_le-not_before}
 use Rattle.ec_rows.proofs.OrderedLemmas.{and-left, and-right, list_all-weaker, filter-all}
-use Rattle.ec_intervals.specs.Steps.{first_open, lasting, open_through, ended_through, ends_by, end_behind}
+use Rattle.ec_intervals.specs.Steps.{first_open, begins_where, ends_where, ends_before, begins_behind, lasting, open_through, ended_through, ends_by, end_behind}
 use Rattle.ec_intervals.proofs.Pass.{IsPlainRow, pass, interval_by}
-use Rattle.ec_intervals.proofs.Cut.{filter-front, cut-front, cut-behind, IsPlainRow-behind, pass-append, pass-spelt_through, is_some-open_through, fate, lasting-other, later, pass-later, pass-behind, begins_where, ends_where, ended_through-ends, later-begins, ended_through-begins, open_through-begins, ended_through-before_all, open_through-append, ended_through-append}
+use Rattle.ec_intervals.proofs.Cut.{filter-front, cut-front, cut-behind, IsPlainRow-behind, pass-append, pass-spelt_through, is_some-open_through, fate, lasting-other, later, pass-later, pass-behind, ended_through-ends, later-begins, ended_through-begins, open_through-begins, ended_through-before_all, open_through-append, ended_through-append}
 
 -- ---- lists
 
@@ -88,23 +88,19 @@ module _ (strong initial : Bool) (a b : ℤ) (before : List PlainMark) (front st
   abbrev pub opened : Option Begin
   opened = open_through strong (first_open initial) before
 
-  -- an interval ends before the window
-  abbrev pub ends_before : Interval → Bool
-  ends_before i = ends_where (λ e. int_lt e a) i
-
   module _ (old : List PlainMark) (from_a : list_all (λ (m : PlainMark). not (int_lt m.instant a)) old ≡ true)
       (row : IsPlainRow (before ++ old)) (is : front ++ starts ≡ pass interval_by strong (first_open initial) (before ++ old)) where
     whole : front ++ starts ≡ kept ++ pass interval_by strong opened old
     whole = is ∙ pass-append strong (first_open initial) before old
 
-    kept-ends : list_all ends_before kept ≡ true
+    kept-ends : list_all (ends_before a) kept ≡ true
     kept-ends = ended_through-ends (λ e. int_lt e a) strong (first_open initial) before before_a
 
-    left-ends : list_all (λ i. not (ends_before i)) (pass interval_by strong opened old) ≡ true
+    left-ends : list_all (λ i. not (ends_before a i)) (pass interval_by strong opened old) ≡ true
     left-ends =
-        ap (list_all (λ i. not (ends_before i))) (pass-spelt_through strong opened old)
-        ∙ list_all-both (λ i. not (ends_before i)) (ended_through strong opened old) (option_to_list (lasting (Some None) (open_through strong opened old)))
-        (list_all-weaker (ends_where (λ e. not (int_lt e a))) (λ i. not (ends_before i)) (λ i ends. other i.until ends) (ended_through strong opened old)
+        ap (list_all (λ i. not (ends_before a i))) (pass-spelt_through strong opened old)
+        ∙ list_all-both (λ i. not (ends_before a i)) (ended_through strong opened old) (option_to_list (lasting (Some None) (open_through strong opened old)))
+        (list_all-weaker (ends_where (λ e. not (int_lt e a))) (λ i. not (ends_before a i)) (λ i ends. other i.until ends) (ended_through strong opened old)
         (ended_through-ends (λ e. not (int_lt e a)) strong opened old from_a))
         (last (open_through strong opened old))
       where
@@ -112,24 +108,24 @@ module _ (strong initial : Bool) (a b : ℤ) (before : List PlainMark) (front st
         other None ends = refl
         other (Some e) ends = ends
 
-        last : (begun : Option Begin) → list_all (λ i. not (ends_before i)) (option_to_list (lasting (Some None) begun)) ≡ true
+        last : (begun : Option Begin) → list_all (λ i. not (ends_before a i)) (option_to_list (lasting (Some None) begun)) ≡ true
         last None = refl
         last (Some begin) = refl
 
     -- what ends before the window is what stays
-    pub kept-filter : filter ends_before (front ++ starts) ≡ kept
-    kept-filter = filter-front ends_before kept (pass interval_by strong opened old) (front ++ starts) (sym whole) kept-ends left-ends
+    pub kept-filter : filter (ends_before a) (front ++ starts) ≡ kept
+    kept-filter = filter-front (ends_before a) kept (pass interval_by strong opened old) (front ++ starts) (sym whole) kept-ends left-ends
 
-    pub kept-taken : (lo : ℕ) → list_all ends_before (take lo starts) ≡ true → list_all (λ i. not (ends_before i)) (drop lo starts) ≡ true →
-        filter ends_before front ++ take lo starts ≡ kept
+    pub kept-taken : (lo : ℕ) → list_all (ends_before a) (take lo starts) ≡ true → list_all (λ i. not (ends_before a i)) (drop lo starts) ≡ true →
+        filter (ends_before a) front ++ take lo starts ≡ kept
     kept-taken lo taken dropped =
-        ap (λ xs. filter ends_before front ++ xs) (sym (filter-front ends_before (take lo starts) (drop lo starts) starts (take-append-drop lo starts) taken dropped))
-        ∙ sym (filter-append ends_before front starts) ∙ kept-filter
+        ap (λ xs. filter (ends_before a) front ++ xs) (sym (filter-front (ends_before a) (take lo starts) (drop lo starts) starts (take-append-drop lo starts) taken dropped))
+        ∙ sym (filter-append (ends_before a) front starts) ∙ kept-filter
 
     -- one that begins before the window and does not end before it begins where the open begin is
-    pub opened-by : (i : Interval) → IsMember (front ++ starts) i → ends_before i ≡ false → begins_where (λ s. not (int_lt s a)) i.from ≡ false → opened ≡ Some i.from
+    pub opened-by : (i : Interval) → IsMember (front ++ starts) i → ends_before a i ≡ false → begins_where (λ s. not (int_lt s a)) i.from ≡ false → opened ≡ Some i.from
     opened-by i member not_ended not_later =
-        ⊎_elim (λ here. absurd (false≢true (sym not_ended ∙ list_all-member ends_before kept i kept-ends here)))
+        ⊎_elim (λ here. absurd (false≢true (sym not_ended ∙ list_all-member (ends_before a) kept i kept-ends here)))
         (λ there. ⊎_elim (λ lasts. from_open (fate (find (mark_breaks strong) old)) opened lasts)
         (λ later_on. absurd (false≢true (sym not_later ∙ list_all-member (λ (j : Interval). begins_where (λ s. not (int_lt s a)) j.from) (later strong (is_some opened) old) i
         (later-begins (λ s. not (int_lt s a)) strong (is_some opened) old from_a) later_on)))
@@ -148,10 +144,10 @@ module _ (strong initial : Bool) (a b : ℤ) (before : List PlainMark) (front st
     kept-before_all is = (ended_through-before_all strong (first_open initial) before is).1
 
     -- and else the front does
-    pub front-kept : opened ≢ Some before_all → filter ends_before front ≡ front
-    front-kept other = filter-all ends_before front (list_all-from_members ends_before front (λ i member. each i member (cases_Bool (ends_before i))))
+    pub front-kept : opened ≢ Some before_all → filter (ends_before a) front ≡ front
+    front-kept other = filter-all (ends_before a) front (list_all-from_members (ends_before a) front (λ i member. each i member (cases_Bool (ends_before a i))))
       where
-        each : (i : Interval) → IsMember front i → (ends_before i ≡ true) ⊎ (ends_before i ≡ false) → ends_before i ≡ true
+        each : (i : Interval) → IsMember front i → (ends_before a i ≡ true) ⊎ (ends_before a i ≡ false) → ends_before a i ≡ true
         each i member (inl ends) = ends
         each i member (inr goes_on) =
             let begin : i.from ≡ before_all = not-start i.from (not-true (is_start i.from) (list_all-member (λ (j : Interval). not (is_start j.from)) front i in_front member)) in

@@ -64,6 +64,10 @@ module _ {T : Type 0} (rank : T → ℤ) where
       ∙ ap (map (plain_mark rank)) (drop-cons marks i mark (slice_get_within marks i mark read) ∙ ap (λ m. m ∷ drop (suc i) marks) (get_or_from_slice_get marks i mark mark read))
       ∙ ap (λ ms. plain_mark rank mark ∷ ms) (sym (drop-map (plain_mark rank) (suc i) marks)))
 
+  -- and behind the last mark nothing is left
+  pub marks-none : (marks : List (Mark T)) (i : ℕ) → length marks ≤ i → drop i (plain_marks rank marks) ≡ []
+  marks-none marks i end = drop-map (plain_mark rank) i marks ∙ ap (map (plain_mark rank)) (drop_of_length-le marks end)
+
   -- a row of spans is a row of intervals
   pub IsSpanRow-from_intervals : (spans : List (Span T)) → IsIntervalRow (plain_intervals rank (map span_interval spans)) → IsSpanRow rank spans
   IsSpanRow-from_intervals spans row = record {

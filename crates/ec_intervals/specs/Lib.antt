@@ -1,4 +1,5 @@
 pub mod Table
 pub mod Kept
 pub mod Steps
+pub mod Drafts
 pub mod Broken

@@ -43,6 +43,33 @@ ended_by begun mark = if mark_terminates mark then option_map (interval_up_to ma
 abbrev pub broken_by : Bool → Option Begin → PlainMark → Option (Begin × ℤ)
 broken_by strong begun mark = if mark_breaks strong mark && not (mark_terminates mark) then option_map (λ begin. (begin, mark.instant)) begun else None
 
+-- ---- where an interval begins and ends
+
+-- the begin is an instant that passes a test
+abbrev pub begins_where : (ℤ → Bool) → Begin → Bool
+begins_where p before_all = false
+begins_where p (begin_at s) = p s
+
+-- the interval has an end, and that passes a test
+abbrev pub ends_where : (ℤ → Bool) → Interval → Bool
+ends_where p interval = option_map_or p interval.until false
+
+-- the interval ends before t
+abbrev pub ends_before : ℤ → Interval → Bool
+ends_before t interval = ends_where (λ x. int_lt x t) interval
+
+-- the interval begins behind t
+abbrev pub begins_behind : ℤ → Interval → Bool
+begins_behind t interval = begins_where (λ s. int_lt t s) interval.from
+
+-- the interval ends, and not behind t
+abbrev pub ends_by : ℤ → Interval → Bool
+ends_by t interval = option_map_or (λ x. int_le x t) interval.until false
+
+-- the end of the last of some intervals, where that goes on behind t
+abbrev pub end_behind : ℤ → List Interval → Option (Option ℤ)
+end_behind t intervals = option_and_then (λ (interval : Interval). if ends_by t interval then None else Some interval.until) (last_or None intervals)
+
 -- ---- several marks
 
 -- the begin that is open behind some marks
@@ -58,14 +85,6 @@ ended_through strong begun (m ∷ ms) = option_to_list (ended_by begun m) ++ end
 -- the intervals that some marks spell: those that they end, and that of the begin which is open behind them all
 abbrev pub spelt_through : Bool → Option Begin → List PlainMark → List Interval
 spelt_through strong begun marks = ended_through strong begun marks ++ option_to_list (option_map unended_interval (open_through strong begun marks))
-
--- the interval ends, and not behind t
-abbrev pub ends_by : ℤ → Interval → Bool
-ends_by t interval = option_map_or (λ x. int_le x t) interval.until false
-
--- the end of the last of some intervals, where that goes on behind t
-abbrev pub end_behind : ℤ → List Interval → Option (Option ℤ)
-end_behind t intervals = option_and_then (λ (interval : Interval). if ends_by t interval then None else Some interval.until) (last_or None intervals)
 
 -- a mark lies behind an instant, if one is given
 abbrev pub is_behind : Option ℤ → PlainMark → Bool
