@@ -1,8 +1,11 @@
 mod KeptRows
 mod Pass
 mod Cut
-mod Window
+mod TwoRows
+mod SpanCuts
 mod Reading
+mod Spliced
+mod Walking
 mod PassOrder
 mod Written
 mod FirstBroken

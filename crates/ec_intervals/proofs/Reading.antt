@@ -23,7 +23,7 @@ use Rattle.ec_intervals.proofs.Cut.{open_through-append, ended_through-append, o
 
 -- ---- the marks up to the first one behind an instant
 
-none_behind-up_to : (until : Option ℤ) (xs ys : List PlainMark) → list_all (λ m. not (is_behind until m)) xs ≡ true → up_to_first_behind until (xs ++ ys) ≡ xs ++ up_to_first_behind until ys
+pub none_behind-up_to : (until : Option ℤ) (xs ys : List PlainMark) → list_all (λ m. not (is_behind until m)) xs ≡ true → up_to_first_behind until (xs ++ ys) ≡ xs ++ up_to_first_behind until ys
 unfolding up_to_first_behind
 none_behind-up_to until [] ys none = refl
 none_behind-up_to until (m ∷ xs) ys none =
@@ -33,7 +33,7 @@ none_behind-up_to until (m ∷ xs) ys none =
     here true not_none = absurd (false≢true not_none)
     here false not_none = refl
 
-none_behind-find : (until : Option ℤ) (xs ys : List PlainMark) → list_all (λ m. not (is_behind until m)) xs ≡ true → find (is_behind until) (xs ++ ys) ≡ find (is_behind until) ys
+pub none_behind-find : (until : Option ℤ) (xs ys : List PlainMark) → list_all (λ m. not (is_behind until m)) xs ≡ true → find (is_behind until) (xs ++ ys) ≡ find (is_behind until) ys
 none_behind-find until [] ys none = refl
 none_behind-find until (m ∷ xs) ys none =
     here (is_behind until m) (and-left (not (is_behind until m)) _ none) ∙ none_behind-find until xs ys (and-right (not (is_behind until m)) _ none)
@@ -43,7 +43,7 @@ none_behind-find until (m ∷ xs) ys none =
     here false not_none = refl
 
 -- where none is behind it, these are all
-first_behind-None : (until : Option ℤ) (xs : List PlainMark) → first_behind until xs ≡ None → list_all (λ m. not (is_behind until m)) xs ≡ true
+pub first_behind-None : (until : Option ℤ) (xs : List PlainMark) → first_behind until xs ≡ None → list_all (λ m. not (is_behind until m)) xs ≡ true
 first_behind-None until [] none = refl
 first_behind-None until (m ∷ xs) none = here (is_behind until m) none (first_behind-None until xs)
   where
@@ -52,9 +52,25 @@ first_behind-None until (m ∷ xs) none = here (is_behind until m) none (first_b
     here true none rest = absurd (let no = none in cc)
     here false none rest = rest none
 
-up_to_all : (until : Option ℤ) (xs : List PlainMark) → list_all (λ m. not (is_behind until m)) xs ≡ true → up_to_first_behind until xs ≡ xs
+pub up_to_all : (until : Option ℤ) (xs : List PlainMark) → list_all (λ m. not (is_behind until m)) xs ≡ true → up_to_first_behind until xs ≡ xs
 unfolding up_to_first_behind
 up_to_all until xs none = ap (up_to_first_behind until) (sym (append-nil xs)) ∙ none_behind-up_to until xs [] none ∙ append-nil xs
+
+-- where no instant is given, all are read
+pub up_to-None : (xs : List PlainMark) → up_to_first_behind None xs ≡ xs
+unfolding up_to_first_behind
+up_to-None [] = refl
+up_to-None (m ∷ xs) = ap (λ ms. m ∷ ms) (up_to-None xs)
+
+-- no more are read than there are
+pub length-up_to : (until : Option ℤ) (xs : List PlainMark) → length (up_to_first_behind until xs) ≤ length xs
+unfolding up_to_first_behind
+length-up_to until [] = omega arith
+length-up_to until (m ∷ xs) = one (is_behind until m) (length-up_to until xs)
+  where
+    one : (b : Bool) → length (up_to_first_behind until xs) ≤ length xs → length (m ∷ cond b [] (up_to_first_behind until xs)) ≤ length (m ∷ xs)
+    one true rest = omega (arith, rest)
+    one false rest = omega (arith, rest)
 
 -- where one is, what follows is not read
 module _ (until : Option ℤ) where

@@ -1,5 +1,6 @@
 pub mod Table
-pub mod Kept
+pub mod RowViews
+pub mod OldMarks
 pub mod Steps
 pub mod Drafts
 pub mod Broken

@@ -1,6 +1,6 @@
 -- The intervals of all properties, by number, and how times in them are read as whole numbers.
-use Rattle.std.specs.Prelude.{◌≡◌, ◌++◌, ◌<◌, ◌≤◌, ◌^◌, ℕ, ℤ, Bool, List, [], ◌∷◌, map, length, Option, Some, None, is_some, IsTrue}
-use Rattle.std.specs.List.{slice_index_or}
+use Rattle.std.specs.Prelude.{◌≡◌, ◌++◌, ◌<◌, ◌≤◌, ◌^◌, ℕ, ℤ, Bool, List, [], ◌∷◌, map, filter, length, int_le, Option, Some, None, is_some, IsTrue}
+use Rattle.ec_numbered.specs.ByNumber.{kept_at}
 use Rattle.ec_axioms.specs.Timeline.{Begin as PlainBegin, before_all, begin_at, Interval as PlainInterval}
 use Rattle.ec_rows.specs.declared.span.End.{End}
 use Rattle.ec_rows.specs.declared.span.End.TheVariants.{At as Ended, Unended}
@@ -16,9 +16,10 @@ pub record IntervalRow (T : Type 0) : Type 0 where
   pub spans : List (Span T)
   pub room : ℕ
 
--- the rows by number, where there are some
-abbrev pub IntervalTable : Type 0 → Type 0
-IntervalTable T = List (Option (IntervalRow T))
+-- the rows by number, where there are some, and how many spans the buffer takes that they share
+pub record IntervalTable (T : Type 0) : Type 0 where
+  pub rows : List (Option (IntervalRow T))
+  pub buffer : ℕ
 
 -- ---- rows
 
@@ -54,7 +55,7 @@ members_in row = front_members (front_in row) ++ map span_interval (spans_in row
 
 -- the row of the property of a number, if there is one
 abbrev pub row_at : {T : Type 0} → ℕ → IntervalTable T → Option (IntervalRow T)
-row_at n table = slice_index_or table n None
+row_at n table = kept_at n table.rows
 
 -- the property of a number has a row
 abbrev pub has_row : {T : Type 0} → ℕ → IntervalTable T → Bool
@@ -73,9 +74,9 @@ room_at n table = room_in (row_at n table)
 abbrev pub members_at : {T : Type 0} → ℕ → IntervalTable T → List (Interval T)
 members_at n table = members_in (row_at n table)
 
--- each property has so few intervals that a word counts them
-abbrev pub AreFew : {T : Type 0} → IntervalTable T → Type 0
-AreFew table = (n : ℕ) → length (members_at n table) < 2 ^ 64
+-- each row has so few intervals that a word counts them
+abbrev pub AreFew : {T : Type 0} → List (Option (IntervalRow T)) → Type 0
+AreFew rows = (n : ℕ) → length (members_in (kept_at n rows)) < 2 ^ 64
 
 -- the front and the spans stay, no room falls, and a row stays there
 pub record IsGrown {T : Type 0} (old new : Option (IntervalRow T)) : Type 0 where
@@ -103,6 +104,14 @@ plain_interval rank interval = record { from = plain_begin rank interval.from; u
 -- intervals, with their times as whole numbers
 abbrev pub plain_intervals : {T : Type 0} → (T → ℤ) → List (Interval T) → List PlainInterval
 plain_intervals rank intervals = map (plain_interval rank) intervals
+
+-- spans as intervals, with their times as whole numbers
+abbrev pub plain_spans : {T : Type 0} → (T → ℤ) → List (Span T) → List PlainInterval
+plain_spans rank spans = plain_intervals rank (map span_interval spans)
+
+-- the spans that start up to t and at it
+abbrev pub spans_up_to : {T : Type 0} → (T → ℤ) → ℤ → List (Span T) → List (Span T)
+spans_up_to rank t spans = filter (λ span. int_le (rank span.from) t) spans
 
 -- a broken begin with its break, with their times as whole numbers
 abbrev pub plain_broken : {T : Type 0} → (T → ℤ) → Begin T × T → PlainBegin × ℤ

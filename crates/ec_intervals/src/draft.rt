@@ -6,6 +6,7 @@ ghost use Rattle.ec_intervals.specs.Drafts.{IsFresh, IsReadOver, drafted};
 ghost use Rattle.ec_intervals.specs.Steps.{ended_by, first_behind, is_behind, lasting, up_to_first_behind};
 ghost use Rattle.ec_intervals.specs.Table.{plain_begin, plain_end, plain_intervals};
 ghost use Rattle.ec_intervals.specs.declared.interval.Begin.TheVariants.{Initial};
+ghost use Rattle.ec_rows.specs.Marks.{IsMarkRow};
 ghost use Rattle.ec_rows.specs.PlainMarks.{plain_mark, plain_marks};
 
 use crate::interval::{Begin, Interval};
@@ -152,6 +153,7 @@ impl<T: Moment> Draft<T> {
         requires room { vec_len self.old.spans + length (M.marks row.now) ≤ vec_capacity self.old.spans }
         ensures read { IsReadOver T.rank strong (up_to_first_behind (option_map T.rank until) (drop first (plain_marks T.rank (M.marks row.now)))) self.old self.new }
         ensures last { option_map T.rank result ≡ first_behind (option_map T.rank until) (drop first (plain_marks T.rank (M.marks row.now))) }
+        ensures row { IsMarkRow T.rank (M.marks row.now) }
     {
         let mut i = first;
         while i < row.len() {

@@ -1,13 +1,17 @@
-ghost use Rattle.std.specs.Prelude.{◌≡◌, ◌≢◌, ℕ, ◌+◌, ◌<◌, ◌≤◌, ◌^◌, [], IsTrue, IfOk, IfSome, IfNone, OnOk, Some, None, length, slice_get};
+ghost use Rattle.std.specs.Prelude.{◌≡◌, ◌≢◌, ◌↔◌, ℕ, ◌+◌, ◌-◌, ◌<◌, ◌≤◌, ◌≤ℤ◌, [], IsTrue, IfSome, IfNone, OnErr, OnOk, Some, None, length, slice_get};
 ghost use Rattle.ec_axioms.specs.Marks.{spans_of};
+ghost use Rattle.ec_intervals.specs.OldMarks.{AreOfOldMarks};
 ghost use Rattle.ec_intervals.specs.Table.{IsGrown, front_at, has_row, members_at, plain_intervals, room_at, row_at, spans_at};
 ghost use Rattle.ec_rows.specs.PlainMarks.{plain_marks};
 
+use crate::draft::Draft;
 use crate::interval::Interval;
-use crate::row::{KeptRow, count_members, member_of};
-use crate::rows::{clear_in, find_row, prepare_row, rebuild_in};
+use crate::row::{KeptRow, clear_row, count_members, member_of};
+use crate::rows::prepare_row;
+use crate::write::{rebuild_row, splice_row};
 use ec_moment::Moment;
-use ec_rows::{End, MarkRow, Span, SpanRow};
+use ec_numbered::ByNumber;
+use ec_rows::{End, MarkRow, SpanRow};
 use ec_terms::{NoMemory, PropId};
 use std::alloc::Global;
 use std::marker::Model;
@@ -15,38 +19,37 @@ use std::marker::Model;
 /// The maximal validity intervals of each property, a row of them under the number of the property.
 ///
 /// The interval from before all events is the front of a row; the others, which begin at a time, are its spans.
-/// After `prepare` has made room for a row, it is rebuilt without memory. A span is handed to its row through a
-/// buffer with a place for one.
+/// Intervals are made from a row of marks alone. What is written goes through a buffer that all rows share. After
+/// `prepare` has made room, nothing takes memory.
 #[derive(Drop)]
 pub struct Intervals<T: Moment, I: SpanRow<T>> {
-    rows: Vec<Option<KeptRow<T, I>>>,
-    buffer: Vec<Span<T>>,
+    rows: ByNumber<KeptRow<T, I>>,
+    draft: Draft<T>,
     alloc: Global,
 }
 
 impl<T: Moment, I: SpanRow<T>> Model for Intervals<T, I> {
-    ghost use Rattle.std.specs.Prelude.{◌≤◌};
     ghost use Rattle.std.specs.Vec.{vec_capacity};
-    ghost use Rattle.ec_intervals.specs.Kept.{rows_seen};
+    ghost use Rattle.ec_intervals.specs.RowViews.{rows_seen};
     ghost use Rattle.ec_intervals.specs.Table.{AreFew, IntervalTable};
 
     ghost Value = { IntervalTable T };
 
-    ghost view = { λ intervals. rows_seen I.spans I.spare intervals.rows.items };
+    ghost view = { λ intervals. record { rows = rows_seen I.spans I.spare intervals.rows; buffer = vec_capacity intervals.draft.spans } };
 
-    ghost invariant = { λ intervals. AreFew (rows_seen I.spans I.spare intervals.rows.items) × (1 ≤ vec_capacity intervals.buffer) };
+    ghost invariant = { λ intervals. AreFew (rows_seen I.spans I.spare intervals.rows) };
 }
 
 impl<T: Moment, I: SpanRow<T>> Intervals<T, I> {
-    /// No rows.
-    pub fn new(alloc: Global) -> Result<Intervals<T, I>, NoMemory>
-        ensures { IfOk result (λ intervals. (n : ℕ) → row_at n intervals ≡ None) }
+    /// No rows, and a buffer for no span. It takes no memory.
+    pub fn new(alloc: Global) -> Intervals<T, I>
+        ensures { (n : ℕ) → row_at n result ≡ None }
     {
-        Ok(Intervals {
-            rows: Vec::new(alloc),
-            buffer: Vec::with_capacity(alloc, 1)?,
+        Intervals {
+            rows: ByNumber::new(alloc),
+            draft: Draft::new(alloc),
             alloc,
-        })
+        }
     }
 
     /// The spans of a property. `None` exactly where it has no row.
@@ -56,7 +59,7 @@ impl<T: Moment, I: SpanRow<T>> Intervals<T, I> {
         ensures room { IfSome result (λ row. room_at p.0 self.now ≡ I.spare row.now) }
         ensures none { IfNone result (row_at p.0 self.now ≡ None) }
     {
-        let kept = find_row(&self.rows, p)?;
+        let kept = self.rows.get(p)?;
         Some(&kept.spans)
     }
 
@@ -64,7 +67,7 @@ impl<T: Moment, I: SpanRow<T>> Intervals<T, I> {
     pub fn front(&self, p: PropId) -> Option<End<T>>
         ensures { result ≡ front_at p.0 self.now }
     {
-        let kept = find_row(&self.rows, p)?;
+        let kept = self.rows.get(p)?;
         kept.front
     }
 
@@ -72,7 +75,7 @@ impl<T: Moment, I: SpanRow<T>> Intervals<T, I> {
     pub fn len(&self, p: PropId) -> usize
         ensures { result ≡ length (members_at p.0 self.now) }
     {
-        match find_row(&self.rows, p) {
+        match self.rows.get(p) {
             Some(kept) => count_members(kept),
             None => 0,
         }
@@ -83,35 +86,78 @@ impl<T: Moment, I: SpanRow<T>> Intervals<T, I> {
         requires { i < length (members_at p.0 self.now) }
         ensures { slice_get (members_at p.0 self.now) i ≡ Some result }
     {
-        match find_row(&self.rows, p) {
+        match self.rows.get(p) {
             Some(kept) => member_of(kept, i),
             None => unreachable!(),
         }
     }
 
-    /// Gives a property a row, if it has none, and makes room in it for this many spans. `Err` is for want of
-    /// memory; then the row may be new.
-    pub fn prepare(&mut self, p: PropId, spans: usize) -> Result<(), NoMemory>
+    /// Gives a property a row, if it has none, and makes room: in its row for this many further spans, and in the buffer
+    /// for what so many marks spell. `Err`: memory ran out; then no row is new, and rooms alone may be larger.
+    pub fn prepare(&mut self, p: PropId, spans: usize, marks: usize) -> Result<(), NoMemory>
         ensures room { OnOk result (spans ≤ room_at p.0 self.new) }
+        ensures buffer { OnOk result (marks < self.new.buffer) }
         ensures row { OnOk result (IsTrue (has_row p.0 self.new)) }
+        ensures err { OnErr result (has_row p.0 self.new ≡ has_row p.0 self.old) }
         ensures grown { IsGrown (row_at p.0 self.old) (row_at p.0 self.new) }
+        ensures kept { self.old.buffer ≤ self.new.buffer }
         ensures others { (n : ℕ) → n ≢ p.0 → row_at n self.new ≡ row_at n self.old }
     {
+        let Some(buffer) = marks.checked_add(1) else {
+            return Err(NoMemory);
+        };
+        self.draft.make_room(buffer)?;
         prepare_row(&mut self.rows, p, spans, self.alloc)
     }
 
     /// Makes the intervals of a property anew: those that its row of marks spells, by the marks alone, in place of
-    /// those that were there. The property has a row with room for as many spans. It takes no memory.
+    /// those that were there. The property has a row with room for them, and the buffer has room for them too. It takes
+    /// no memory.
     pub fn rebuild<M: MarkRow<T>>(&mut self, p: PropId, row: &M, strong: bool, initial: bool)
         requires row { IsTrue (has_row p.0 self.old) }
-        requires room { length (spans_of (plain_marks T.rank (M.marks row.now)) strong initial) ≤ room_at p.0 self.old }
-        requires few { length (spans_of (plain_marks T.rank (M.marks row.now)) strong initial) < 2 ^ 64 }
+        requires room { length (spans_of (plain_marks T.rank (M.marks row.now)) strong initial) ≤ length (spans_at p.0 self.old) + room_at p.0 self.old }
+        requires buffer { length (M.marks row.now) < self.old.buffer }
         ensures intervals { plain_intervals T.rank (members_at p.0 self.new) ≡ spans_of (plain_marks T.rank (M.marks row.now)) strong initial }
-        ensures room { room_at p.0 self.old ≤ room_at p.0 self.new + length (spans_of (plain_marks T.rank (M.marks row.now)) strong initial) }
+        ensures room { room_at p.0 self.old ≤ room_at p.0 self.new + (length (spans_at p.0 self.new) - length (spans_at p.0 self.old)) }
+        ensures buffer { self.new.buffer ≡ self.old.buffer }
         ensures row { IsTrue (has_row p.0 self.new) }
         ensures others { (n : ℕ) → n ≢ p.0 → row_at n self.new ≡ row_at n self.old }
     {
-        rebuild_in(&mut self.rows, p, &mut self.buffer, row, strong, initial);
+        if let Some(kept) = self.rows.get_mut(p) {
+            rebuild_row(kept, &mut self.draft, row, strong, initial);
+        }
+    }
+
+    /// Mends the intervals of a property whose marks changed, from one time up to another and nowhere else: leaves those
+    /// that its row of marks spells now, as `rebuild` does. It reads the marks from `from` up to the first one behind
+    /// `until`, and back to the begin that is open at `from` where no interval shows it; and it writes no span that ends
+    /// before `from` or starts behind that mark. It tells whether the intervals differ; where they do not, nothing is
+    /// written. It takes no memory.
+    pub fn splice_from<M: MarkRow<T>>(
+        &mut self,
+        p: PropId,
+        row: &M,
+        strong: bool,
+        initial: bool,
+        from: T,
+        until: T,
+    ) -> bool
+        requires row { IsTrue (has_row p.0 self.old) }
+        requires ordered { T.rank from ≤ℤ T.rank until }
+        requires old { AreOfOldMarks T.rank (T.rank from) (T.rank until) strong initial (M.marks row.now) (plain_intervals T.rank (members_at p.0 self.old)) }
+        requires room { length (spans_of (plain_marks T.rank (M.marks row.now)) strong initial) ≤ length (spans_at p.0 self.old) + room_at p.0 self.old }
+        requires buffer { length (M.marks row.now) < self.old.buffer }
+        ensures intervals { plain_intervals T.rank (members_at p.0 self.new) ≡ spans_of (plain_marks T.rank (M.marks row.now)) strong initial }
+        ensures differs { IsTrue result ↔ (plain_intervals T.rank (members_at p.0 self.old) ≢ plain_intervals T.rank (members_at p.0 self.new)) }
+        ensures room { room_at p.0 self.old ≤ room_at p.0 self.new + (length (spans_at p.0 self.new) - length (spans_at p.0 self.old)) }
+        ensures buffer { self.new.buffer ≡ self.old.buffer }
+        ensures row { IsTrue (has_row p.0 self.new) }
+        ensures others { (n : ℕ) → n ≢ p.0 → row_at n self.new ≡ row_at n self.old }
+    {
+        match self.rows.get_mut(p) {
+            Some(kept) => splice_row(kept, &mut self.draft, row, strong, initial, from, until),
+            None => false,
+        }
     }
 
     /// Takes all intervals of a property out. Its row stays, empty, if it has one. It takes no memory.
@@ -119,9 +165,13 @@ impl<T: Moment, I: SpanRow<T>> Intervals<T, I> {
         ensures front { front_at p.0 self.new ≡ None }
         ensures spans { spans_at p.0 self.new ≡ [] }
         ensures room { room_at p.0 self.old ≤ room_at p.0 self.new }
+        ensures buffer { self.new.buffer ≡ self.old.buffer }
         ensures row { has_row p.0 self.new ≡ has_row p.0 self.old }
         ensures others { (n : ℕ) → n ≢ p.0 → row_at n self.new ≡ row_at n self.old }
     {
-        clear_in(&mut self.rows, p);
+        let Some(kept) = self.rows.get_mut(p) else {
+            return;
+        };
+        clear_row(kept);
     }
 }

@@ -10,6 +10,7 @@ mod rows;
 mod steps;
 #[cfg(test)]
 mod tests;
+mod window;
 mod write;
 
 pub use broken::broken_after;

@@ -1,6 +1,6 @@
 //! The row of one property: its intervals, read and written.
 ghost use Rattle.std.specs.Prelude.{◌≡◌, ◌<◌, ◌≤◌, ◌^◌, [], None, Some, length, slice_get};
-ghost use Rattle.ec_intervals.specs.Kept.{seen};
+ghost use Rattle.ec_intervals.specs.RowViews.{seen};
 ghost use Rattle.ec_intervals.specs.Table.{members_in};
 
 use crate::interval::{Begin, Interval, span_interval};

@@ -1,7 +1,7 @@
 //! A row of marks read from left to right: what one mark does to the begin that is open in front of it.
 ghost use Rattle.std.specs.Prelude.{◌≡◌, option_map};
 ghost use Rattle.ec_axioms.specs.Marks.{mark_breaks};
-ghost use Rattle.ec_intervals.specs.Steps.{broken_by, ended_by, first_open, open_behind, unended_interval};
+ghost use Rattle.ec_intervals.specs.Steps.{broken_by, ended_by, first_open, open_behind};
 ghost use Rattle.ec_intervals.specs.Table.{plain_begin, plain_broken, plain_interval};
 ghost use Rattle.ec_rows.specs.PlainMarks.{plain_mark};
 
@@ -10,7 +10,7 @@ use ec_moment::Moment;
 use ec_rows::{End, Mark};
 
 /// Whether a mark breaks: it terminates or clashes, or it initiates a strong property.
-fn breaks<T: Moment>(mark: Mark<T>, strong: bool) -> bool
+pub(crate) fn breaks<T: Moment>(mark: Mark<T>, strong: bool) -> bool
     ensures { result ≡ mark_breaks strong (plain_mark T.rank mark) }
 {
     mark.terms > 0 || mark.clashes > 0 || (strong && mark.inits > 0)
@@ -52,17 +52,6 @@ pub(crate) fn ended_by<T: Moment>(begun: Option<Begin<T>>, mark: Mark<T>) -> Opt
     Some(Interval {
         from,
         end: End::At(mark.at),
-    })
-}
-
-/// The interval that no mark ends: that of the begin which is open behind all marks.
-pub(crate) fn unended<T: Moment>(begun: Option<Begin<T>>) -> Option<Interval<T>>
-    ensures { option_map (plain_interval T.rank) result ≡ option_map unended_interval (option_map (plain_begin T.rank) begun) }
-{
-    let from = begun?;
-    Some(Interval {
-        from,
-        end: End::Unended,
     })
 }
 

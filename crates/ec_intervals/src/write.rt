@@ -1,100 +1,134 @@
-//! The row of one property, written anew from its row of marks.
-//!
-//! A row takes spans as a list. So each span goes through a buffer with a place for one, which is there beforehand.
-ghost use Rattle.std.specs.Prelude.{◌≡◌, ◌+◌, ◌≤◌, ◌∷◌, ◌++◌, [], Some, length};
-ghost use Rattle.std.specs.Option.{option_to_list};
+//! The row of one property, written from its row of marks: the whole row, or the part that a change touches.
+ghost use Rattle.std.specs.Prelude.{◌≡◌, ◌≢◌, ◌↔◌, ◌+◌, ◌-◌, ◌<◌, ◌≤◌, ◌≤ℤ◌, ◌∷◌, ◌++◌, [], Some, IsTrue, drop, length, map, take};
+ghost use Rattle.std.specs.List.{splice};
 ghost use Rattle.std.specs.Vec.{vec_capacity};
 ghost use Rattle.ec_axioms.specs.Marks.{spans_of};
-ghost use Rattle.ec_intervals.specs.Kept.{seen};
-ghost use Rattle.ec_intervals.specs.Steps.{IsIntervalRow};
-ghost use Rattle.ec_intervals.specs.Table.{members_in, plain_intervals};
+ghost use Rattle.ec_intervals.specs.OldMarks.{AreOfOldMarks};
+ghost use Rattle.ec_intervals.specs.RowViews.{seen};
+ghost use Rattle.ec_intervals.specs.Table.{front_members, members_in, plain_end, plain_intervals, plain_spans, span_interval};
+ghost use Rattle.ec_rows.specs.Marks.{IsMarkRow};
 ghost use Rattle.ec_rows.specs.PlainMarks.{plain_marks};
-ghost use Rattle.ec_rows.specs.Spans.{IsSpanRow};
 
-use crate::interval::{Begin, Interval};
-use crate::row::{KeptRow, clear_row};
-use crate::steps::{ended_by, first_open, open_behind, unended};
+use crate::draft::Draft;
+use crate::row::KeptRow;
+use crate::steps::first_open;
+use crate::window::draft_window;
 use ec_moment::Moment;
-use ec_rows::{MarkRow, Span, SpanRow};
+use ec_rows::{End, MarkRow, Span, SpanRow};
 
-/// Adds a span behind all others, where the row has room for it.
-fn add_span<T: Moment, I: SpanRow<T>>(spans: &mut I, buffer: &mut Vec<Span<T>>, span: Span<T>)
-    requires row { IsSpanRow T.rank (I.spans spans.old ++ span ∷ []) }
-    requires room { 1 ≤ I.spare spans.old }
-    requires buffer { 1 ≤ vec_capacity buffer.old }
-    ensures buffer { 1 ≤ vec_capacity buffer.new }
-    ensures spans { I.spans spans.new ≡ I.spans spans.old ++ span ∷ [] }
-    ensures room { I.spare spans.old ≤ I.spare spans.new + 1 }
-{
-    buffer.clear();
-    buffer.push_reserved(span);
-    let len = spans.len();
-    spans.splice(len, len, buffer);
-}
-
-/// Adds an interval behind all others, where the row has room for it. One from before all events is the first.
-fn add<T: Moment, I: SpanRow<T>>(
-    kept: &mut KeptRow<T, I>,
-    buffer: &mut Vec<Span<T>>,
-    interval: Interval<T>,
-)
-    requires row { IsIntervalRow (plain_intervals T.rank (members_in (Some (seen I.spans I.spare kept.old)) ++ interval ∷ [])) }
-    requires room { 1 ≤ I.spare kept.old.spans }
-    requires buffer { 1 ≤ vec_capacity buffer.old }
-    ensures buffer { 1 ≤ vec_capacity buffer.new }
-    ensures members { members_in (Some (seen I.spans I.spare kept.new)) ≡ members_in (Some (seen I.spans I.spare kept.old)) ++ interval ∷ [] }
-    ensures room { I.spare kept.old.spans ≤ I.spare kept.new.spans + 1 }
-{
-    match interval.from {
-        Begin::Initial => kept.front = Some(interval.end),
-        Begin::At(from) => {
-            let span = Span {
-                from,
-                end: interval.end,
-            };
-            add_span(&mut kept.spans, buffer, span);
-        }
-    }
-}
-
-/// Adds the next interval behind all others, if there is one.
-fn add_next<T: Moment, I: SpanRow<T>>(
-    kept: &mut KeptRow<T, I>,
-    buffer: &mut Vec<Span<T>>,
-    interval: Option<Interval<T>>,
-)
-    requires row { IsIntervalRow (plain_intervals T.rank (members_in (Some (seen I.spans I.spare kept.old)) ++ option_to_list interval)) }
-    requires room { length (option_to_list interval) ≤ I.spare kept.old.spans }
-    requires buffer { 1 ≤ vec_capacity buffer.old }
-    ensures buffer { 1 ≤ vec_capacity buffer.new }
-    ensures members { members_in (Some (seen I.spans I.spare kept.new)) ≡ members_in (Some (seen I.spans I.spare kept.old)) ++ option_to_list interval }
-    ensures room { I.spare kept.old.spans ≤ I.spare kept.new.spans + length (option_to_list interval) }
-{
-    if let Some(interval) = interval {
-        add(kept, buffer, interval);
-    }
-}
-
-/// Writes the intervals that a row of marks spells, in place of those that were there, in one pass over the marks.
+/// Writes the intervals that a row of marks spells, in place of those that were there: one pass over the marks, and one
+/// splice.
 pub(crate) fn rebuild_row<T: Moment, I: SpanRow<T>, M: MarkRow<T>>(
     kept: &mut KeptRow<T, I>,
-    buffer: &mut Vec<Span<T>>,
+    draft: &mut Draft<T>,
     row: &M,
     strong: bool,
-    is_initial: bool,
+    initial: bool,
 )
-    requires room { length (spans_of (plain_marks T.rank (M.marks row.now)) strong is_initial) ≤ I.spare kept.old.spans }
-    requires buffer { 1 ≤ vec_capacity buffer.old }
-    ensures buffer { 1 ≤ vec_capacity buffer.new }
-    ensures intervals { plain_intervals T.rank (members_in (Some (seen I.spans I.spare kept.new))) ≡ spans_of (plain_marks T.rank (M.marks row.now)) strong is_initial }
-    ensures room { I.spare kept.old.spans ≤ I.spare kept.new.spans + length (spans_of (plain_marks T.rank (M.marks row.now)) strong is_initial) }
+    requires room { length (spans_of (plain_marks T.rank (M.marks row.now)) strong initial) ≤ length (I.spans kept.old.spans) + I.spare kept.old.spans }
+    requires buffer { length (M.marks row.now) < vec_capacity draft.old.spans }
+    ensures row { IsMarkRow T.rank (M.marks row.now) }
+    ensures intervals { plain_intervals T.rank (members_in (Some (seen I.spans I.spare kept.new))) ≡ spans_of (plain_marks T.rank (M.marks row.now)) strong initial }
+    ensures room { I.spare kept.old.spans ≤ I.spare kept.new.spans + (length (I.spans kept.new.spans) - length (I.spans kept.old.spans)) }
+    ensures buffer { vec_capacity draft.new.spans ≡ vec_capacity draft.old.spans }
 {
-    clear_row(kept);
-    let mut begun = first_open(is_initial);
-    for i in 0..row.len() {
-        let mark = row.get(i);
-        add_next(kept, buffer, ended_by(begun, mark));
-        begun = open_behind(begun, mark, strong);
+    draft.start(first_open(initial));
+    draft.read_row(row, 0, strong, None);
+    draft.close(End::Unended);
+    kept.front = draft.front;
+    let len = kept.spans.len();
+    kept.spans.splice(0, len, &draft.spans);
+}
+
+/// Whether two ends are the same.
+fn is_same_end<T: Moment>(end: End<T>, other: End<T>) -> bool
+    ensures { IsTrue result ↔ (plain_end T.rank end ≡ plain_end T.rank other) }
+{
+    match (end, other) {
+        (End::At(t), End::At(u)) => t.order(&u).is_eq(),
+        (End::Unended, End::Unended) => true,
+        _ => false,
     }
-    add_next(kept, buffer, unended(begun));
+}
+
+/// Whether two fronts are the same, or both missing.
+fn is_same_front<T: Moment>(front: Option<End<T>>, other: Option<End<T>>) -> bool
+    ensures { IsTrue result ↔ (plain_intervals T.rank (front_members front) ≡ plain_intervals T.rank (front_members other)) }
+{
+    match (front, other) {
+        (Some(end), Some(other)) => is_same_end(end, other),
+        (None, None) => true,
+        _ => false,
+    }
+}
+
+/// Whether two spans are the same.
+fn is_same_span<T: Moment>(span: Span<T>, other: Span<T>) -> bool
+    ensures { IsTrue result ↔ (plain_spans T.rank (span ∷ []) ≡ plain_spans T.rank (other ∷ [])) }
+{
+    span.from.order(&other.from).is_eq() && is_same_end(span.end, other.end)
+}
+
+/// Whether the spans of a row from one place up to another are these.
+fn has_spans<T: Moment, I: SpanRow<T>>(spans: &I, from: usize, to: usize, with: &[Span<T>]) -> bool
+    requires ordered { from ≤ to }
+    requires within { to ≤ length (I.spans spans.now) }
+    ensures { IsTrue result ↔ (plain_spans T.rank (take (to - from) (drop from (I.spans spans.now))) ≡ plain_spans T.rank with.now) }
+{
+    if to - from != with.len() {
+        return false;
+    }
+    for (i, span) in with.iter().enumerate() {
+        if !is_same_span(spans.get(from + i), *span) {
+            return false;
+        }
+    }
+    true
+}
+
+/// Whether a draft in place of the spans from one place up to another leaves the intervals of a row as they are.
+fn is_same<T: Moment, I: SpanRow<T>>(
+    kept: &KeptRow<T, I>,
+    draft: &Draft<T>,
+    start: usize,
+    end: usize,
+) -> bool
+    requires ordered { start ≤ end }
+    requires within { end ≤ length (I.spans kept.now.spans) }
+    ensures { IsTrue result ↔ (plain_intervals T.rank (members_in (Some (seen I.spans I.spare kept.now))) ≡ plain_intervals T.rank (front_members draft.now.front ++ map span_interval (splice (I.spans kept.now.spans) start end draft.now.spans.items))) }
+{
+    if !is_same_front(kept.front, draft.front) {
+        return false;
+    }
+    has_spans(&kept.spans, start, end, &draft.spans)
+}
+
+/// Writes what a changed row of marks spells between two times, outside which its marks are those of the intervals that
+/// are there. Tells whether the intervals differ; where they do not, nothing is written.
+pub(crate) fn splice_row<T: Moment, I: SpanRow<T>, M: MarkRow<T>>(
+    kept: &mut KeptRow<T, I>,
+    draft: &mut Draft<T>,
+    row: &M,
+    strong: bool,
+    initial: bool,
+    from: T,
+    until: T,
+) -> bool
+    requires ordered { T.rank from ≤ℤ T.rank until }
+    requires old { AreOfOldMarks T.rank (T.rank from) (T.rank until) strong initial (M.marks row.now) (plain_intervals T.rank (members_in (Some (seen I.spans I.spare kept.old)))) }
+    requires room { length (spans_of (plain_marks T.rank (M.marks row.now)) strong initial) ≤ length (I.spans kept.old.spans) + I.spare kept.old.spans }
+    requires buffer { length (M.marks row.now) < vec_capacity draft.old.spans }
+    ensures row { IsMarkRow T.rank (M.marks row.now) }
+    ensures intervals { plain_intervals T.rank (members_in (Some (seen I.spans I.spare kept.new))) ≡ spans_of (plain_marks T.rank (M.marks row.now)) strong initial }
+    ensures differs { IsTrue result ↔ (plain_intervals T.rank (members_in (Some (seen I.spans I.spare kept.old))) ≢ plain_intervals T.rank (members_in (Some (seen I.spans I.spare kept.new)))) }
+    ensures room { I.spare kept.old.spans ≤ I.spare kept.new.spans + (length (I.spans kept.new.spans) - length (I.spans kept.old.spans)) }
+    ensures buffer { vec_capacity draft.new.spans ≡ vec_capacity draft.old.spans }
+{
+    let (start, end) = draft_window(kept, draft, row, strong, initial, from, until);
+    if is_same(kept, draft, start, end) {
+        return false;
+    }
+    kept.front = draft.front;
+    kept.spans.splice(start, end, &draft.spans);
+    true
 }

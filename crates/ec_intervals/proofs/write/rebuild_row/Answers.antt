@@ -1,76 +1,44 @@
--- Each mark adds the interval that it ends, and the last interval is that of the begin which is still open.
-use Rattle.std.proofs.Common.{◌++◌, Some, map, ap₂, arith}
-use Rattle.std.specs.Prelude.{option_map}
-use Rattle.ec_intervals.specs.Kept.{seen}
-use Rattle.ec_intervals.specs.Table.{members_in, front_members, span_interval, plain_begin}
-use Rattle.ec_intervals.proofs.Written.{IsWritten-none, row-mark, room-mark, IsWritten-mark, row-end, room-end, intervals-end, room_left-end}
+-- What is drafted of the whole row is what it spells, and it stands in place of all spans.
+use Rattle.std.proofs.Common.{◌≡◌, ◌++◌, Some, None, length, map, option_map, drop, refl, ap, sym, subst, ◌∙◌, arith}
+use Rattle.std.proofs.lemmas.List.{length-map, append-nil}
+use Rattle.std.proofs.Math.ListN.{drop_of_length-le}
+use Rattle.ec_rows.specs.PlainMarks.{plain_mark, plain_marks}
+use Rattle.ec_rows.specs.Spans.{IsSpanRow}
+use Rattle.ec_intervals.specs.Table.{front_members, members_in, plain_begin, plain_intervals, span_interval}
+use Rattle.ec_intervals.proofs.Reading.{length-up_to}
+use Rattle.ec_intervals.proofs.Spliced.{rebuilt, IsSpanRow-spelt, length-spelt}
 use Rattle.ec_intervals.proofs.write.rebuild_row.Goals as goal
 
-pub loop-i-init : goal.loop-i-init
-loop-i-init g c = record {
-  written = IsWritten-none g.T.Moment.rank (g.M.MarkRow.marks c.args.row.now) c.args.strong c.args.is_initial c.len-i-end.ensures.row
-      (g.I.SpanRow.spare c.clear_row.new.kept.spans) (g.I.SpanRow.spare c.clear_row.new.kept.spans) (option_map (plain_begin g.T.Moment.rank) c.first_open-begun.result)
-      (members_in (Some (seen g.I.SpanRow.spans g.I.SpanRow.spare c.clear_row.new.kept))) c.first_open-begun.ensures
-      (ap₂ (λ front spans. front_members front ++ map span_interval spans) c.clear_row.ensures.front c.clear_row.ensures.spans) (omega arith);
-  buffer = c.requires.buffer;
-}
+pub close-requires-clause-room : goal.close-requires-clause-room
+close-requires-clause-room g c =
+    let read = c.read_row.ensures.read in
+    let some = length-up_to None (plain_marks g.T.Moment.rank (g.M.MarkRow.marks c.args.row.now)) in
+    let all = length-map (g.M.MarkRow.marks c.args.row.now) (plain_mark g.T.Moment.rank) in
+    omega (arith, read.count, read.capacity, some, all, c.requires.buffer, c.start.ensures.len, c.start.ensures.capacity)
 
-pub add_next-requires-clause-row : goal.add_next-requires-clause-row
-add_next-requires-clause-row g c =
-    row-mark g.T.Moment.rank (g.M.MarkRow.marks c.args.row.now) c.args.strong c.args.is_initial c.len-i-end.ensures.row
-    (g.I.SpanRow.spare c.clear_row.new.kept.spans) c.loop-i.i (g.I.SpanRow.spare c.loop-i.kept.spans) (option_map (plain_begin g.T.Moment.rank) c.loop-i.begun)
-    (members_in (Some (seen g.I.SpanRow.spans g.I.SpanRow.spare c.loop-i.kept)))
-    c.ended_by.result c.loop-i.invariant.written c.get-mark.result c.get-mark.ensures.mark c.ended_by.ensures
+pub splice-requires-clause-spans : goal.splice-requires-clause-spans
+splice-requires-clause-spans g c =
+    let rest = drop_of_length-le (g.I.SpanRow.spans c.args.kept.now.spans) (omega (arith, c.len-len.ensures.len)) in
+    let written : c.deref.result.now ++ drop c.len-len.result (g.I.SpanRow.spans c.args.kept.now.spans) ≡ c.close.new.self.spans.items =
+    ap (λ xs. c.deref.result.now ++ xs) rest ∙ append-nil c.deref.result.now ∙ c.deref.ensures.value in
+    subst (IsSpanRow g.T.Moment.rank) (sym written)
+    (IsSpanRow-spelt g.T.Moment.rank (g.M.MarkRow.marks c.args.row.now) c.read_row.ensures.row c.args.strong c.args.initial c.close.new.self.front c.close.new.self.spans.items
+    (rebuilt g.T.Moment.rank (g.M.MarkRow.marks c.args.row.now) c.read_row.ensures.row c.args.strong c.args.initial c.start.new.self c.read_row.new.self c.close.new.self c.start.ensures.intervals
+    (ap (option_map (plain_begin g.T.Moment.rank)) c.start.ensures.begun ∙ c.first_open.ensures) c.read_row.ensures.read c.close.ensures.intervals))
 
-pub add_next-requires-clause-room : goal.add_next-requires-clause-room
-add_next-requires-clause-room g c =
-    room-mark g.T.Moment.rank (g.M.MarkRow.marks c.args.row.now) c.args.strong c.args.is_initial c.len-i-end.ensures.row
-    (g.I.SpanRow.spare c.clear_row.new.kept.spans) c.loop-i.i (g.I.SpanRow.spare c.loop-i.kept.spans) (option_map (plain_begin g.T.Moment.rank) c.loop-i.begun)
-    (members_in (Some (seen g.I.SpanRow.spans g.I.SpanRow.spare c.loop-i.kept)))
-    c.ended_by.result c.loop-i.invariant.written c.get-mark.result c.get-mark.ensures.mark c.ended_by.ensures
-    (omega (arith, c.requires.room, c.clear_row.ensures.room))
-
-pub loop-i-preserved : goal.loop-i-preserved
-loop-i-preserved g c = record {
-  written = IsWritten-mark g.T.Moment.rank (g.M.MarkRow.marks c.args.row.now) c.args.strong c.args.is_initial c.len-i-end.ensures.row
-      (g.I.SpanRow.spare c.clear_row.new.kept.spans) c.loop-i.i (g.I.SpanRow.spare c.loop-i.kept.spans) (option_map (plain_begin g.T.Moment.rank) c.loop-i.begun)
-      (members_in (Some (seen g.I.SpanRow.spans g.I.SpanRow.spare c.loop-i.kept)))
-      c.ended_by.result c.loop-i.invariant.written c.get-mark.result c.get-mark.ensures.mark c.ended_by.ensures
-      (members_in (Some (seen g.I.SpanRow.spans g.I.SpanRow.spare c.add_next.new.kept))) (g.I.SpanRow.spare c.add_next.new.kept.spans)
-      (option_map (plain_begin g.T.Moment.rank) c.open_behind-begun.result) c.add_next.ensures.members c.add_next.ensures.room c.open_behind-begun.ensures;
-  buffer = c.add_next.ensures.buffer;
-}
-
-pub add_next-requires-2-clause-row : goal.add_next-requires-2-clause-row
-add_next-requires-2-clause-row g c =
-    row-end g.T.Moment.rank (g.M.MarkRow.marks c.args.row.now) c.args.strong c.args.is_initial c.len-i-end.ensures.row
-    (g.I.SpanRow.spare c.clear_row.new.kept.spans) c.loop-i.i (g.I.SpanRow.spare c.loop-i.kept.spans) (option_map (plain_begin g.T.Moment.rank) c.loop-i.begun)
-    (members_in (Some (seen g.I.SpanRow.spans g.I.SpanRow.spare c.loop-i.kept)))
-    c.unended.result c.loop-i.invariant.written (omega (arith, c.loop-i-test.false, c.len-i-end.ensures.len)) c.unended.ensures
-
-pub add_next-requires-2-clause-room : goal.add_next-requires-2-clause-room
-add_next-requires-2-clause-room g c =
-    room-end g.T.Moment.rank (g.M.MarkRow.marks c.args.row.now) c.args.strong c.args.is_initial c.len-i-end.ensures.row
-    (g.I.SpanRow.spare c.clear_row.new.kept.spans) c.loop-i.i (g.I.SpanRow.spare c.loop-i.kept.spans) (option_map (plain_begin g.T.Moment.rank) c.loop-i.begun)
-    (members_in (Some (seen g.I.SpanRow.spans g.I.SpanRow.spare c.loop-i.kept)))
-    c.unended.result c.loop-i.invariant.written (omega (arith, c.loop-i-test.false, c.len-i-end.ensures.len)) c.unended.ensures
-    (omega (arith, c.requires.room, c.clear_row.ensures.room))
+pub splice-requires-clause-room : goal.splice-requires-clause-room
+splice-requires-clause-room g c =
+    let most = length-spelt g.T.Moment.rank (g.M.MarkRow.marks c.args.row.now) c.read_row.ensures.row c.args.strong c.args.initial c.close.new.self.front c.close.new.self.spans.items
+    (rebuilt g.T.Moment.rank (g.M.MarkRow.marks c.args.row.now) c.read_row.ensures.row c.args.strong c.args.initial c.start.new.self c.read_row.new.self c.close.new.self c.start.ensures.intervals
+    (ap (option_map (plain_begin g.T.Moment.rank)) c.start.ensures.begun ∙ c.first_open.ensures) c.read_row.ensures.read c.close.ensures.intervals) in
+    let count = ap length c.deref.ensures.value in
+    omega (arith, most, count, c.len-len.ensures.len, c.requires.room)
 
 pub returns-clause-intervals : goal.returns-clause-intervals
 returns-clause-intervals g c =
-    intervals-end g.T.Moment.rank (g.M.MarkRow.marks c.args.row.now) c.args.strong c.args.is_initial c.len-i-end.ensures.row
-    (g.I.SpanRow.spare c.clear_row.new.kept.spans) c.loop-i.i (g.I.SpanRow.spare c.loop-i.kept.spans) (option_map (plain_begin g.T.Moment.rank) c.loop-i.begun)
-    (members_in (Some (seen g.I.SpanRow.spans g.I.SpanRow.spare c.loop-i.kept)))
-    c.unended.result c.loop-i.invariant.written (omega (arith, c.loop-i-test.false, c.len-i-end.ensures.len)) c.unended.ensures
-    (members_in (Some (seen g.I.SpanRow.spans g.I.SpanRow.spare c.add_next-2.new.kept))) c.add_next-2.ensures.members
-
-pub returns-clause-room : goal.returns-clause-room
-returns-clause-room g c =
-    let room =
-    room_left-end g.T.Moment.rank (g.M.MarkRow.marks c.args.row.now) c.args.strong c.args.is_initial c.len-i-end.ensures.row
-    (g.I.SpanRow.spare c.clear_row.new.kept.spans) c.loop-i.i (g.I.SpanRow.spare c.loop-i.kept.spans) (option_map (plain_begin g.T.Moment.rank) c.loop-i.begun)
-    (members_in (Some (seen g.I.SpanRow.spans g.I.SpanRow.spare c.loop-i.kept)))
-    c.unended.result c.loop-i.invariant.written (omega (arith, c.loop-i-test.false, c.len-i-end.ensures.len)) c.unended.ensures
-    (members_in (Some (seen g.I.SpanRow.spans g.I.SpanRow.spare c.add_next-2.new.kept))) (g.I.SpanRow.spare c.add_next-2.new.kept.spans)
-    c.add_next-2.ensures.members c.add_next-2.ensures.room in
-    omega (arith, room, c.clear_row.ensures.room)
+    let rest = drop_of_length-le (g.I.SpanRow.spans c.args.kept.now.spans) (omega (arith, c.len-len.ensures.len)) in
+    let written : c.deref.result.now ++ drop c.len-len.result (g.I.SpanRow.spans c.args.kept.now.spans) ≡ c.close.new.self.spans.items =
+    ap (λ xs. c.deref.result.now ++ xs) rest ∙ append-nil c.deref.result.now ∙ c.deref.ensures.value in
+    ap (λ spans. plain_intervals g.T.Moment.rank (front_members c.close.new.self.front ++ map span_interval spans)) (c.splice.ensures.spans ∙ written)
+    ∙ rebuilt g.T.Moment.rank (g.M.MarkRow.marks c.args.row.now) c.read_row.ensures.row c.args.strong c.args.initial c.start.new.self c.read_row.new.self c.close.new.self c.start.ensures.intervals
+    (ap (option_map (plain_begin g.T.Moment.rank)) c.start.ensures.begun ∙ c.first_open.ensures) c.read_row.ensures.read c.close.ensures.intervals

@@ -5,6 +5,4 @@ use Rattle.ec_intervals.proofs.KeptRows.{row_at-kept}
 use Rattle.ec_intervals.proofs.intervals.Intervals.front.Goals as goal
 
 pub returns : goal.returns
-returns g c =
-    sym (ap front_in
-    (row_at-kept g.I.SpanRow.spans g.I.SpanRow.spare c.deref.result.now c.self.inside.rows.items c.args.self.now c.deref.ensures.value c.self.view_is c.args.p.0 c.in_ok-kept.kept.now c.in_ok-kept.ensures.some))
+returns g c = sym (ap front_in (row_at-kept g.I.SpanRow.spans g.I.SpanRow.spare c.self.inside.rows c.args.self.now (ap (λ t. t.rows) c.self.view_is) c.args.p.0 c.in_ok-kept.kept.now c.in_ok-kept.ensures))

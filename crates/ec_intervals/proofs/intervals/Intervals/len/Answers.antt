@@ -1,23 +1,17 @@
 -- The row that is found is that of the table.
-use Rattle.std.proofs.Common.{◌<◌, length, refl, sym, ap, subst, ◌∙◌}
+use Rattle.std.proofs.Common.{◌<◌, length, sym, ap, subst, ◌∙◌}
 use Rattle.std.specs.Prelude.{◌^◌}
+use Rattle.ec_intervals.specs.RowViews.{seen}
 use Rattle.ec_intervals.specs.Table.{members_in}
-use Rattle.ec_intervals.proofs.KeptRows.{row_at-kept, row_at-absent}
+use Rattle.ec_intervals.proofs.KeptRows.{kept_at-found, row_at-kept, row_at-absent}
 use Rattle.ec_intervals.proofs.intervals.Intervals.len.Goals as goal
 
 pub count_members-requires : goal.count_members-requires
 count_members-requires g c =
-    subst (λ row. length (members_in row) < 2 ^ 64)
-    (row_at-kept g.I.SpanRow.spans g.I.SpanRow.spare c.deref.result.now c.self.inside.rows.items _ c.deref.ensures.value refl c.args.p.0 c.in-Some.kept.now c.in-Some.ensures.some)
-    (c.self.invariant.0 c.args.p.0)
+    subst (λ row. length (members_in row) < 2 ^ 64) (kept_at-found g.I.SpanRow.spans g.I.SpanRow.spare c.self.inside.rows c.args.p.0 c.in-Some.kept.now c.in-Some.ensures) (c.self.invariant c.args.p.0)
 
 pub returns-in-Some : goal.returns-in-Some
-returns-in-Some g c =
-    c.count_members.ensures
-    ∙ sym (ap (λ row. length (members_in row))
-    (row_at-kept g.I.SpanRow.spans g.I.SpanRow.spare c.deref.result.now c.self.inside.rows.items c.args.self.now c.deref.ensures.value c.self.view_is c.args.p.0 c.in-Some.kept.now c.in-Some.ensures.some))
+returns-in-Some g c = c.count_members.ensures ∙ sym (ap (λ row. length (members_in row)) (row_at-kept g.I.SpanRow.spans g.I.SpanRow.spare c.self.inside.rows c.args.self.now (ap (λ t. t.rows) c.self.view_is) c.args.p.0 c.in-Some.kept.now c.in-Some.ensures))
 
 pub returns-in-None : goal.returns-in-None
-returns-in-None g c =
-    sym (ap (λ row. length (members_in row))
-    (row_at-absent g.I.SpanRow.spans g.I.SpanRow.spare c.deref.result.now c.self.inside.rows.items c.args.self.now c.deref.ensures.value c.self.view_is c.args.p.0 c.in-None.ensures.none))
+returns-in-None g c = sym (ap (λ row. length (members_in row)) (row_at-absent g.I.SpanRow.spans g.I.SpanRow.spare c.self.inside.rows c.args.self.now (ap (λ t. t.rows) c.self.view_is) c.args.p.0 c.in-None.ensures))

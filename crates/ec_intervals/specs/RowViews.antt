@@ -1,13 +1,9 @@
--- How rows are kept by number, and what is seen of them.
-use Rattle.std.specs.Prelude.{ℕ, List, map, Option, None, option_map}
-use Rattle.std.specs.List.{slice_index_or}
+-- What contracts see of the rows of intervals that are kept by number.
+use Rattle.std.specs.Prelude.{ℕ, List, map, Option, option_map}
+use Rattle.ec_numbered.specs.ByNumber.{kept_at}
 use Rattle.ec_rows.specs.declared.span.Span.{Span}
 use Rattle.ec_intervals.specs.declared.row.KeptRow.{KeptRow}
-use Rattle.ec_intervals.specs.Table.{IntervalRow, IntervalTable}
-
--- the row of a number as it is kept, if there is one
-abbrev pub kept_at : {X : Type 0} → ℕ → List (Option X) → Option X
-kept_at n rows = slice_index_or rows n None
+use Rattle.ec_intervals.specs.Table.{IntervalRow}
 
 -- what is seen of a row
 abbrev pub seen : {T I : Type 0} → (I → List (Span T)) → (I → ℕ) → KeptRow T I → IntervalRow T
@@ -18,5 +14,5 @@ abbrev pub seen_at : {T I : Type 0} → (I → List (Span T)) → (I → ℕ) �
 seen_at spans spare n rows = option_map (seen spans spare) (kept_at n rows)
 
 -- what is seen of all rows, by number
-abbrev pub rows_seen : {T I : Type 0} → (I → List (Span T)) → (I → ℕ) → List (Option (KeptRow T I)) → IntervalTable T
+abbrev pub rows_seen : {T I : Type 0} → (I → List (Span T)) → (I → ℕ) → List (Option (KeptRow T I)) → List (Option (IntervalRow T))
 rows_seen spans spare rows = map (option_map (seen spans spare)) rows

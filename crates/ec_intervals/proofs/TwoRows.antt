@@ -19,7 +19,7 @@ use Rattle.ec_intervals.proofs.Cut.{filter-front, cut-front, cut-behind, IsPlain
 
 -- ---- lists
 
-list_all-both : {X : Type 0} (p : X → Bool) (xs ys : List X) → list_all p xs ≡ true → list_all p ys ≡ true → list_all p (xs ++ ys) ≡ true
+pub list_all-both : {X : Type 0} (p : X → Bool) (xs ys : List X) → list_all p xs ≡ true → list_all p ys ≡ true → list_all p (xs ++ ys) ≡ true
 list_all-both p xs ys front back = list_all-append p xs ys ∙ ap₂ (λ a b. a && b) front back
 
 last_or-all : {X : Type 0} (p : X → Bool) (o : Option X) (xs : List X) → option_map_or p o true ≡ true → list_all p xs ≡ true → option_map_or p (last_or o xs) true ≡ true
@@ -46,7 +46,7 @@ end_behind-last t xs (Some i) front last =
     here true n = absurd (false≢true n)
     here false n = refl
 
-IsMember-front : {X : Type 0} (xs ys : List X) (x : X) → IsMember xs x → IsMember (xs ++ ys) x
+pub IsMember-front : {X : Type 0} (xs ys : List X) (x : X) → IsMember xs x → IsMember (xs ++ ys) x
 IsMember-front [] ys x member = absurd member
 IsMember-front (y ∷ xs) ys x (inl same) = inl same
 IsMember-front (y ∷ xs) ys x (inr rest) = inr (IsMember-front xs ys x rest)
@@ -68,9 +68,13 @@ later-start p i is = by_cases i.from is
     by_cases before_all is = is
     by_cases (begin_at s) is = refl
 
-not-true : (b : Bool) → not b ≡ true → b ≡ false
+pub not-true : (b : Bool) → not b ≡ true → b ≡ false
 not-true true is = absurd (false≢true is)
 not-true false is = refl
+
+pub not_false : (b : Bool) → not b ≡ false → b ≡ true
+not_false true is = refl
+not_false false is = absurd (false≢true (sym is))
 
 not_not : (b : Bool) → not (not b) ≡ true → b ≡ true
 not_not true is = refl
@@ -245,7 +249,14 @@ module _ (strong initial : Bool) (a b : ℤ) (before : List PlainMark) (front st
         by_cases true (Some begin) = later_than m.instant n.instant (behind n refl)
         by_cases false begun = refl
 
-    module _ (hi : ℕ) (taken : list_all (λ (i : Interval). up_to_m i.from) (take hi starts) ≡ true) (dropped : list_all (λ (i : Interval). not (up_to_m i.from)) (drop hi starts) ≡ true) where
+    module _ (hi : ℕ) (taken : list_all (λ (i : Interval). not (begins_behind m.instant i)) (take hi starts) ≡ true) (dropped : list_all (begins_behind m.instant) (drop hi starts) ≡ true) where
+      dropped_not : list_all (λ (i : Interval). not (up_to_m i.from)) (drop hi starts) ≡ true
+      dropped_not = list_all-weaker (begins_behind m.instant) (λ (i : Interval). not (up_to_m i.from)) (λ i. twice (begins_behind m.instant i)) (drop hi starts) dropped
+        where
+          twice : (b : Bool) → b ≡ true → not (not b) ≡ true
+          twice true is = refl
+          twice false is = is
+
       cut : (front ++ take hi starts) ++ drop hi starts ≡ (ended ++ option_to_list (lasting end old_open)) ++ later strong (mark_initiates m) ms
       cut = append_assoc front (take hi starts) (drop hi starts) ∙ ap (λ xs. front ++ xs) (take-append-drop hi starts) ∙ parts
 
@@ -257,7 +268,7 @@ module _ (strong initial : Bool) (a b : ℤ) (before : List PlainMark) (front st
       end_behind-old =
           ap (end_behind m.instant)
           (cut-front (λ (i : Interval). up_to_m i.from) (front ++ take hi starts) (drop hi starts) (ended ++ option_to_list (lasting end old_open)) (later strong (mark_initiates m) ms) cut
-          taken-up_to dropped parts-up_to later-behind)
+          taken-up_to dropped_not parts-up_to later-behind)
           ∙ end_behind-last m.instant ended (lasting end old_open) ended-by_m
           (lasts-behind (find (mark_breaks strong) ms) old_open
           (λ n found. list_all-member (λ (k : PlainMark). int_lt m.instant k.instant) ms n behind_m (find-Some (mark_breaks strong) ms n found).0))
@@ -267,15 +278,13 @@ module _ (strong initial : Bool) (a b : ℤ) (before : List PlainMark) (front st
           let some : is_marked m ≡ true = and-left (is_marked m) (list_all is_marked ms) (IsPlainRow-behind old (m ∷ ms) (IsPlainRow-behind before (old ++ m ∷ ms) row)).counted in
           is_some-open_through strong opened new m some ∙ sym (is_some-open_through strong opened old m some)
 
-      -- the new intervals: those that stay, those that the marks up to m end, that of the begin which is open behind m, and those that begin behind m
+      -- the new intervals from the window on: those that the marks up to m end, that of the begin which is open behind m, and those that begin behind m
       pub new-spelt :
-          pass interval_by strong (first_open initial) (before ++ (new ++ m ∷ ms))
-          ≡ kept ++ (ended_through strong opened (new ++ m ∷ []) ++ (option_to_list (lasting (end_behind m.instant (front ++ take hi starts)) new_open) ++ drop hi starts))
+          pass interval_by strong opened (new ++ m ∷ ms)
+          ≡ ended_through strong opened (new ++ m ∷ []) ++ (option_to_list (lasting (end_behind m.instant (front ++ take hi starts)) new_open) ++ drop hi starts)
       new-spelt =
-          pass-append strong (first_open initial) before (new ++ m ∷ ms)
-          ∙ ap (λ xs. kept ++ xs)
-          (pass-behind strong opened new m ms (IsPlainRow-behind before (new ++ m ∷ ms) new_row)
+          pass-behind strong opened new m ms (IsPlainRow-behind before (new ++ m ∷ ms) new_row)
           ∙ ap₂ (λ o xs. ended_through strong opened (new ++ m ∷ []) ++ (option_to_list o ++ xs))
           (sym (lasting-other end new_open old_open same_open) ∙ ap (λ e. lasting e new_open) (sym end_behind-old))
           (sym (cut-behind (λ (i : Interval). up_to_m i.from) (front ++ take hi starts) (drop hi starts) (ended ++ option_to_list (lasting end old_open)) (later strong (mark_initiates m) ms) cut
-          taken-up_to dropped parts-up_to later-behind)))
+          taken-up_to dropped_not parts-up_to later-behind))
