@@ -1,6 +1,6 @@
 -- Rows that are kept by number: what the table shows of them, and that they stay few.
 use Rattle.std.proofs.Common.{◌≡◌, ◌≢◌, ℕ, ◌<◌, zero, suc, ℤ, Bool, true, false, List, [], ◌∷◌, ◌++◌, length, Option, Some, None, is_some, refl, sym, ap, ap₂, subst, ◌∙◌, ⊎_elim, arith}
-use Rattle.std.specs.Prelude.{◌==◌, ◌^◌, option_map, map, slice_set, IsTrue}
+use Rattle.std.specs.Prelude.{◌==◌, ◌^◌, option_map, map, slice_set}
 use Rattle.std.proofs.lemmas.Bool.{cases_Bool, false≢true}
 use Rattle.std.proofs.lemmas.List.{get_or_past, length-map}
 use Rattle.ec_numbered.specs.ByNumber.{kept_at}
@@ -11,7 +11,7 @@ use Rattle.ec_rows.specs.declared.mark.Mark.{Mark}
 use Rattle.ec_axioms.specs.Marks.{spans_of}
 use Rattle.ec_intervals.specs.declared.row.KeptRow.{KeptRow}
 use Rattle.ec_intervals.specs.RowViews.{seen, seen_at, rows_seen}
-use Rattle.ec_intervals.specs.Table.{IntervalRow, IntervalTable, IsGrown, AreFew, has_row, row_at, members_at, members_in, front_in, spans_in, front_members, span_interval, plain_interval, plain_intervals}
+use Rattle.ec_intervals.specs.Table.{IntervalRow, IntervalTable, IsGrown, AreFew, has_row, row_at, members_in, front_in, spans_in, front_members, span_interval, plain_interval, plain_intervals}
 use Rattle.ec_intervals.proofs.Written.{length-spans_of}
 
 -- ---- numbers

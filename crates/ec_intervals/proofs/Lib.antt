@@ -6,6 +6,7 @@ mod SpanCuts
 mod Reading
 mod Spliced
 mod Walking
+pub mod OneMark
 mod PassOrder
 mod Written
 mod FirstBroken

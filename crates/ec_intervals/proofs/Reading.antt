@@ -7,7 +7,7 @@ use Rattle.std.specs.Vec.{vec_capacity}
 use Rattle.std.proofs.lemmas.Bool.{false≢true}
 use Rattle.std.proofs.lemmas.List.{append-nil, append_assoc, length-append, map-append, take-append-drop, drop-drop}
 use Rattle.std.proofs.lemmas.List.Folds.{list_all-append}
-use Rattle.ec_axioms.specs.Timeline.{before_all, Interval as PlainInterval}
+use Rattle.ec_axioms.specs.Timeline.{before_all}
 use Rattle.ec_axioms.specs.Marks.{PlainMark}
 use Rattle.ec_rows.specs.PlainMarks.{plain_mark, plain_marks}
 use Rattle.ec_rows.specs.declared.mark.Mark.{Mark}
@@ -18,7 +18,7 @@ use Rattle.ec_intervals.specs.declared.interval.Begin.TheVariants.{Initial, At}
 use Rattle.ec_intervals.specs.declared.interval.Interval.{Interval}
 use Rattle.ec_intervals.specs.Drafts.{drafted, IsFresh, IsReadOver}
 use Rattle.ec_intervals.specs.Steps.{open_behind, ended_by, open_through, ended_through, is_behind, up_to_first_behind, first_behind}
-use Rattle.ec_intervals.specs.Table.{plain_begin, plain_interval, plain_intervals}
+use Rattle.ec_intervals.specs.Table.{plain_begin, plain_intervals}
 use Rattle.ec_intervals.proofs.Cut.{open_through-append, ended_through-append, open_behind-before_all}
 
 -- ---- the marks up to the first one behind an instant

@@ -1,5 +1,5 @@
 -- Where a row of spans is cut by a time: which of its spans end before it, and which start up to it.
-use Rattle.std.proofs.Common.{◌≡◌, ℕ, ◌+◌, ◌<◌, ◌≤◌, zero, suc, ℤ, Bool, true, false, cond, not, ◌&&◌, ◌||◌, List, [], ◌∷◌, ◌++◌, map, filter, take, drop, length, Option, Some, None, refl, ap, ap₂, sym, subst, ◌∙◌, inl, inr, ◌⊎◌, ⊎_elim, get_or, arith}
+use Rattle.std.proofs.Common.{◌≡◌, ℕ, ◌+◌, ◌<◌, ◌≤◌, zero, suc, ℤ, Bool, true, false, cond, not, ◌&&◌, ◌||◌, List, [], ◌∷◌, ◌++◌, map, filter, take, drop, length, Some, refl, ap, ap₂, sym, subst, ◌∙◌, inl, inr, ◌⊎◌, ⊎_elim, get_or, arith}
 use Rattle.std.specs.Prelude.{int_lt, int_le, slice_get, IsTrue}
 use Rattle.std.specs.List.{list_all, list_any, HoldsAt, take-map, drop-map}
 use Rattle.std.specs.Option.{option_map_or}
@@ -10,7 +10,6 @@ use Rattle.std.proofs.lemmas.Option.{slice_get_past}
 use Rattle.std.proofs.lemmas.List.Filters.{length-filter_both}
 use Rattle.std.proofs.lemmas.List.Sums.{AllPass-from_list_all}
 use Rattle.std.proofs.Math.Seq.{take-append_seam, drop-append_seam}
-use Rattle.ec_axioms.proofs.Ranks.{int_lt-same, int_lt-not_after}
 use Rattle.ec_rows.specs.Ordered.{is_ascending, by_time}
 use Rattle.ec_rows.specs.Spans.{IsSpanRow, is_covering, reaches, ends_by, ends_after, span_before, spans_before, is_proper}
 use Rattle.ec_rows.specs.declared.span.End.{End}
@@ -164,12 +163,13 @@ module _ {T : Type 0} (rank : T → ℤ) where
       (list_all (ends_before a) (take i (plain_spans rank spans)) ≡ true) × (list_all (λ j. not (ends_before a j)) (drop i (plain_spans rank spans)) ≡ true)
   covering-cut a [] i row within covers = absurd (omega arith)
   covering-cut a (s ∷ spans) zero row within covers =
-      let reaching : reaches rank a s.end ≡ true = and-right (int_lt (rank s.from) a) (reaches rank a s.end) (covers s) in
-      (refl,
-      ap₂ (λ x y. x && y) (reaching-lasts a s reaching)
-      (from-last a spans (and-right (is_proper rank s) (list_all (is_proper rank) spans) row.proper)
-      (list_all-weaker (span_before rank s) (λ (other : Span T). not (int_lt (rank other.from) a)) (λ other before. ap not (behind-reaching a s other reaching before)) spans
-      (ascending-first (span_before rank) s spans row.ascending))))
+      let reaching : reaches rank a s.end ≡ true = and-right (int_lt (rank s.from) a) (reaches rank a s.end) (covers s) in (
+        refl,
+        ap₂ (λ x y. x && y) (reaching-lasts a s reaching)
+            (from-last a spans (and-right (is_proper rank s) (list_all (is_proper rank) spans) row.proper)
+            (list_all-weaker (span_before rank s) (λ (other : Span T). not (int_lt (rank other.from) a)) (λ other before. ap not (behind-reaching a s other reaching before)) spans
+            (ascending-first (span_before rank) s spans row.ascending))),
+      )
   covering-cut a (s ∷ spans) (suc i) row within covers =
       let rest = covering-cut a spans i (IsSpanRow-rest s spans row) (omega arith) (λ d. covers d) in
       let by : ends_by rank (rank (get_or spans i s).from) s.end ≡ true =
@@ -268,7 +268,7 @@ module _ {T : Type 0} (rank : T → ℤ) where
     pub up_to-end : length (spans_before rank t spans) ≡ length spans → length (spans_before rank t spans) ≡ length (spans_up_to rank t spans)
     up_to-end end =
         let count = length-spans_up_to t spans row
-            ∙ ap (λ o. length (spans_before rank t spans) + cond (option_map_or (λ (s : Span T). int_eq (rank s.from) t) o false) 1 0) (slice_get_past spans (length (spans_before rank t spans)) (omega arith)) in
+        ∙ ap (λ o. length (spans_before rank t spans) + cond (option_map_or (λ (s : Span T). int_eq (rank s.from) t) o false) 1 0) (slice_get_past spans (length (spans_before rank t spans)) (omega arith)) in
         omega (arith, count)
 
     module _ (span : Span T) (read : slice_get spans (length (spans_before rank t spans)) ≡ Some span) where

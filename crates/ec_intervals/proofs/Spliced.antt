@@ -1,7 +1,7 @@
 -- A row of intervals, mended where its marks changed: what is read of the old intervals, and that the new ones are spelt.
-use Rattle.std.proofs.Common.{◌≡◌, ◌≢◌, ℕ, ◌+◌, ◌-◌, ◌<◌, ◌≤◌, zero, suc, ℤ, Bool, true, false, cond, not, ◌&&◌, ◌||◌, List, [], ◌∷◌, ◌++◌, map, filter, find, take, drop, length, Option, Some, None, option_map, is_some, refl, ap, ap₂, sym, subst, ◌∙◌, inl, inr, arith}
+use Rattle.std.proofs.Common.{◌≡◌, ℕ, ◌+◌, ◌-◌, ◌<◌, ◌≤◌, zero, suc, ℤ, Bool, true, false, cond, not, ◌&&◌, ◌||◌, List, [], ◌∷◌, ◌++◌, map, filter, find, take, drop, length, Option, Some, None, option_map, refl, ap, ap₂, sym, subst, ◌∙◌, inl, inr, arith}
 use Rattle.std.specs.Prelude.{int_lt, int_le, slice_get, IsTrue}
-use Rattle.std.specs.List.{list_all, list_any, HoldsAt, last_or, take-map, drop-map, splice}
+use Rattle.std.specs.List.{list_all, list_any, HoldsAt, take-map, drop-map, splice}
 use Rattle.std.specs.Option.{option_map_or, option_to_list}
 use Rattle.std.proofs.lemmas.Bool.{false≢true}
 use Rattle.std.proofs.lemmas.Option.{slice_get_read, slice_get_within, get_or_from_slice_get}
@@ -10,13 +10,12 @@ use Rattle.std.proofs.lemmas.List.{append-nil, append_assoc, append_cancel_left,
 use Rattle.std.proofs.Math.Seq.{take-suc}
 use Rattle.std.proofs.lemmas.List.Filters.{length-filter_both}
 use Rattle.std.proofs.Math.ListN.{drop_of_length-le}
-use Rattle.std.proofs.lemmas.List.Folds.{list_all-append, list_all-map}
+use Rattle.std.proofs.lemmas.List.Folds.{list_all-map}
 use Rattle.std.proofs.lemmas.List.Elements.{filter-append}
 use Rattle.ec_axioms.specs.Timeline.{Begin, before_all, begin_at, Interval as PlainInterval}
 use Rattle.ec_axioms.specs.Marks.{PlainMark, spans_of}
 use Rattle.ec_axioms.proofs.Members.{IsMember, IsMember_at, filter-map}
 use Rattle.ec_axioms.proofs.Ranks.{int_lt-same}
-use Rattle.ec_rows.specs.Ordered.{is_ascending}
 use Rattle.ec_rows.specs.Marks.{IsMarkRow, mark_before, marks_before, marks_after}
 use Rattle.ec_rows.specs.PlainMarks.{plain_mark, plain_marks}
 use Rattle.ec_rows.specs.Spans.{IsSpanRow, is_covering, reaches}
@@ -26,7 +25,7 @@ use Rattle.ec_rows.specs.declared.span.Span.{Span}
 use Rattle.ec_rows.proofs.OrderedLemmas.{and-left, and-right, list_all-weaker}
 use Rattle.ec_intervals.specs.declared.draft.Draft.{Draft}
 use Rattle.ec_intervals.specs.declared.interval.Begin.{Begin as Begun}
-use Rattle.ec_intervals.specs.declared.interval.Begin.TheVariants.{Initial, At}
+use Rattle.ec_intervals.specs.declared.interval.Begin.TheVariants.{Initial}
 use Rattle.ec_intervals.specs.declared.interval.Interval.{Interval}
 use Rattle.ec_intervals.specs.Drafts.{drafted, IsReadOver}
 use Rattle.ec_intervals.specs.OldMarks.{AreOfOldMarks}
@@ -203,11 +202,12 @@ module _ {T : Type 0} (rank : T → ℤ) where
   members-apart : (front front' : Option (End T)) (xs ys : List (Span T)) →
       plain_intervals rank (front_members front ++ map span_interval xs) ≡ plain_intervals rank (front_members front' ++ map span_interval ys) →
       (plain_intervals rank (front_members front) ≡ plain_intervals rank (front_members front')) × (plain_spans rank xs ≡ plain_spans rank ys)
-  members-apart front front' xs ys same =
-      (cut-front (λ (i : PlainInterval). not (is_start i.from)) (plain_intervals rank (front_members front)) (plain_spans rank xs) (plain_intervals rank (front_members front')) (plain_spans rank ys) both
-      (front-not_start front) (starting xs) (front-not_start front') (starting ys),
-      cut-behind (λ (i : PlainInterval). not (is_start i.from)) (plain_intervals rank (front_members front)) (plain_spans rank xs) (plain_intervals rank (front_members front')) (plain_spans rank ys) both
-      (front-not_start front) (starting xs) (front-not_start front') (starting ys))
+  members-apart front front' xs ys same = (
+    cut-front (λ (i : PlainInterval). not (is_start i.from)) (plain_intervals rank (front_members front)) (plain_spans rank xs) (plain_intervals rank (front_members front')) (plain_spans rank ys) both
+        (front-not_start front) (starting xs) (front-not_start front') (starting ys),
+    cut-behind (λ (i : PlainInterval). not (is_start i.from)) (plain_intervals rank (front_members front)) (plain_spans rank xs) (plain_intervals rank (front_members front')) (plain_spans rank ys) both
+        (front-not_start front) (starting xs) (front-not_start front') (starting ys),
+  )
     where
       both : plain_intervals rank (front_members front) ++ plain_spans rank xs ≡ plain_intervals rank (front_members front') ++ plain_spans rank ys
       both = sym (plain-members front xs) ∙ same ∙ plain-members front' ys
@@ -239,12 +239,13 @@ module _ {T : Type 0} (rank : T → ℤ) where
     pub members-same : plain_intervals rank (front_members front ++ map span_interval spans) ≡ plain_intervals rank (front_members front' ++ map span_interval (splice spans start end with)) →
         (plain_intervals rank (front_members front) ≡ plain_intervals rank (front_members front')) × (plain_spans rank between ≡ plain_spans rank with)
     members-same same =
-        let apart = members-apart front front' spans (splice spans start end with) same in
-        (apart.0,
-        append_cancel_right (plain_spans rank between) (plain_spans rank with) (plain_spans rank (drop end spans))
-        (append_cancel_left (plain_spans rank (take start spans)) (plain_spans rank between ++ plain_spans rank (drop end spans)) (plain_spans rank with ++ plain_spans rank (drop end spans))
-        (sym (ap (plain_spans rank) whole-spans ∙ plain-append (take start spans) (between ++ drop end spans) ∙ ap (λ xs. plain_spans rank (take start spans) ++ xs) (plain-append between (drop end spans)))
-        ∙ apart.1 ∙ plain-append (take start spans) (with ++ drop end spans) ∙ ap (λ xs. plain_spans rank (take start spans) ++ xs) (plain-append with (drop end spans)))))
+        let apart = members-apart front front' spans (splice spans start end with) same in (
+          apart.0,
+          append_cancel_right (plain_spans rank between) (plain_spans rank with) (plain_spans rank (drop end spans))
+              (append_cancel_left (plain_spans rank (take start spans)) (plain_spans rank between ++ plain_spans rank (drop end spans)) (plain_spans rank with ++ plain_spans rank (drop end spans))
+              (sym (ap (plain_spans rank) whole-spans ∙ plain-append (take start spans) (between ++ drop end spans) ∙ ap (λ xs. plain_spans rank (take start spans) ++ xs) (plain-append between (drop end spans)))
+              ∙ apart.1 ∙ plain-append (take start spans) (with ++ drop end spans) ∙ ap (λ xs. plain_spans rank (take start spans) ++ xs) (plain-append with (drop end spans)))),
+        )
 
     pub length-spliced : end ≤ length spans → length (splice spans start end with) + (end - start) ≡ length spans + length with
     length-spliced within =

@@ -1,13 +1,13 @@
 -- The begin that is open behind the first marks of a row, found by walking back.
-use Rattle.std.proofs.Common.{◌≡◌, ℕ, ◌+◌, ◌-◌, ◌<◌, suc, ℤ, Bool, true, false, cond, not, ◌&&◌, ◌||◌, List, [], ◌∷◌, ◌++◌, map, take, length, Option, Some, None, option_map, is_some, refl, ap, ap₂, sym, subst, ◌∙◌, inl, inr, ◌⊎◌, arith}
+use Rattle.std.proofs.Common.{◌≡◌, ℕ, ◌-◌, ◌<◌, suc, ℤ, Bool, true, false, cond, not, ◌&&◌, ◌||◌, List, [], ◌∷◌, ◌++◌, map, take, Option, Some, None, option_map, is_some, refl, ap, ap₂, sym, ◌∙◌, inl, inr, ◌⊎◌, arith}
 use Rattle.std.specs.Prelude.{slice_get}
-use Rattle.std.specs.List.{list_all, last_or, take-map}
+use Rattle.std.specs.List.{last_or, take-map}
 use Rattle.std.proofs.lemmas.Bool.{false≢true}
 use Rattle.std.proofs.lemmas.Option.{slice_get_within, get_or_from_slice_get}
 use Rattle.std.proofs.lemmas.List.{map-append, append_assoc}
 use Rattle.std.proofs.Math.Seq.{take-suc}
 use Rattle.ec_axioms.specs.Timeline.{Begin, before_all, begin_at, Interval as PlainInterval}
-use Rattle.ec_axioms.specs.Marks.{PlainMark, is_marked, mark_initiates, mark_breaks}
+use Rattle.ec_axioms.specs.Marks.{mark_initiates, mark_breaks}
 use Rattle.ec_axioms.proofs.Members.{list_all-member}
 use Rattle.ec_rows.specs.Marks.{IsMarkRow, is_counted}
 use Rattle.ec_rows.specs.PlainMarks.{plain_mark, plain_marks}

@@ -1,17 +1,14 @@
 -- Rows of marks and of spans as rows of plain marks and of intervals.
-use Rattle.std.proofs.Common.{◌≡◌, ℕ, ◌+◌, ◌≤◌, suc, ℤ, Bool, true, false, ◌&&◌, List, [], ◌∷◌, ◌++◌, map, length, drop, Option, Some, None, option_map, refl, ap, ap₂, sym, subst, ◌∙◌, add-one, arith}
+use Rattle.std.proofs.Common.{◌≡◌, ℕ, ◌+◌, ◌≤◌, suc, ℤ, Bool, ◌&&◌, List, [], ◌∷◌, ◌++◌, map, length, drop, Option, Some, None, refl, ap, ap₂, sym, subst, ◌∙◌, add-one, arith}
 use Rattle.std.specs.Prelude.{slice_get}
-use Rattle.std.specs.List.{list_all, splice}
-use Rattle.std.specs.Option.{option_map_or, option_to_list}
+use Rattle.std.specs.List.{list_all}
 use Rattle.std.specs.List.{drop-map}
 use Rattle.std.proofs.lemmas.Option.{slice_get_within, get_or_from_slice_get}
 use Rattle.std.proofs.Math.Seq.{drop-cons}
-use Rattle.std.proofs.lemmas.Bool.{false≢true}
-use Rattle.std.proofs.lemmas.List.{append-nil, append_assoc, map-append, length-append, length-map, take_all}
-use Rattle.std.proofs.lemmas.List.Folds.{list_all-append}
+use Rattle.std.proofs.lemmas.List.{length-map}
 use Rattle.std.proofs.Math.ListN.{drop_of_length-le}
-use Rattle.ec_axioms.specs.Timeline.{Begin, before_all, Interval as PlainInterval}
-use Rattle.ec_axioms.specs.Marks.{PlainMark, spans_of}
+use Rattle.ec_axioms.specs.Timeline.{Interval as PlainInterval}
+use Rattle.ec_axioms.specs.Marks.{spans_of}
 use Rattle.ec_rows.specs.PlainMarks.{plain_mark, plain_marks}
 use Rattle.ec_rows.specs.Ordered.{is_ascending}
 use Rattle.ec_rows.specs.Marks.{IsMarkRow, mark_before, is_counted}
@@ -21,14 +18,13 @@ use Rattle.ec_rows.specs.declared.mark.Mark.{Mark}
 use Rattle.ec_rows.specs.declared.span.End.{End}
 use Rattle.ec_rows.specs.declared.span.End.TheVariants.{At as Ended, Unended}
 use Rattle.ec_rows.specs.declared.span.Span.{Span}
-use Rattle.ec_rows.proofs.OrderedLemmas.{and-left, and-right, ascending-first, ascending-rest}
-use Rattle.ec_intervals.specs.declared.interval.Begin.{Begin as Begun}
+use Rattle.ec_rows.proofs.OrderedLemmas.{and-right, ascending-rest}
 use Rattle.ec_intervals.specs.declared.interval.Begin.TheVariants.{Initial}
 use Rattle.ec_intervals.specs.declared.interval.Interval.{Interval}
-use Rattle.ec_intervals.specs.Steps.{first_open, open_behind, ended_by, unended_interval, is_proper, comes_before, IsIntervalRow}
+use Rattle.ec_intervals.specs.Steps.{first_open, is_proper, comes_before, IsIntervalRow}
 use Rattle.ec_intervals.specs.Table.{front_members, span_interval, plain_interval, plain_intervals}
-use Rattle.ec_intervals.proofs.Pass.{plain_before, IsPlainRow, pass, outcome, interval_by, length-pass, pass-spans_of, closing-ended_by}
-use Rattle.ec_intervals.proofs.PassOrder.{IsIntervalRow-front, IsIntervalRow-pass}
+use Rattle.ec_intervals.proofs.Pass.{plain_before, IsPlainRow, pass, interval_by, length-pass, pass-spans_of}
+use Rattle.ec_intervals.proofs.PassOrder.{IsIntervalRow-pass}
 
 -- ---- lists
 

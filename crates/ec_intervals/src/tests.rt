@@ -1,7 +1,12 @@
-//! The intervals and the broken begins of worked rows of marks.
+//! The intervals and the broken begins of worked rows of marks, and that a mended row is the one rebuilt.
+ghost use Rattle.std.specs.Prelude.{◌≡◌, IsTrue, OnOk};
+ghost use Rattle.ec_axioms.specs.Marks.{spans_of};
+ghost use Rattle.ec_intervals.specs.Table.{has_row, members_at, plain_intervals};
+ghost use Rattle.ec_rows.specs.Marks.{is_counted};
+ghost use Rattle.ec_rows.specs.PlainMarks.{plain_marks};
+
 use crate::{Begin, Interval, Intervals, broken_after};
 use ec_moment::{Moment, Tick};
-use ec_points::{MarkChange, Points};
 use ec_rows::{End, Mark, MarkRow, SpanRow, VecMarks, VecSpans};
 use ec_terms::{NoMemory, PropId};
 use std::alloc::Global;
@@ -11,6 +16,16 @@ type Given = (i64, u32, u32, u32);
 
 /// The property that the marks are of.
 const P: PropId = PropId(3);
+
+/// What can be at one time: nothing, a start, an end, both, a clash, a start with a clash.
+const KINDS: [(u32, u32, u32); 6] = [
+    (0, 0, 0),
+    (1, 0, 0),
+    (0, 1, 0),
+    (1, 1, 0),
+    (0, 0, 1),
+    (1, 0, 1),
+];
 
 /// A begin: before all events, or at a time.
 fn begin(at: Option<i64>) -> Begin<Tick> {
@@ -28,39 +43,81 @@ fn end(at: Option<i64>) -> End<Tick> {
     }
 }
 
-/// The points of these marks. Of two at one time the first counts.
-fn points(alloc: Global, given: &[Given]) -> Result<Points<Tick, VecMarks<Tick>>, NoMemory> {
-    let mut points = Points::with_initials(alloc, &[P])?;
-    let mut change = MarkChange::new(alloc)?;
-    for (at, inits, terms, clashes) in given {
-        let mark = Mark {
-            at: Tick(*at),
-            inits: *inits,
-            terms: *terms,
-            clashes: *clashes,
-        };
-        if !change.has(P, Tick(*at)) {
-            change.push(P, mark)?;
-        }
+/// A mark as it is given.
+fn mark(given: Given) -> Mark<Tick> {
+    let (at, inits, terms, clashes) = given;
+    Mark {
+        at: Tick(at),
+        inits,
+        terms,
+        clashes,
     }
-    points.prepare(&change)?;
-    points.apply(&change);
-    Ok(points)
 }
 
-/// Rebuilds the intervals of a property from a short row of marks, with room for one more than there are marks.
+/// Whether some count of a mark is not zero.
+fn is_counted<T: Moment>(mark: Mark<T>) -> bool
+    ensures { result ≡ is_counted mark }
+{
+    mark.inits > 0 || mark.terms > 0 || mark.clashes > 0
+}
+
+/// The row of the marks with a count.
+fn mark_row<M: MarkRow<Tick>>(alloc: Global, given: &[Given]) -> Result<M, NoMemory> {
+    let mut row = M::new(alloc)?;
+    for given in given {
+        let mark = mark(*given);
+        row.reserve(1)?;
+        if is_counted(mark) {
+            row.put(mark);
+        }
+    }
+    Ok(row)
+}
+
+/// Rebuilds the intervals of the property from a short row of marks.
 fn rebuild<T: Moment, I: SpanRow<T>, M: MarkRow<T>>(
     intervals: &mut Intervals<T, I>,
     row: &M,
     strong: bool,
     initial: bool,
-) -> Result<(), NoMemory> {
+) -> Result<(), NoMemory>
+    ensures spelt { OnOk result (plain_intervals T.rank (members_at P.0 intervals.new) ≡ spans_of (plain_marks T.rank (M.marks row.now)) strong initial) }
+    ensures there { OnOk result (IsTrue (has_row P.0 intervals.new)) }
+{
     let len = row.len();
-    if len < 100 {
-        intervals.prepare(P, len + 1)?;
-        intervals.rebuild(P, row, strong, initial);
-    }
+    let Some(spans) = len.checked_add(1) else {
+        return Err(NoMemory);
+    };
+    intervals.prepare(P, spans, len)?;
+    intervals.rebuild(P, row, strong, initial);
     Ok(())
+}
+
+/// Puts a mark into a short row, and mends the intervals that it spelt.
+fn mend<T: Moment, I: SpanRow<T>, M: MarkRow<T>>(
+    intervals: &mut Intervals<T, I>,
+    row: &mut M,
+    strong: bool,
+    initial: bool,
+    mark: Mark<T>,
+) -> Result<bool, NoMemory>
+    requires spelt { plain_intervals T.rank (members_at P.0 intervals.old) ≡ spans_of (plain_marks T.rank (M.marks row.old)) strong initial }
+    requires there { IsTrue (has_row P.0 intervals.old) }
+    requires counted { IsTrue (is_counted mark) }
+    ensures spelt { OnOk result (plain_intervals T.rank (members_at P.0 intervals.new) ≡ spans_of (plain_marks T.rank (M.marks row.new)) strong initial) }
+    ensures there { OnOk result (IsTrue (has_row P.0 intervals.new)) }
+{
+    if row.len() > 1000 {
+        return Err(NoMemory);
+    }
+    row.reserve(1)?;
+    row.put(mark);
+    let len = row.len();
+    let Some(spans) = len.checked_add(1) else {
+        return Err(NoMemory);
+    };
+    intervals.prepare(P, spans, len)?;
+    Ok(intervals.splice_from(P, row, strong, initial, mark.at, mark.at))
 }
 
 /// Whether a property has these intervals.
@@ -110,14 +167,11 @@ fn spells(
     wanted: &[(Option<i64>, Option<i64>)],
     broken: &[(Option<i64>, i64)],
 ) -> Result<bool, NoMemory> {
-    let points = points(alloc, marks)?;
-    let mut intervals: Intervals<Tick, VecSpans<Tick>> = Intervals::new(alloc)?;
-    let Some(row) = points.row(P) else {
-        return Ok(false);
-    };
-    rebuild(&mut intervals, row, !strong, true)?;
-    rebuild(&mut intervals, row, strong, initial)?;
-    Ok(has_members(&intervals, wanted) && has_broken(row, strong, initial, broken))
+    let row: VecMarks<Tick> = mark_row(alloc, marks)?;
+    let mut intervals: Intervals<Tick, VecSpans<Tick>> = Intervals::new(alloc);
+    rebuild(&mut intervals, &row, !strong, true)?;
+    rebuild(&mut intervals, &row, strong, initial)?;
+    Ok(has_members(&intervals, wanted) && has_broken(&row, strong, initial, broken))
 }
 
 #[test]
@@ -191,4 +245,60 @@ fn marks_spell_intervals_of_strong_and_initial_properties(rt: HostRuntime) {
     assert!(rt; spells(alloc, &[], false, true, &[(None, None)], &[]) == Ok(true));
     assert!(rt; spells(alloc, &[(7, 0, 1, 0)], false, true, &[(None, Some(7))], &[]) == Ok(true));
     assert!(rt; spells(alloc, &[(7, 0, 0, 1)], false, true, &[], &[(None, 7)]) == Ok(true));
+}
+
+/// Whether two tables have the same intervals of the property.
+fn have_same_members<I: SpanRow<Tick>>(
+    intervals: &Intervals<Tick, I>,
+    others: &Intervals<Tick, I>,
+) -> bool {
+    if intervals.len(P) != others.len(P) {
+        return false;
+    }
+    for i in 0..others.len(P) {
+        if i >= intervals.len(P) || intervals.member(P, i) != others.member(P, i) {
+            return false;
+        }
+    }
+    true
+}
+
+/// Whether a row of three marks whose kinds are the digits of a number, mended by one more mark, has the intervals of
+/// the row rebuilt. A mark with no count changes nothing.
+fn is_mended(
+    alloc: Global,
+    kinds: usize,
+    given: Given,
+    strong: bool,
+    initial: bool,
+) -> Result<bool, NoMemory> {
+    let kind = |digit: usize| KINDS[digit % 6];
+    let (a, b, c) = (kind(kinds), kind(kinds / 6), kind(kinds / 36));
+    let marks = [(1, a.0, a.1, a.2), (3, b.0, b.1, b.2), (5, c.0, c.1, c.2)];
+    let mut row: VecMarks<Tick> = mark_row(alloc, &marks)?;
+    let mut intervals: Intervals<Tick, VecSpans<Tick>> = Intervals::new(alloc);
+    rebuild(&mut intervals, &row, strong, initial)?;
+    let mark = mark(given);
+    if !is_counted(mark) {
+        return Ok(true);
+    }
+    mend(&mut intervals, &mut row, strong, initial, mark)?;
+    let mut wanted: Intervals<Tick, VecSpans<Tick>> = Intervals::new(alloc);
+    rebuild(&mut wanted, &row, strong, initial)?;
+    Ok(have_same_members(&intervals, &wanted))
+}
+
+#[test]
+fn mended_rows_are_those_rebuilt(rt: HostRuntime) {
+    let alloc = rt.alloc();
+    for kinds in 0..216 {
+        for at in 0..7 {
+            for (inits, terms, clashes) in KINDS {
+                let given = (at, inits, terms, clashes);
+                assert!(rt; is_mended(alloc, kinds, given, false, false) == Ok(true));
+                assert!(rt; is_mended(alloc, kinds, given, true, false) == Ok(true));
+                assert!(rt; is_mended(alloc, kinds, given, false, true) == Ok(true));
+            }
+        }
+    }
 }

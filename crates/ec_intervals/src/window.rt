@@ -137,11 +137,7 @@ fn last_end<T: Moment, I: SpanRow<T>>(kept: &KeptRow<T, I>, count: usize) -> Opt
 }
 
 /// The end of the last of the front and the first `count` spans, if it goes on behind a time.
-fn end_behind<T: Moment, I: SpanRow<T>>(
-    kept: &KeptRow<T, I>,
-    count: usize,
-    at: T,
-) -> Option<End<T>>
+fn end_behind<T: Moment, I: SpanRow<T>>(kept: &KeptRow<T, I>, count: usize, at: T) -> Option<End<T>>
     requires { count ≤ length (I.spans kept.now.spans) }
     ensures { option_map (plain_end T.rank) result ≡ end_behind (T.rank at) (plain_intervals T.rank (front_members kept.now.front ++ map span_interval (take count (I.spans kept.now.spans)))) }
 {

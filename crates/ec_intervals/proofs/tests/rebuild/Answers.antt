@@ -7,8 +7,3 @@ pub rebuild-requires-clause-room : goal.rebuild-requires-clause-room
 rebuild-requires-clause-room g c =
     let most = length-spans_of g.T.Moment.rank (g.M.MarkRow.marks c.args.row.now) c.args.strong c.args.initial c.len-len.ensures.row in
     omega (arith, most, c.len-len.ensures.len, c.in_ok-prepare.ensures.room)
-
-pub rebuild-requires-clause-few : goal.rebuild-requires-clause-few
-rebuild-requires-clause-few g c =
-    let most = length-spans_of g.T.Moment.rank (g.M.MarkRow.marks c.args.row.now) c.args.strong c.args.initial c.len-len.ensures.row in
-    omega (arith, most, c.len-len.ensures.len, c.if-len-lt100.true)

@@ -1,6 +1,6 @@
 -- As many spans start up to a time as before it, and one more where the next one starts at it.
-use Rattle.std.proofs.Common.{◌≡◌, ◌+◌, ◌<◌, not, length, refl, ap, sym, subst, ◌∙◌, arith}
-use Rattle.std.specs.Prelude.{int_lt, slice_get, Some}
+use Rattle.std.proofs.Common.{◌+◌, not, refl, ap, sym, ◌∙◌, arith}
+use Rattle.std.specs.Prelude.{int_lt, slice_get}
 use Rattle.std.specs.Ordering.{is_eq}
 use Rattle.std.proofs.lemmas.List.Filters.{length-filter_both}
 use Rattle.ec_rows.specs.declared.span.Span.{Span}

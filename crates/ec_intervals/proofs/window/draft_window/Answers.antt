@@ -1,5 +1,5 @@
 -- The draft stands for the spans of the window, and with them for all that the row spells.
-use Rattle.std.proofs.Common.{◌≡◌, Some, option_map, drop, ap, sym, ◌∙◌, true, arith}
+use Rattle.std.proofs.Common.{◌≡◌, option_map, drop, ap, sym, ◌∙◌, arith}
 use Rattle.std.proofs.lemmas.Bool.{false≢true}
 use Rattle.ec_axioms.proofs.Ranks.{le_int_le}
 use Rattle.ec_rows.specs.PlainMarks.{plain_marks}

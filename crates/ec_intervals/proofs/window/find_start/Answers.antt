@@ -1,5 +1,5 @@
 -- A span that covers the time, or else a front that reaches it, begins where the open begin is.
-use Rattle.std.proofs.Common.{◌≡◌, true, not, length, refl, ap, sym, subst, ◌∙◌, take, drop, arith}
+use Rattle.std.proofs.Common.{not, refl, ap, sym, subst, ◌∙◌, take, drop, arith}
 use Rattle.std.specs.Prelude.{int_lt, IsTrue}
 use Rattle.std.specs.List.{list_all}
 use Rattle.std.proofs.lemmas.List.Filters.{length-filter_both}

@@ -1,19 +1,20 @@
 -- The spans are the same as far as they have been compared, and where two differ the lists do.
-use Rattle.std.proofs.Common.{◌≡◌, ◌+◌, ◌-◌, ◌<◌, length, take, drop, refl, sym, ◌∙◌, arith}
+use Rattle.std.proofs.Common.{◌-◌, length, drop, refl, sym, ◌∙◌, arith}
 use Rattle.std.proofs.lemmas.Bool.{false≢true}
 use Rattle.std.proofs.lemmas.Option.{slice_get_read}
 use Rattle.ec_intervals.proofs.Spliced.{same-next, next-same, slice_get-drop}
 use Rattle.ec_intervals.proofs.write.has_spans.Goals as goal
 
 pub returns-then-not-is_same_span : goal.returns-then-not-is_same_span
-returns-then-not-is_same_span g c =
-    (λ never. absurd (false≢true never),
-    λ same. absurd (false≢true (sym c.if-not-is_same_span.true
-    ∙ c.is_same_span.ensures.1
-    (next-same g.T.Moment.rank (drop c.args.from (g.I.SpanRow.spans c.args.spans.now)) c.args.with.now c.loop-i.i c.get.result c.index-with-i.result
-    (slice_get-drop (g.I.SpanRow.spans c.args.spans.now) c.args.from c.loop-i.i c.get.result c.get.ensures.span)
-    (slice_get_read c.args.with.now (length c.args.with.now) c.loop-i.i c.index-with-i.result refl (omega arith) c.index-with-i.is) c.loop-i.invariant
-    (c.args.to - c.args.from) (omega arith) same))))
+returns-then-not-is_same_span g c = (
+  λ never. absurd (false≢true never),
+  λ same. absurd (false≢true (sym c.if-not-is_same_span.true
+      ∙ c.is_same_span.ensures.1
+      (next-same g.T.Moment.rank (drop c.args.from (g.I.SpanRow.spans c.args.spans.now)) c.args.with.now c.loop-i.i c.get.result c.index-with-i.result
+      (slice_get-drop (g.I.SpanRow.spans c.args.spans.now) c.args.from c.loop-i.i c.get.result c.get.ensures.span)
+      (slice_get_read c.args.with.now (length c.args.with.now) c.loop-i.i c.index-with-i.result refl (omega arith) c.index-with-i.is) c.loop-i.invariant
+      (c.args.to - c.args.from) (omega arith) same))),
+)
 
 pub loop-i-preserved : goal.loop-i-preserved
 loop-i-preserved g c =

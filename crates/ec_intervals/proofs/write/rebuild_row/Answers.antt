@@ -1,10 +1,10 @@
 -- What is drafted of the whole row is what it spells, and it stands in place of all spans.
-use Rattle.std.proofs.Common.{◌≡◌, ◌++◌, Some, None, length, map, option_map, drop, refl, ap, sym, subst, ◌∙◌, arith}
+use Rattle.std.proofs.Common.{◌≡◌, ◌++◌, None, length, map, option_map, drop, ap, sym, subst, ◌∙◌, arith}
 use Rattle.std.proofs.lemmas.List.{length-map, append-nil}
 use Rattle.std.proofs.Math.ListN.{drop_of_length-le}
 use Rattle.ec_rows.specs.PlainMarks.{plain_mark, plain_marks}
 use Rattle.ec_rows.specs.Spans.{IsSpanRow}
-use Rattle.ec_intervals.specs.Table.{front_members, members_in, plain_begin, plain_intervals, span_interval}
+use Rattle.ec_intervals.specs.Table.{front_members, plain_begin, plain_intervals, span_interval}
 use Rattle.ec_intervals.proofs.Reading.{length-up_to}
 use Rattle.ec_intervals.proofs.Spliced.{rebuilt, IsSpanRow-spelt, length-spelt}
 use Rattle.ec_intervals.proofs.write.rebuild_row.Goals as goal

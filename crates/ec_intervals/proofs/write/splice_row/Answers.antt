@@ -1,5 +1,5 @@
 -- What is written is what the row spells.
-use Rattle.std.proofs.Common.{sym, subst, ap}
+use Rattle.std.proofs.Common.{sym, subst}
 use Rattle.std.specs.List.{splice}
 use Rattle.ec_rows.specs.Spans.{IsSpanRow}
 use Rattle.ec_intervals.proofs.Spliced.{IsSpanRow-spelt}

@@ -1,5 +1,5 @@
 -- The marks are read run after run.
-use Rattle.std.proofs.Common.{◌≡◌, ◌+◌, length, drop, option_map, is_some, refl, sym, ap, subst, ◌∙◌, arith}
+use Rattle.std.proofs.Common.{◌+◌, length, drop, option_map, is_some, sym, ap, subst, ◌∙◌, arith}
 use Rattle.std.proofs.lemmas.List.{length-map, length-drop, length-append}
 use Rattle.ec_rows.specs.PlainMarks.{plain_mark, plain_marks}
 use Rattle.ec_intervals.proofs.FirstBroken.{is_some-map}
@@ -50,9 +50,11 @@ loop-i-preserved g c =
     let all = plain_marks rank (g.M.MarkRow.marks c.args.row.now) in
     let until = option_map rank c.args.until in
     let next = marks-run rank (g.M.MarkRow.marks c.args.row.now) c.run-run.result.now c.loop-i.i c.run-run.ensures.run in
-    record { read = IsReadUpTo-run rank c.args.strong until (drop c.args.first all) (plain_marks rank c.run-run.result.now) (drop (c.loop-i.i + length c.run-run.result.now) all) c.args.self.now c.loop-i.self c.read_run-last.new.self
-    (subst (λ left. IsReadUpTo rank c.args.strong until (drop c.args.first all) left c.args.self.now c.loop-i.self) next c.loop-i.invariant.read) c.read_run-last.ensures.read
-    (sym c.read_run-last.ensures.last ∙ ap (option_map rank) (none-is c.read_run-last.result (sym c.is_some.ensures ∙ c.if-is_some.false))) }
+    record {
+      read = IsReadUpTo-run rank c.args.strong until (drop c.args.first all) (plain_marks rank c.run-run.result.now) (drop (c.loop-i.i + length c.run-run.result.now) all) c.args.self.now c.loop-i.self c.read_run-last.new.self
+          (subst (λ left. IsReadUpTo rank c.args.strong until (drop c.args.first all) left c.args.self.now c.loop-i.self) next c.loop-i.invariant.read) c.read_run-last.ensures.read
+          (sym c.read_run-last.ensures.last ∙ ap (option_map rank) (none-is c.read_run-last.result (sym c.is_some.ensures ∙ c.if-is_some.false)));
+    }
 
 pub returns-clause-read : goal.returns-clause-read
 returns-clause-read g c =

@@ -1,5 +1,5 @@
 -- The marks are read one after the other, up to the first one behind the time.
-use Rattle.std.proofs.Common.{◌≡◌, ◌+◌, length, drop, option_map, refl, sym, subst, ◌∙◌, arith}
+use Rattle.std.proofs.Common.{◌+◌, length, drop, option_map, refl, sym, subst, ◌∙◌, arith}
 use Rattle.std.proofs.lemmas.Option.{slice_get_read}
 use Rattle.ec_rows.specs.PlainMarks.{plain_mark, plain_marks}
 use Rattle.ec_intervals.proofs.Written.{marks-next, marks-none}
@@ -40,9 +40,11 @@ loop-mark-preserved g c =
     let until = option_map rank c.args.until in
     let next = marks-next rank c.args.marks.now c.loop-mark.mark-index c.mark-item.result
     (slice_get_read c.args.marks.now (length c.args.marks.now) c.loop-mark.mark-index c.mark-item.result refl (omega arith) c.mark-item.is) in
-    record { read = IsReadUpTo-one rank c.args.strong until whole (plain_mark rank c.mark-item.result) (drop (c.loop-mark.mark-index + 1) whole) c.args.self.now c.loop-mark.self c.read.new.self
-    (subst (λ left. IsReadUpTo rank c.args.strong until whole left c.args.self.now c.loop-mark.self) next c.loop-mark.invariant.read) c.read.ensures
-    (sym c.is_behind.ensures ∙ c.if-is_behind.false) }
+    record {
+      read = IsReadUpTo-one rank c.args.strong until whole (plain_mark rank c.mark-item.result) (drop (c.loop-mark.mark-index + 1) whole) c.args.self.now c.loop-mark.self c.read.new.self
+          (subst (λ left. IsReadUpTo rank c.args.strong until whole left c.args.self.now c.loop-mark.self) next c.loop-mark.invariant.read) c.read.ensures
+          (sym c.is_behind.ensures ∙ c.if-is_behind.false);
+    }
 
 pub returns-clause-read : goal.returns-clause-read
 returns-clause-read g c =

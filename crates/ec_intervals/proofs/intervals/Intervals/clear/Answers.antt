@@ -1,5 +1,5 @@
 -- The row that is cleared is that of the table.
-use Rattle.std.proofs.Common.{◌≤◌, is_some, sym, ap, ◌∙◌, arith}
+use Rattle.std.proofs.Common.{is_some, sym, ap, ◌∙◌, arith}
 use Rattle.ec_intervals.specs.Table.{front_in, spans_in, room_in}
 use Rattle.ec_intervals.proofs.KeptRows.{written-row, written-others, written-old, AreFew-emptied}
 use Rattle.ec_intervals.proofs.intervals.Intervals.clear.Goals as goal

@@ -1,7 +1,6 @@
 -- The row that is found is that of the table.
 use Rattle.std.proofs.Common.{◌<◌, length, sym, ap, subst, ◌∙◌}
 use Rattle.std.specs.Prelude.{◌^◌}
-use Rattle.ec_intervals.specs.RowViews.{seen}
 use Rattle.ec_intervals.specs.Table.{members_in}
 use Rattle.ec_intervals.proofs.KeptRows.{kept_at-found, row_at-kept, row_at-absent}
 use Rattle.ec_intervals.proofs.intervals.Intervals.len.Goals as goal

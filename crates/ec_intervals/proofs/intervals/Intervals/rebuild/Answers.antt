@@ -1,8 +1,7 @@
 -- The row that is written is that of the table, and what is written is few.
-use Rattle.std.proofs.Common.{◌+◌, ◌-◌, ◌≤◌, ◌≡◌, is_some, length, sym, ap, ap₂, subst, ◌∙◌, refl, arith}
-use Rattle.ec_intervals.specs.RowViews.{seen}
-use Rattle.ec_intervals.specs.Table.{front_in, spans_in, members_in, plain_intervals, room_in, row_at}
-use Rattle.ec_intervals.proofs.KeptRows.{written-row, written-others, written-old, AreFew-rewritten, AreFew-emptied}
+use Rattle.std.proofs.Common.{is_some, length, ap, ◌∙◌, arith}
+use Rattle.ec_intervals.specs.Table.{spans_in, members_in, plain_intervals, room_in}
+use Rattle.ec_intervals.proofs.KeptRows.{written-row, written-others, written-old, AreFew-rewritten}
 use Rattle.ec_intervals.proofs.intervals.Intervals.rebuild.Goals as goal
 
 pub invariant_of-self : goal.invariant_of-self

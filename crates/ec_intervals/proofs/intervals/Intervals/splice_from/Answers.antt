@@ -1,8 +1,7 @@
 -- The row that is written is that of the table, and what is written is few.
-use Rattle.std.proofs.Common.{◌+◌, ◌-◌, ◌≤◌, ◌≡◌, is_some, length, sym, ap, ap₂, subst, ◌∙◌, refl, arith}
-use Rattle.ec_intervals.specs.RowViews.{seen}
-use Rattle.ec_intervals.specs.Table.{front_in, spans_in, members_in, plain_intervals, room_in, row_at}
-use Rattle.ec_intervals.proofs.KeptRows.{written-row, written-others, written-old, AreFew-rewritten, AreFew-emptied}
+use Rattle.std.proofs.Common.{is_some, length, sym, ap, ◌∙◌, arith}
+use Rattle.ec_intervals.specs.Table.{spans_in, members_in, plain_intervals, room_in}
+use Rattle.ec_intervals.proofs.KeptRows.{written-row, written-others, written-old, AreFew-rewritten}
 use Rattle.ec_intervals.proofs.intervals.Intervals.splice_from.Goals as goal
 
 pub invariant_of-self : goal.invariant_of-self
@@ -34,6 +33,7 @@ returns-in-Some-clause-others g c = written-others g.I.SpanRow.spans g.I.SpanRow
 pub returns-in-Some-clause-differs : goal.returns-in-Some-clause-differs
 returns-in-Some-clause-differs g c =
     let old = ap (λ row. plain_intervals g.T.Moment.rank (members_in row)) (written-old g.I.SpanRow.spans g.I.SpanRow.spare c.self.inside.rows c.args.self.now (ap (λ t. t.rows) c.self.view_is) c.args.p.0 c.in-Some.kept.now c.splice_row.new.kept c.in-Some.ensures.kept) in
-    let new = ap (λ row. plain_intervals g.T.Moment.rank (members_in row)) (written-row g.I.SpanRow.spans g.I.SpanRow.spare c.self.inside.rows c.args.self.now (ap (λ t. t.rows) c.self.view_is) c.args.p.0 c.in-Some.kept.now c.splice_row.new.kept c.in-Some.ensures.kept) in
-    (λ differ same. c.splice_row.ensures.differs.0 differ (sym old ∙ same ∙ new),
-    λ differ. c.splice_row.ensures.differs.1 (λ same. differ (old ∙ same ∙ sym new)))
+    let new = ap (λ row. plain_intervals g.T.Moment.rank (members_in row)) (written-row g.I.SpanRow.spans g.I.SpanRow.spare c.self.inside.rows c.args.self.now (ap (λ t. t.rows) c.self.view_is) c.args.p.0 c.in-Some.kept.now c.splice_row.new.kept c.in-Some.ensures.kept) in (
+      λ differ same. c.splice_row.ensures.differs.0 differ (sym old ∙ same ∙ new),
+      λ differ. c.splice_row.ensures.differs.1 (λ same. differ (old ∙ same ∙ sym new)),
+    )
