@@ -1,6 +1,6 @@
 -- What a well-formed theory keeps within limits: its rules, and the literals of each.
-use Rattle.std.proofs.Common.{◌≡◌, ◌<◌, ◌≤◌, ◌+◌, ℕ, suc, Bool, true, false, cond, not, List, [], ◌∷◌, ◌++◌, length, Option, Some, None, refl, sym, ap, subst, ◌∙◌, ⊎_elim, arith}
-use Rattle.std.specs.Prelude.{if◌then◌else◌, nat_le, nat_lt, count_by, filter, bytes_eq}
+use Rattle.std.proofs.Common.{◌≡◌, ◌<◌, ◌≤◌, ◌+◌, ℕ, suc, true, cond, not, List, [], ◌∷◌, ◌++◌, length, None, refl, sym, ap, subst, ◌∙◌, ⊎_elim, arith}
+use Rattle.std.specs.Prelude.{nat_le, nat_lt, count_by, filter, bytes_eq}
 use Rattle.std.specs.List.{All}
 use Rattle.std.proofs.lemmas.Bool.{and_parts, and_from, cases_Bool, cases_eq, false≢true}
 use Rattle.std.proofs.lemmas.Bool.Decides.{Decides-eqb}
@@ -15,16 +15,16 @@ use Rattle.ec_terms.specs.declared.theory.Theory.{Theory}
 use Rattle.ec_terms.specs.Matching.{Values, binding_of, fits, fits_some}
 use Rattle.ec_terms.specs.Domain.{entries_from, entries_of, entry_of, meets}
 use Rattle.ec_terms.proofs.MatchingLemmas.{fits-other_length}
-use Rattle.ec_check.specs.declared.fault.CheckFault.{CheckFault}
 use Rattle.ec_check.specs.Faults.{first_wrong, rule_fault, first_fault, is_narrow_rule, same_event}
 use Rattle.ec_check.proofs.Matchable.{earlier_fault-none, first_of-none}
 use Rattle.ec_lists.proofs.Booleans.{cond-None}
 use Rattle.ec_lists.proofs.Filters.{length-filter_wider}
 use Rattle.ec_check.specs.WellFormed.{IsWellFormed}
+use Rattle.ec_check.specs.declared.limits.TheConstants.{MOST_LITERALS}
 
--- the rule has at most 16 literals
+-- the rule has no more literals than a rule may have
 abbrev pub HasFewLiterals : Rule → Type 0
-HasFewLiterals rule = length rule.literals ≤ 16
+HasFewLiterals rule = length rule.literals ≤ MOST_LITERALS
 
 -- what a rule without a fault keeps to
 record IsWithin (earlier : List Rule) (rule : Rule) : Type 0 where
@@ -64,7 +64,7 @@ unfolding first_wrong
 few_rules theory well_formed =
     let within = rules_within [] theory.rules (earlier_fault-none _ _ well_formed.no_fault).0 (omega arith) in omega (arith, within)
 
--- and at most 16 literals in each
+-- and few literals in each
 pub few_literals : (theory : Theory) → IsWellFormed theory → All HasFewLiterals theory.rules
 unfolding first_wrong
 few_literals theory well_formed = literals_within [] theory.rules (earlier_fault-none _ _ well_formed.no_fault).0

@@ -7,11 +7,11 @@ use smallvec::SmallVec;
 use std::alloc::Global;
 use std::marker::Model;
 
-/// The most literals that an entry has.
-pub const MOST_LITERALS: usize = 16;
+/// The most literals that an entry has, which are those of its rule.
+pub const MOST_LITERALS: usize = ec_check::MOST_LITERALS;
 
-/// The most entries that an event has.
-pub const MOST_ENTRIES: usize = 64;
+/// The most entries that an event has: one for each rule with its name and number of arguments.
+pub const MOST_ENTRIES: usize = ec_check::MOST_EVENT_RULES;
 
 /// A literal of an entry: that a property is current, or, where not `positive`, that it is not.
 #[derive(Clone, Copy, Debug, PartialEq, Eq)]
