@@ -102,7 +102,8 @@ impl<X: Copied + Drop> Blocks<X> {
         }
     }
 
-    /// The same, where the place is likely to be `near`, which is looked at first. It may be any number.
+    /// The same, where the place is likely to be `near`, which may be any number: a hint for the search, which
+    /// this list does not take yet.
     pub fn partition_near<F: Fn(&X) -> bool>(&self, near: usize, pred: F) -> usize
         requires { F.IsAlwaysCallable pred }
         ensures bound { result ≤ length self.now.items }

@@ -1,8 +1,8 @@
 -- Events with their slots: what is found among them, and what one more or one less leaves.
-use Rattle.std.proofs.Common.{◌≡◌, ℕ, ◌+◌, ◌<◌, ◌≤◌, zero, suc, Bool, true, false, cond, not, ◌&&◌, ◌||◌, List, [], ◌∷◌, ℤ, Option, Some, None, refl, sym, ap, ap₂, subst, ◌∙◌, ⊎_elim, length, map, filter, is_some, slice_get, arith}
+use Rattle.std.proofs.Common.{◌≡◌, ℕ, ◌≤◌, zero, suc, Bool, true, false, cond, not, ◌&&◌, ◌||◌, List, [], ◌∷◌, ℤ, Option, Some, None, refl, sym, ap, ap₂, subst, ◌∙◌, ⊎_elim, length, map, filter, is_some, slice_get, arith}
 use Rattle.std.specs.Prelude.{int_lt, find, option_map, bytes_eq, ◌==◌, if◌then◌else◌}
 use Rattle.std.specs.List.{list_any, list_all}
-use Rattle.std.specs.Ordering.{int_eq, int_cmp, is_lt, is_eq, ordering_then}
+use Rattle.std.specs.Ordering.{int_eq, is_lt, is_eq, ordering_then}
 use Rattle.std.specs.declared.cmp.Ordering.{Ordering}
 use Rattle.std.specs.declared.cmp.Ordering.TheVariants.{Less, Equal, Greater}
 use Rattle.std.proofs.lemmas.Bool.{cases_Bool, false≢true, and_parts}
@@ -10,7 +10,6 @@ use Rattle.std.proofs.lemmas.Slice.Eq.{bytes_eq-Decides}
 use Rattle.std.proofs.lemmas.Int.{ints}
 use Rattle.ec_terms.specs.declared.ids.Slot.{Slot}
 use Rattle.ec_terms.specs.Term.{name_cmp}
-use Rattle.ec_axioms.specs.Calculus.{PlainEvent}
 use Rattle.ec_axioms.specs.Changes.{is_history, comes_before, has_id, with_event, without_event}
 use Rattle.ec_axioms.specs.declared.event.Event.{Event}
 use Rattle.ec_axioms.proofs.Histories.{comes_before-total}

@@ -1,5 +1,5 @@
 -- How a store keeps its events: an event more or less leaves a store.
-use Rattle.std.proofs.Common.{◌≡◌, ℕ, ◌<◌, zero, suc, Bool, true, false, cond, not, ◌||◌, ◌≤◌, All, IfSome, get_or, slice_get, List, [], ◌∷◌, ℤ, Option, Some, None, IsTrue, Bor, refl, sym, ap, ap₂, subst, ◌∙◌, ⊎_elim, map, is_some, length, arith}
+use Rattle.std.proofs.Common.{◌≡◌, ℕ, ◌+◌, ◌<◌, zero, suc, Bool, true, false, cond, not, ◌||◌, ◌≤◌, All, IfSome, get_or, slice_get, List, [], ◌∷◌, ℤ, Option, Some, None, Bor, refl, sym, ap, ap₂, subst, ◌∙◌, ⊎_elim, map, is_some, length, arith}
 use Rattle.std.specs.Prelude.{option_map, bytes_eq, ◌==◌, if◌then◌else◌}
 use Rattle.std.specs.List.{cons_option, list_any}
 use Rattle.std.specs.Option.{option_copied}
@@ -277,6 +277,16 @@ module _ {T : Type 0} where
     next-live record_at slot_at times events i entry store is there =
         let at = next-event record_at slot_at times events i entry store is there in
         ap is_some (ap (λ (e : Entry T). event_at e.2 events) (sym at.2) ∙ event_at-slice_get record_at times events i at.0 is at.1)
+
+    -- its slot, and the position behind it
+    pub next-slot : (record_at : ℕ → Option (Event T)) (slot_at : List ℕ → Option Slot) (times : List (Entry T)) (events : List (Kept T)) (i : ℕ) (entry : Entry T) →
+        IsStore rank record_at slot_at times → kept_of record_at times ≡ events → slice_get times i ≡ Some entry →
+        option_map {U = Slot × ℕ} (λ (k : Kept T). (k.0, i + 1)) (slice_get events i) ≡ Some (entry.2, i + 1)
+    next-slot record_at slot_at times events i entry store is there =
+        let at = next-event record_at slot_at times events i entry store is there in
+        let behind : Kept T → Slot × ℕ = λ k. (k.0, i + 1) in
+        let first : Entry T → Slot × ℕ = λ e. (e.2, i + 1) in
+        ap (λ o. option_map behind o) at.1 ∙ ap (λ e. Some (first e)) at.2
 
     pub next-end : (record_at : ℕ → Option (Event T)) (slot_at : List ℕ → Option Slot) (times : List (Entry T)) (events : List (Kept T)) (i : ℕ) →
         IsStore rank record_at slot_at times → kept_of record_at times ≡ events → length times ≤ i → slice_get events i ≡ None

@@ -1,5 +1,5 @@
 -- What a store of events shows: the events in order, each with its slot, and the history that they are.
-use Rattle.std.specs.Prelude.{◌≡◌, ℕ, Bool, not, if◌then◌else◌, ◌==◌, List, [], ◌∷◌, map, filter, find, filter_map, length, ℤ, int_lt, Option, option_map, IsTrue, bytes_eq}
+use Rattle.std.specs.Prelude.{◌≡◌, ℕ, not, if◌then◌else◌, ◌==◌, List, [], ◌∷◌, map, filter, find, filter_map, ℤ, int_lt, Option, option_map, IsTrue, bytes_eq}
 use Rattle.ec_terms.specs.declared.ids.Slot.{Slot}
 use Rattle.ec_axioms.specs.Calculus.{PlainEvent}
 use Rattle.ec_axioms.specs.Changes.{is_history, comes_before}

@@ -155,7 +155,7 @@ impl<T: Moment, X: TimeRow<T>> EventStore<T, X> {
     {
         let place = cursor.place();
         if place < self.times.len() {
-            let (_, _, slot) = self.times.get(place);
+            let slot = self.times.run(place)[0].2;
             Some((slot, Cursor::at(place + 1)))
         } else {
             None
