@@ -23,9 +23,6 @@ later-same s t a = grind (arith, ints)
 later-other : (a b : ℤ) → int_eq b a ≡ false → int_lt a b ≡ false → int_lt b a ≡ true
 later-other a b = grind (arith, ints)
 
-not_same-later : (a b : ℤ) → int_lt b a ≡ true → int_eq a b ≡ false
-not_same-later a b = grind (arith, ints)
-
 module _ {T X : Type 0} (rank : T → ℤ) (time : X → T) where
   -- what stands at a time
   abbrev found : ℤ → List X → Option X
