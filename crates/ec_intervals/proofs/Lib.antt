@@ -6,6 +6,7 @@ mod SpanCuts
 mod Reading
 mod Spliced
 mod Walking
+mod Covering
 pub mod OneMark
 mod PassOrder
 mod Written

@@ -4,3 +4,4 @@ pub mod OldMarks
 pub mod Steps
 pub mod Drafts
 pub mod Broken
+pub mod Laws

@@ -1,12 +1,13 @@
 ghost use Rattle.std.specs.Prelude.{◌≡◌, ◌≢◌, ◌↔◌, ℕ, ◌+◌, ◌-◌, ◌<◌, ◌≤◌, ◌≤ℤ◌, [], IsTrue, IfSome, IfNone, OnErr, OnOk, Some, None, length, slice_get};
 ghost use Rattle.ec_axioms.specs.Marks.{spans_of};
+ghost use Rattle.ec_axioms.specs.Timeline.{is_held_at};
 ghost use Rattle.ec_intervals.specs.OldMarks.{AreOfOldMarks};
 ghost use Rattle.ec_intervals.specs.Table.{IsGrown, front_at, has_row, members_at, plain_intervals, room_at, row_at, spans_at};
 ghost use Rattle.ec_rows.specs.PlainMarks.{plain_marks};
 
 use crate::draft::Draft;
 use crate::interval::Interval;
-use crate::row::{KeptRow, clear_row, count_members, member_of};
+use crate::row::{KeptRow, clear_row, count_members, member_of, row_covers};
 use crate::rows::prepare_row;
 use crate::write::{rebuild_row, splice_row};
 use ec_moment::Moment;
@@ -89,6 +90,16 @@ impl<T: Moment, I: SpanRow<T>> Intervals<T, I> {
         match self.rows.get(p) {
             Some(kept) => member_of(kept, i),
             None => unreachable!(),
+        }
+    }
+
+    /// Whether a property holds at a time: some interval of it covers the time. It takes one search in the row.
+    pub fn covers(&self, p: PropId, at: T) -> bool
+        ensures { result ≡ is_held_at (plain_intervals T.rank (members_at p.0 self.now)) (T.rank at) }
+    {
+        match self.rows.get(p) {
+            Some(kept) => row_covers(kept, at),
+            None => false,
         }
     }
 

@@ -5,6 +5,7 @@ mod broken;
 mod draft;
 mod interval;
 mod intervals;
+mod laws;
 mod row;
 mod rows;
 mod steps;
@@ -16,3 +17,6 @@ mod write;
 pub use broken::broken_after;
 pub use interval::{Begin, Interval};
 pub use intervals::Intervals;
+pub use laws::{
+    marks_are_read_in_parts_law, open_begins_are_told_by_one_mark_law, spans_are_few_law,
+};

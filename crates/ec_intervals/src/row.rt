@@ -1,7 +1,8 @@
 //! The row of one property: its intervals, read and written.
 ghost use Rattle.std.specs.Prelude.{◌≡◌, ◌<◌, ◌≤◌, ◌^◌, [], None, Some, length, slice_get};
+ghost use Rattle.ec_axioms.specs.Timeline.{is_held_at};
 ghost use Rattle.ec_intervals.specs.RowViews.{seen};
-ghost use Rattle.ec_intervals.specs.Table.{members_in};
+ghost use Rattle.ec_intervals.specs.Table.{front_members, members_in, plain_intervals};
 
 use crate::interval::{Begin, Interval, span_interval};
 use ec_moment::Moment;
@@ -40,6 +41,30 @@ pub(crate) fn member_of<T: Moment, I: SpanRow<T>>(kept: &KeptRow<T, I>, i: usize
         };
     }
     span_interval(kept.spans.get(i - 1))
+}
+
+/// Whether a front covers a time: it does not end before it.
+fn front_covers<T: Moment>(front: Option<End<T>>, at: T) -> bool
+    ensures { result ≡ is_held_at (plain_intervals T.rank (front_members front)) (T.rank at) }
+{
+    match front {
+        Some(End::At(end)) => at.order(&end).is_le(),
+        Some(End::Unended) => true,
+        None => false,
+    }
+}
+
+/// Whether some interval of a row covers a time.
+pub(crate) fn row_covers<T: Moment, I: SpanRow<T>>(kept: &KeptRow<T, I>, at: T) -> bool
+    ensures { result ≡ is_held_at (plain_intervals T.rank (members_in (Some (seen I.spans I.spare kept.now)))) (T.rank at) }
+{
+    if front_covers(kept.front, at) {
+        return true;
+    }
+    match kept.spans.covering(at) {
+        Some(_) => true,
+        None => false,
+    }
 }
 
 /// Takes the front and all spans out.

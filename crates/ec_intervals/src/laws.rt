@@ -1,0 +1,20 @@
+//! The laws of rows of intervals, each the contract of a function that does nothing.
+ghost use Rattle.ec_intervals.specs.Laws.{MarksAreReadInParts, OpenBeginsAreToldByOneMark, SpansAreFew};
+
+use ec_moment::Moment;
+
+/// A row of marks spells at most one interval more than it has marks.
+pub fn spans_are_few_law<T: Moment>()
+    ensures { SpansAreFew T.rank }
+{}
+
+/// What a row of marks spells is found by reading it from left to right, and in parts: what its first marks end, and
+/// then what the others spell from the begin that is open between them.
+pub fn marks_are_read_in_parts_law<T: Moment>()
+    ensures { MarksAreReadInParts T.rank }
+{}
+
+/// Behind a mark with a count a begin is open exactly where the mark initiates, whatever was open in front of it.
+pub fn open_begins_are_told_by_one_mark_law()
+    ensures { OpenBeginsAreToldByOneMark }
+{}
