@@ -187,7 +187,7 @@ module _ (q : Begin → Bool) (strong : Bool) where
       by_cases true (Some begin) front = front
       by_cases false begun front = refl
 
-  open_behind-begins : (begun : Option Begin) (m : PlainMark) → option_map_or q begun true ≡ true → q (begin_at m.instant) ≡ true → option_map_or q (open_behind strong begun m) true ≡ true
+  pub open_behind-begins : (begun : Option Begin) (m : PlainMark) → option_map_or q begun true ≡ true → q (begin_at m.instant) ≡ true → option_map_or q (open_behind strong begun m) true ≡ true
   open_behind-begins begun m front here = by_cases (mark_initiates m && (mark_breaks strong m || not (is_some begun))) (mark_breaks strong m)
     where
       by_cases : (opens breaks : Bool) → option_map_or q (cond opens (Some (begin_at m.instant)) (cond breaks None begun)) true ≡ true

@@ -1,4 +1,5 @@
 mod KeptRows
+mod Options
 mod Pass
 mod Cut
 mod TwoRows

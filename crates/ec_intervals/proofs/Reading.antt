@@ -87,10 +87,6 @@ module _ (until : Option ℤ) where
       here true some rest = (refl, refl)
       here false some rest = let same = rest some in (ap (λ zs. m ∷ zs) same.0, same.1)
 
-pub none-is : {X : Type 0} (o : Option X) → is_some o ≡ false → o ≡ None
-none-is None is = refl
-none-is (Some x) is = absurd (false≢true (sym is))
-
 -- ---- marks of a row
 
 -- what is left of a row begins with the marks that are read together

@@ -1,11 +1,11 @@
 -- Rows of marks and of spans as rows of plain marks and of intervals.
-use Rattle.std.proofs.Common.{◌≡◌, ℕ, ◌+◌, ◌≤◌, suc, ℤ, Bool, ◌&&◌, List, [], ◌∷◌, ◌++◌, map, length, drop, Option, Some, None, refl, ap, ap₂, sym, subst, ◌∙◌, add-one, arith}
+use Rattle.std.proofs.Common.{◌≡◌, ℕ, ◌+◌, ◌≤◌, suc, ℤ, Bool, ◌&&◌, List, [], ◌∷◌, ◌++◌, map, length, take, drop, Option, Some, None, refl, ap, ap₂, sym, subst, ◌∙◌, add-one, arith}
 use Rattle.std.specs.Prelude.{slice_get}
 use Rattle.std.specs.List.{list_all}
-use Rattle.std.specs.List.{drop-map}
+use Rattle.std.specs.List.{drop-map, take-map}
 use Rattle.std.proofs.lemmas.Option.{slice_get_within, get_or_from_slice_get}
-use Rattle.std.proofs.Math.Seq.{drop-cons}
-use Rattle.std.proofs.lemmas.List.{length-map}
+use Rattle.std.proofs.Math.Seq.{drop-cons, take-suc}
+use Rattle.std.proofs.lemmas.List.{length-map, map-append, take-append-drop}
 use Rattle.std.proofs.Math.ListN.{drop_of_length-le}
 use Rattle.ec_axioms.specs.Timeline.{Interval as PlainInterval}
 use Rattle.ec_axioms.specs.Marks.{spans_of}
@@ -56,6 +56,19 @@ module _ {T : Type 0} (rank : T → ℤ) where
       (drop-map (plain_mark rank) i marks
       ∙ ap (map (plain_mark rank)) (drop-cons marks i mark (slice_get_within marks i mark read) ∙ ap (λ m. m ∷ drop (suc i) marks) (get_or_from_slice_get marks i mark mark read))
       ∙ ap (λ ms. plain_mark rank mark ∷ ms) (sym (drop-map (plain_mark rank) (suc i) marks)))
+
+  -- the marks that are read, and the next one
+  pub marks-taken : (marks : List (Mark T)) (i : ℕ) (mark : Mark T) → slice_get marks i ≡ Some mark →
+      take (i + 1) (plain_marks rank marks) ≡ take i (plain_marks rank marks) ++ plain_mark rank mark ∷ []
+  marks-taken marks i mark read =
+      rw add-one
+      (take-map (plain_mark rank) (suc i) marks
+      ∙ ap (map (plain_mark rank)) (take-suc marks i mark (slice_get_within marks i mark read) ∙ ap (λ m. take i marks ++ m ∷ []) (get_or_from_slice_get marks i mark mark read))
+      ∙ map-append (plain_mark rank) (take i marks) (mark ∷ []) ∙ ap (λ ms. ms ++ plain_mark rank mark ∷ []) (sym (take-map (plain_mark rank) i marks)))
+
+  pub marks-split : (marks : List (Mark T)) (i : ℕ) (mark : Mark T) → slice_get marks i ≡ Some mark →
+      plain_marks rank marks ≡ take i (plain_marks rank marks) ++ plain_mark rank mark ∷ drop (i + 1) (plain_marks rank marks)
+  marks-split marks i mark read = sym (take-append-drop i (plain_marks rank marks)) ∙ ap (λ ms. take i (plain_marks rank marks) ++ ms) (marks-next marks i mark read)
 
   -- and behind the last mark nothing is left
   pub marks-none : (marks : List (Mark T)) (i : ℕ) → length marks ≤ i → drop i (plain_marks rank marks) ≡ []

@@ -82,6 +82,11 @@ unfoldable pub ended_through : Bool → Option Begin → List PlainMark → List
 ended_through strong begun [] = []
 ended_through strong begun (m ∷ ms) = option_to_list (ended_by begun m) ++ ended_through strong (open_behind strong begun m) ms
 
+-- the begins that some marks break, one after the other, each with its break
+unfoldable pub broken_through : Bool → Option Begin → List PlainMark → List (Begin × ℤ)
+broken_through strong begun [] = []
+broken_through strong begun (m ∷ ms) = option_to_list (broken_by strong begun m) ++ broken_through strong (open_behind strong begun m) ms
+
 -- the intervals that some marks spell: those that they end, and that of the begin which is open behind them all
 abbrev pub spelt_through : Bool → Option Begin → List PlainMark → List Interval
 spelt_through strong begun marks = ended_through strong begun marks ++ option_to_list (option_map unended_interval (open_through strong begun marks))

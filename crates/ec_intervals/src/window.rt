@@ -22,7 +22,7 @@ use ec_rows::{End, MarkRow, SpanRow};
 
 /// Whether a begin is open behind the first `count` marks of a row: the last of them initiates, or there is none and the
 /// property is initial.
-fn is_open_behind<T: Moment, M: MarkRow<T>>(
+pub(crate) fn is_open_behind<T: Moment, M: MarkRow<T>>(
     row: &M,
     count: usize,
     strong: bool,

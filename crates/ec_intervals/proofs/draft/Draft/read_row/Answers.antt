@@ -2,9 +2,9 @@
 use Rattle.std.proofs.Common.{◌+◌, length, drop, option_map, is_some, sym, ap, subst, ◌∙◌, arith}
 use Rattle.std.proofs.lemmas.List.{length-map, length-drop, length-append}
 use Rattle.ec_rows.specs.PlainMarks.{plain_mark, plain_marks}
-use Rattle.ec_intervals.proofs.FirstBroken.{is_some-map}
+use Rattle.ec_intervals.proofs.Options.{is_some-map, none-is}
 use Rattle.ec_intervals.proofs.Written.{marks-none}
-use Rattle.ec_intervals.proofs.Reading.{marks-run, none-is, IsReadUpTo, IsReadUpTo-none, IsReadUpTo-count, IsReadUpTo-run, IsReadOver-run, first_behind-run, IsReadOver-all, first_behind-all}
+use Rattle.ec_intervals.proofs.Reading.{marks-run, IsReadUpTo, IsReadUpTo-none, IsReadUpTo-count, IsReadUpTo-run, IsReadOver-run, first_behind-run, IsReadOver-all, first_behind-all}
 use Rattle.ec_intervals.proofs.draft.Draft.read_row.Goals as goal
 
 pub loop-i-init : goal.loop-i-init
