@@ -40,9 +40,6 @@ module _ (number : ℕ) (rule : Rule) (event : Ground) where
 
 -- ---- one rule more
 
-cons_option-append : {X : Type 0} (o : Option X) (xs ys : List X) → cons_option o (xs ++ ys) ≡ cons_option o xs ++ ys
-cons_option-append o xs ys = cons_option-is_append o (xs ++ ys) ∙ sym (append_assoc (option_to_list o) xs ys) ∙ ap (λ zs. zs ++ ys) (sym (cons_option-is_append o xs))
-
 -- the entries under some rules and others
 pub entries_from-append : (number : ℕ) (rules others : List Rule) (event : Ground) →
     entries_from number (rules ++ others) event ≡ entries_from number rules event ++ entries_from (number + length rules) others event
@@ -50,7 +47,9 @@ unfolding entries_from
 entries_from-append number [] others event = ap (λ n. entries_from n others event) (omega arith)
 entries_from-append number (r ∷ rules) others event =
     ap (cons_option (entry_of number r event)) (entries_from-append (number + 1) rules others event)
-    ∙ cons_option-append (entry_of number r event) (entries_from (number + 1) rules event) _
+    ∙ cons_option-is_append (entry_of number r event) _
+    ∙ sym (append_assoc (option_to_list (entry_of number r event)) (entries_from (number + 1) rules event) _)
+    ∙ ap (λ es. es ++ entries_from (number + 1 + length rules) others event) (sym (cons_option-is_append (entry_of number r event) (entries_from (number + 1) rules event)))
     ∙ ap (λ n. entries_from number (r ∷ rules) event ++ entries_from n others event) (omega arith)
 
 entries_from-push : (number : ℕ) (rules : List Rule) (rule : Rule) (event : Ground) →

@@ -1,37 +1,27 @@
 -- What the searches of a list of dependents cut out: those after a time, and those at it.
-use Rattle.std.proofs.Common.{◌≡◌, ◌+◌, ◌-◌, ◌<◌, ◌≤◌, ℕ, ℤ, zero, suc, Bool, true, false, not, cond, List, [], ◌∷◌, length, take, drop, None, Some, refl, ap, subst, ◌∙◌, arith}
+use Rattle.std.proofs.Common.{◌≡◌, ◌+◌, ◌-◌, ◌<◌, ◌≤◌, ℕ, ℤ, zero, suc, Bool, true, false, cond, List, [], ◌∷◌, length, take, drop, None, Some, refl, ap, subst, ◌∙◌, arith}
 use Rattle.std.specs.Prelude.{int_lt, int_le, slice_get}
-use Rattle.std.specs.declared.cmp.Ordering.{Ordering}
 use Rattle.std.specs.List.{list_all}
-use Rattle.std.specs.Ordering.{int_cmp, int_eq, is_lt, nat_cmp, ordering_then}
+use Rattle.std.specs.Ordering.{int_eq, nat_cmp, ordering_then}
 use Rattle.std.proofs.lemmas.Bool.{and_from}
 use Rattle.std.proofs.lemmas.Int.{ints}
 use Rattle.ec_entries.specs.declared.event_entries.Dependent.{Dependent}
 use Rattle.ec_entries.specs.Dependents.{AreInOrder, dependent_before, dependents_after, dependents_at}
 use Rattle.ec_lists.proofs.Tests.{list_all-weaker}
 use Rattle.ec_rows.proofs.OrderedLemmas.{ascending-first, is_ascending-filter}
+use Rattle.ec_lists.proofs.Integers.{int_le-same, int_lt-not_le}
 use Rattle.ec_lists.proofs.Partitions.{IsCut, drop-partition}
-
-later : (r t : ℤ) → int_lt t r ≡ not (int_le r t)
-later r t = grind (arith, ints)
+use Rattle.ec_entries.proofs.Orders.{no_later}
+use Rattle.ec_rows.proofs.TimedLemmas.{before-not_at}
 
 at-from_both : (r t : ℤ) → int_lt r t ≡ false → int_le r t ≡ true → int_eq r t ≡ true
 at-from_both r t = grind (arith, ints)
-
-not_at-before : (r t : ℤ) → int_lt r t ≡ true → int_eq r t ≡ false
-not_at-before r t = grind (arith, ints)
 
 not_at-after : (r t : ℤ) → int_le r t ≡ false → int_eq r t ≡ false
 not_at-after r t = grind (arith, ints)
 
 never : (r t : ℤ) → int_lt r t ≡ true → int_le r t ≡ false → ⊥
 never r t first second = let both : int_le r t ≡ true = grind (arith, ints) in cc
-
-not_later : (r : ℤ) → int_le r r ≡ true
-not_later r = grind (arith, ints)
-
-no_later : (r s : ℤ) (o : Ordering) → is_lt (ordering_then (int_cmp r s) o) ≡ true → int_le r s ≡ true
-no_later r s o = grind (arith, ints)
 
 -- the first of a beginning is the first
 pub slice_get-front : {X : Type 0} (xs : List X) (n : ℕ) (x : X) → slice_get (take n xs) 0 ≡ Some x → slice_get xs 0 ≡ Some x
@@ -76,7 +66,7 @@ module _ {T : Type 0} (rank : T → ℤ) (t : ℤ) where
 
   -- behind those up to a time are those after it
   pub drop-after : (ds : List (Dependent T)) (i : ℕ) → IsCut up_to ds i → drop i ds ≡ dependents_after rank t ds
-  drop-after ds i cut = drop-partition up_to (λ d. int_lt t (rank d.at)) (λ d. later (rank d.at) t) ds i cut
+  drop-after ds i cut = drop-partition up_to (λ d. int_lt t (rank d.at)) (λ d. int_lt-not_le t (rank d.at)) ds i cut
 
   rest : (test : Dependent T → Bool) (d : Dependent T) (ds : List (Dependent T)) (i : ℕ) → IsCut test (d ∷ ds) (suc i) → IsCut test ds i
   rest test d ds i cut = (λ k e low high. cut.0 (suc k) e (omega arith) (omega arith), λ k e low high. cut.1 (suc k) e (omega arith) (omega arith))
@@ -100,7 +90,7 @@ module _ {T : Type 0} (rank : T → ℤ) (t : ℤ) where
   dependents_at-between (d ∷ ds) (suc i) zero low high =
       absurd (never (rank d.at) t (low.0 zero d (omega arith) (omega arith)) (high.1 zero d (omega arith) (omega arith)))
   dependents_at-between (d ∷ ds) (suc i) (suc j) low high =
-      ap (λ b. cond b (d ∷ dependents_at rank t ds) (dependents_at rank t ds)) (not_at-before (rank d.at) t (low.0 zero d (omega arith) (omega arith)))
+      ap (λ b. cond b (d ∷ dependents_at rank t ds) (dependents_at rank t ds)) (before-not_at (rank d.at) t (low.0 zero d (omega arith) (omega arith)))
       ∙ dependents_at-between ds i j (rest earlier d ds i low) (rest up_to d ds j high)
 
   -- no more are before a time than up to it
@@ -129,6 +119,6 @@ module _ {T : Type 0} (rank : T → ℤ) (t : ℤ) where
       of (e ∷ es) order first =
           let same : e ≡ d = cc in
           subst (λ x. list_all (λ y. int_le (rank x.at) (rank y.at)) (e ∷ es) ≡ true) same
-          (and_from _ _ (not_later (rank e.at))
+          (and_from _ _ (int_le-same (rank e.at))
           (list_all-weaker (dependent_before rank e) (λ y. int_le (rank e.at) (rank y.at))
           (λ y. no_later (rank e.at) (rank y.at) (ordering_then (nat_cmp e.slot.0 y.slot.0) (nat_cmp e.place y.place))) es (ascending-first (dependent_before rank) e es order)))
