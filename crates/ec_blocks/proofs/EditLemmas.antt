@@ -5,9 +5,9 @@ use Rattle.std.proofs.lemmas.List.{map-set, map_push, get_or-set_same, length-ta
 use Rattle.std.proofs.lemmas.Bool.Decides.{nat_tests}
 use Rattle.ec_blocks.specs.Chain.{joined, block_at, last_of, starts_from, is_block}
 use Rattle.ec_blocks.specs.ChainParts.{IsChain, is_kept, is_spare}
-use Rattle.ec_rows.proofs.OrderedLemmas.{list_all-remove}
 use Rattle.ec_blocks.proofs.StartLemmas.{starts-append, starts-gone, starts-split, lasts-split}
 use Rattle.ec_blocks.proofs.ChainLemmas.{place-within, block-is, start-is, last_of-drop, list_all-at, list_all-push, list_all-set, list_all-insert, map-insert, map-remove, is_kept-from, is_kept-block, is_kept-room, is_block-some, is_block-most, IsChain-same, IsChain-more, IsChain-less}
+use Rattle.ec_lists.proofs.Tests.{list_all-remove}
 
 module _ {X B : Type 0} (items : B → List X) (capacity : B → ℕ) (blocks : List B) (starts : List ℕ) (lasts : List X) (spares : List B)
     (chain : IsChain items capacity blocks starts lasts spares) (lists : List (List X)) (are : map items blocks ≡ lists) where

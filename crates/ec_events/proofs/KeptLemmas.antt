@@ -5,7 +5,7 @@ use Rattle.std.specs.List.{list_any, list_all}
 use Rattle.std.specs.Ordering.{int_eq, is_lt, is_eq, ordering_then}
 use Rattle.std.specs.declared.cmp.Ordering.{Ordering}
 use Rattle.std.specs.declared.cmp.Ordering.TheVariants.{Less, Equal, Greater}
-use Rattle.std.proofs.lemmas.Bool.{cases_Bool, false≢true, and_parts}
+use Rattle.std.proofs.lemmas.Bool.{cases_Bool, false≢true, and_parts, and_right, or_right}
 use Rattle.std.proofs.lemmas.Slice.Eq.{bytes_eq-Decides}
 use Rattle.std.proofs.lemmas.Int.{ints}
 use Rattle.ec_terms.specs.declared.ids.Slot.{Slot}
@@ -18,6 +18,9 @@ use Rattle.ec_rows.specs.Times.{Entry, entry_before, entries_before, is_entry, h
 use Rattle.ec_rows.proofs.OrderedLemmas.{IsOrder, IsOrder-by_key, with_member-front, with_member-later}
 use Rattle.ec_rows.proofs.TimeLemmas.{place_cmp-total}
 use Rattle.ec_events.specs.Store.{Kept, plain_of, history_of, slot_of, event_at, kept_before, with_kept, without_kept, entry_of}
+use Rattle.ec_lists.proofs.Integers.{int_eq-same}
+use Rattle.ec_lists.proofs.Booleans.{option_map-cond, is_some-cond, map-cond, cond_comm, cond-same, cond-again}
+use Rattle.ec_lists.proofs.Filters.{filter-not_any}
 
 -- ---- tests
 
@@ -34,65 +37,20 @@ other_bytes a b other =
 pub same_number : (a b : ℕ) → (a == b) ≡ true → a ≡ b
 same_number a b e = grind arith
 
-equal_int : (x : ℤ) → int_eq x x ≡ true
-equal_int x = grind (arith, ints)
-
 or_left-false : (a b : Bool) → (a || b) ≡ false → a ≡ false
 or_left-false a b = grind arith
 
 or_right-false : (a b : Bool) → (a || b) ≡ false → b ≡ false
 or_right-false a b = grind arith
 
-pub or_right-true : (a b : Bool) → b ≡ true → (a || b) ≡ true
-or_right-true a b = grind arith
-
-and_false : (a b : Bool) → b ≡ false → (a && b) ≡ false
-and_false a b = grind arith
-
 not-true : (a : Bool) → not a ≡ true → a ≡ false
 not-true a = grind arith
-
-option_map-cond : {A B : Type 0} (f : A → B) (b : Bool) (x : A) (o : Option A) → option_map f (cond b (Some x) o) ≡ cond b (Some (f x)) (option_map f o)
-option_map-cond f true x o = refl
-option_map-cond f false x o = refl
-
-is_some-cond : {A : Type 0} (b : Bool) (x : A) (o : Option A) → (b || is_some o) ≡ is_some (cond b (Some x) o)
-is_some-cond true x o = refl
-is_some-cond false x o = refl
-
-map-cond : {A B : Type 0} (f : A → B) (b : Bool) (xs ys : List A) → map f (cond b xs ys) ≡ cond b (map f xs) (map f ys)
-map-cond f true xs ys = refl
-map-cond f false xs ys = refl
-
--- two answers of which not both are given
-cond-cond : {A : Type 0} (a b : Bool) (x y z : A) → (b ≡ true → a ≡ false) → cond a x (cond b y z) ≡ cond b y (cond a x z)
-cond-cond true true x y z apart = absurd (false≢true (sym (apart refl)))
-cond-cond false true x y z apart = refl
-cond-cond true false x y z apart = refl
-cond-cond false false x y z apart = refl
-
--- the same answer either way
-cond-same : {A : Type 0} (b : Bool) (x : A) → x ≡ cond b x x
-cond-same true x = refl
-cond-same false x = refl
-
--- nothing, whether or not the rest has an answer
-cond-none : {A : Type 0} (b : Bool) (x y o : A) → cond b x o ≡ cond b x (cond b y o)
-cond-none true x y o = refl
-cond-none false x y o = refl
 
 -- a filter under a map
 pub filter-map_of : {A B : Type 0} (f : A → B) (p : B → Bool) (xs : List A) → filter p (map f xs) ≡ map f (filter (λ x. p (f x)) xs)
 filter-map_of f p [] = refl
 filter-map_of f p (x ∷ xs) =
     ap (λ ys. cond (p (f x)) (f x ∷ ys) ys) (filter-map_of f p xs) ∙ sym (map-cond f (p (f x)) (x ∷ filter (λ y. p (f y)) xs) (filter (λ y. p (f y)) xs))
-
--- a filter that passes all but those of which a test holds nowhere
-filter-none : {A : Type 0} (p : A → Bool) (xs : List A) → list_any p xs ≡ false → filter (λ x. not (p x)) xs ≡ xs
-filter-none p [] none = refl
-filter-none p (x ∷ xs) none =
-    let ih : filter (λ y. not (p y)) xs ≡ xs = filter-none p xs (or_right-false (p x) (list_any p xs) none) in
-    let here : p x ≡ false = or_left-false (p x) (list_any p xs) none in grind arith
 
 -- the order of two events in time, as the order of their entries
 before-then : (a b : Bool) (o : Ordering) → (a || (is_eq (cond a Less (cond b Greater Equal)) && is_lt o)) ≡ is_lt (ordering_then (cond a Less (cond b Greater Equal)) o)
@@ -145,7 +103,7 @@ module _ {T : Type 0} where
       (λ e. ap (slot_of id) (with_kept-front rank k j js e) ∙ slot_of-cons id k (j ∷ js))
       (λ e. ap (slot_of id) (with_kept-later rank k j js e) ∙ slot_of-cons id j (with_kept rank k js)
       ∙ ap (λ o. cond (bytes_eq j.1.id id) (Some j.0) o) ih
-      ∙ cond-cond (bytes_eq j.1.id id) (bytes_eq k.1.id id) (Some j.0) (Some k.0) (slot_of id js) apart
+      ∙ cond_comm (bytes_eq j.1.id id) (bytes_eq k.1.id id) (Some j.0) (Some k.0) (slot_of id js) apart
       ∙ ap (λ o. cond (bytes_eq k.1.id id) (Some k.0) o) (sym (slot_of-cons id j js)))
       (cases_Bool (comes_before (plain_of rank k) (plain_of rank j)))
 
@@ -226,7 +184,7 @@ module _ {T : Type 0} where
   pub has_entry-none : (rank : T → ℤ) (t : ℤ) (id : List ℕ) (ks : List (Kept T)) → slot_of id ks ≡ None → has_entry rank t id (map entry_of ks) ≡ false
   has_entry-none rank t id [] none = refl
   has_entry-none rank t id (k ∷ ks) none =
-      let here : is_entry rank t id (entry_of k) ≡ false = and_false (int_eq (rank k.1.at) t) (bytes_eq k.1.id id) (absent-first id k ks none) in
+      let here : is_entry rank t id (entry_of k) ≡ false = and_right (int_eq (rank k.1.at) t) (bytes_eq k.1.id id) (absent-first id k ks none) in
       ap₂ (λ a b. a || b) here (has_entry-none rank t id ks (absent-rest id k ks none))
 
   -- ---- one less
@@ -240,13 +198,13 @@ module _ {T : Type 0} where
       ⊎_elim
       (λ e. let same : bytes_eq k.1.id other ≡ bytes_eq id other = ap (λ i. bytes_eq i other) (same_bytes k.1.id id e) in
       ap (λ b. slot_of other (cond (not b) (k ∷ rest) rest)) e ∙ ih
-      ∙ cond-none (bytes_eq id other) None (Some k.0) (slot_of other ks)
+      ∙ cond-again (bytes_eq id other) None (Some k.0) (slot_of other ks)
       ∙ ap (λ b. cond (bytes_eq id other) None (cond b (Some k.0) (slot_of other ks))) (sym same)
       ∙ ap (λ o. cond (bytes_eq id other) None o) (sym (slot_of-cons other k ks)))
       (λ e. let apart : bytes_eq id other ≡ true → bytes_eq k.1.id other ≡ false = λ is. subst (λ i. bytes_eq k.1.id i ≡ false) (same_bytes id other is) e in
       ap (λ b. slot_of other (cond (not b) (k ∷ rest) rest)) e ∙ slot_of-cons other k rest
       ∙ ap (λ o. cond (bytes_eq k.1.id other) (Some k.0) o) ih
-      ∙ cond-cond (bytes_eq k.1.id other) (bytes_eq id other) (Some k.0) None (slot_of other ks) apart
+      ∙ cond_comm (bytes_eq k.1.id other) (bytes_eq id other) (Some k.0) None (slot_of other ks) apart
       ∙ ap (λ o. cond (bytes_eq id other) None o) (sym (slot_of-cons other k ks)))
       (cases_Bool (bytes_eq k.1.id id))
 
@@ -264,12 +222,12 @@ module _ {T : Type 0} where
       let same : k.1 ≡ event = cc in
       ap (λ (j : Event T). bytes_eq j.id event.id || has_id event.id (history_of rank ks)) same
       ∙ ap (λ b. b || has_id event.id (history_of rank ks)) (equal_bytes event.id))
-      (λ e. or_right-true (bytes_eq k.1.id event.id) (has_id event.id (history_of rank ks))
+      (λ e. or_right (bytes_eq k.1.id event.id) (has_id event.id (history_of rank ks))
       (has_id-event_at rank slot event ks (sym (event_at-other slot k ks e) ∙ is)))
       (cases_Bool (k.0.0 == slot.0))
 
   entry-itself : (rank : T → ℤ) (k : Kept T) → is_entry rank (rank k.1.at) k.1.id (entry_of k) ≡ true
-  entry-itself rank k = ap₂ (λ a b. a && b) (equal_int (rank k.1.at)) (equal_bytes k.1.id)
+  entry-itself rank k = ap₂ (λ a b. a && b) (int_eq-same (rank k.1.at)) (equal_bytes k.1.id)
 
   pub has_entry-event_at : (rank : T → ℤ) (slot : Slot) (event : Event T) (ks : List (Kept T)) → event_at slot ks ≡ Some event →
       has_entry rank (rank event.at) event.id (map entry_of ks) ≡ true
@@ -280,7 +238,7 @@ module _ {T : Type 0} where
       let same : k.1 ≡ event = cc in
       subst (λ (j : Event T). has_entry rank (rank j.at) j.id (map entry_of (k ∷ ks)) ≡ true) same
       (ap (λ b. b || has_entry rank (rank k.1.at) k.1.id (map entry_of ks)) (entry-itself rank k)))
-      (λ e. or_right-true (is_entry rank (rank event.at) event.id (entry_of k)) (has_entry rank (rank event.at) event.id (map entry_of ks))
+      (λ e. or_right (is_entry rank (rank event.at) event.id (entry_of k)) (has_entry rank (rank event.at) event.id (map entry_of ks))
       (has_entry-event_at rank slot event ks (sym (event_at-other slot k ks e) ∙ is)))
       (cases_Bool (k.0.0 == slot.0))
 
@@ -289,7 +247,7 @@ module _ {T : Type 0} where
   no_entry rank t id [] none = refl
   no_entry rank t id (k ∷ ks) none =
       ap₂ (λ a b. a || b)
-      (and_false (int_eq (rank k.1.at) t) (bytes_eq k.1.id id) (or_left-false (bytes_eq k.1.id id) (has_id id (history_of rank ks)) none))
+      (and_right (int_eq (rank k.1.at) t) (bytes_eq k.1.id id) (or_left-false (bytes_eq k.1.id id) (has_id id (history_of rank ks)) none))
       (no_entry rank t id ks (or_right-false (bytes_eq k.1.id id) (has_id id (history_of rank ks)) none))
 
   no_kept : (rank : T → ℤ) (id : List ℕ) (ks : List (Kept T)) → has_id id (history_of rank ks) ≡ false → list_any (λ (k : Kept T). bytes_eq k.1.id id) ks ≡ false
@@ -304,8 +262,8 @@ module _ {T : Type 0} where
       without_entry rank (rank k.1.at) k.1.id (map entry_of (k ∷ ks)) ≡ map entry_of (without_kept k.1.id (k ∷ ks))
   without_entry-first rank k ks none =
       let gone : without_entry rank (rank k.1.at) k.1.id (map entry_of ks) ≡ map entry_of ks =
-      filter-none (is_entry rank (rank k.1.at) k.1.id) (map entry_of ks) (no_entry rank (rank k.1.at) k.1.id ks none) in
-      let kept : without_kept k.1.id ks ≡ ks = filter-none (λ (j : Kept T). bytes_eq j.1.id k.1.id) ks (no_kept rank k.1.id ks none) in
+      filter-not_any (is_entry rank (rank k.1.at) k.1.id) (map entry_of ks) (no_entry rank (rank k.1.at) k.1.id ks none) in
+      let kept : without_kept k.1.id ks ≡ ks = filter-not_any (λ (j : Kept T). bytes_eq j.1.id k.1.id) ks (no_kept rank k.1.id ks none) in
       ap (λ b. cond (not b) (entry_of k ∷ without_entry rank (rank k.1.at) k.1.id (map entry_of ks)) (without_entry rank (rank k.1.at) k.1.id (map entry_of ks))) (entry-itself rank k)
       ∙ gone ∙ ap (map entry_of) (sym kept)
       ∙ ap (λ b. map entry_of (cond (not b) (k ∷ without_kept k.1.id ks) (without_kept k.1.id ks))) (sym (equal_bytes k.1.id))
@@ -327,7 +285,7 @@ module _ {T : Type 0} where
       (λ same. absurd (false≢true (sym (history-new rank k ks history)
       ∙ ap (λ i. has_id i (history_of rank ks)) (same_bytes k.1.id event.id same) ∙ has_id-event_at rank slot event ks later)))
       (λ is_other. is_other) (cases_Bool (bytes_eq k.1.id event.id)) in
-      let no : is_entry rank (rank event.at) event.id (entry_of k) ≡ false = and_false (int_eq (rank k.1.at) (rank event.at)) (bytes_eq k.1.id event.id) other in
+      let no : is_entry rank (rank event.at) event.id (entry_of k) ≡ false = and_right (int_eq (rank k.1.at) (rank event.at)) (bytes_eq k.1.id event.id) other in
       ap (λ b. cond (not b) (entry_of k ∷ without_entry rank (rank event.at) event.id (map entry_of ks)) (without_entry rank (rank event.at) event.id (map entry_of ks))) no
       ∙ ap (λ es. entry_of k ∷ es) ih
       ∙ ap (λ b. map entry_of (cond (not b) (k ∷ without_kept event.id ks) (without_kept event.id ks))) (sym other))

@@ -3,7 +3,7 @@ use Rattle.std.proofs.Common.{◌≡◌, ℕ, ◌+◌, ◌<◌, zero, suc, Bool,
 use Rattle.std.specs.Prelude.{option_map, bytes_eq, ◌==◌, if◌then◌else◌}
 use Rattle.std.specs.List.{cons_option, list_any}
 use Rattle.std.specs.Option.{option_copied}
-use Rattle.std.proofs.lemmas.Bool.{cases_Bool, false≢true}
+use Rattle.std.proofs.lemmas.Bool.{cases_Bool, false≢true, or_left, or_right}
 use Rattle.std.proofs.lemmas.List.{length-map}
 use Rattle.ec_terms.specs.declared.ids.Slot.{Slot}
 use Rattle.ec_axioms.specs.Changes.{is_history, comes_before, with_event, without_event}
@@ -11,18 +11,13 @@ use Rattle.ec_axioms.specs.declared.event.Event.{Event}
 use Rattle.ec_axioms.proofs.Histories.{is_history-with_event, is_history-without_event}
 use Rattle.ec_rows.specs.Times.{Entry, has_entry, with_entry, without_entry, entries_before}
 use Rattle.ec_events.specs.Store.{Kept, plain_of, history_of, slot_of, event_at, kept_before, with_kept, without_kept, entry_of, kept_of, IsStore}
-use Rattle.ec_events.proofs.KeptLemmas.{same_bytes, equal_bytes, same_number, event_at-same, event_at-other, slot_of-cons, or_right-true, slot_of-with_kept, history_of-with_kept, has_id-slot_of, with_entry-with_kept, has_entry-none, slot_of-without_kept, history_of-without_kept, has_entry-event_at, without_entry-without_kept, entries_before-kept, slice_get-entries, slice_get-end}
+use Rattle.ec_events.proofs.KeptLemmas.{same_bytes, equal_bytes, same_number, event_at-same, event_at-other, slot_of-cons, slot_of-with_kept, history_of-with_kept, has_id-slot_of, with_entry-with_kept, has_entry-none, slot_of-without_kept, history_of-without_kept, has_entry-event_at, without_entry-without_kept, entries_before-kept, slice_get-entries, slice_get-end}
+use Rattle.ec_lists.proofs.Booleans.{or_second}
 
 -- ---- tests and answers
 
 itself : (n : ℕ) → (n == n) ≡ true
 itself n = grind arith
-
-or-second : (a b : Bool) → a ≡ false → (a || b) ≡ true → b ≡ true
-or-second a b = grind arith
-
-or-first : (a b : Bool) → a ≡ true → (a || b) ≡ true
-or-first a b = grind arith
 
 -- what holds of a slot wherever it is the answer
 pub if_some : (answer : Option Slot) (P : Slot → Type 0) → ((slot : Slot) → answer ≡ Some slot → P slot) → IfSome answer P
@@ -81,7 +76,7 @@ module _ {T : Type 0} where
   event_at-held record_at slot event [] held is there = absurd (false≢true there)
   event_at-held record_at slot event (k ∷ ks) held is there =
       ⊎_elim (λ e. event_at-same slot k ks e ∙ sym held.0 ∙ ap record_at (same_number k.0.0 slot.0 e) ∙ is)
-      (λ e. event_at-other slot k ks e ∙ event_at-held record_at slot event ks held.1 is (or-second (k.0.0 == slot.0) (has_slot slot ks) e there))
+      (λ e. event_at-other slot k ks e ∙ event_at-held record_at slot event ks held.1 is (or_second (k.0.0 == slot.0) (has_slot slot ks) e there))
       (cases_Bool (k.0.0 == slot.0))
 
   -- an event that was added has its slot
@@ -91,11 +86,11 @@ module _ {T : Type 0} where
 
   has_slot-with_kept : (rank : T → ℤ) (k : Kept T) (ks : List (Kept T)) → has_slot k.0 (with_kept rank k ks) ≡ true
   unfolding with_kept
-  has_slot-with_kept rank k [] = or-first (k.0.0 == k.0.0) false (itself k.0.0)
+  has_slot-with_kept rank k [] = or_left (k.0.0 == k.0.0) false (itself k.0.0)
   has_slot-with_kept rank k (j ∷ js) =
       has_slot-if k.0 (comes_before (plain_of rank k) (plain_of rank j)) (k ∷ j ∷ js) (j ∷ with_kept rank k js)
-      (or-first (k.0.0 == k.0.0) (has_slot k.0 (j ∷ js)) (itself k.0.0))
-      (or_right-true (j.0.0 == k.0.0) (has_slot k.0 (with_kept rank k js)) (has_slot-with_kept rank k js))
+      (or_left (k.0.0 == k.0.0) (has_slot k.0 (j ∷ js)) (itself k.0.0))
+      (or_right (j.0.0 == k.0.0) (has_slot k.0 (with_kept rank k js)) (has_slot-with_kept rank k js))
 
   -- a slot, the record there, and that some event has it
   abbrev pub IsHeldAt : (ℕ → Option (Event T)) → List (Kept T) → Slot → Event T → Type 0
@@ -103,10 +98,10 @@ module _ {T : Type 0} where
 
   later-IsHeldAt : (record_at : ℕ → Option (Event T)) (k : Kept T) (ks : List (Kept T)) (slot : Slot) (event : Event T) → IsHeldAt record_at ks slot event →
       IsHeldAt record_at (k ∷ ks) slot event
-  later-IsHeldAt record_at k ks slot event at = (at.0, or_right-true (k.0.0 == slot.0) (has_slot slot ks) at.1)
+  later-IsHeldAt record_at k ks slot event at = (at.0, or_right (k.0.0 == slot.0) (has_slot slot ks) at.1)
 
   first-IsHeldAt : (record_at : ℕ → Option (Event T)) (k : Kept T) (ks : List (Kept T)) → AllHeld record_at (k ∷ ks) → IsHeldAt record_at (k ∷ ks) k.0 k.1
-  first-IsHeldAt record_at k ks held = (held.0, or-first (k.0.0 == k.0.0) (has_slot k.0 ks) (itself k.0.0))
+  first-IsHeldAt record_at k ks held = (held.0, or_left (k.0.0 == k.0.0) (has_slot k.0 ks) (itself k.0.0))
 
   at-IsHeldAt : (record_at : ℕ → Option (Event T)) (ks : List (Kept T)) (i : ℕ) (d : Kept T) → AllHeld record_at ks → i < length ks →
       IsHeldAt record_at ks (get_or ks i d).0 (get_or ks i d).1

@@ -7,7 +7,7 @@ use Rattle.ec_terms.specs.declared.ids.PropId.{PropId}
 use Rattle.ec_rows.proofs.OrderedLemmas.{is_ascending-filter, is_ascending-with_member}
 use Rattle.ec_numbered.specs.PropSet.{has_number, comes_before, are_ascending, with_number}
 use Rattle.ec_exclusive.specs.Added.{Added, added_props, is_added, neighbours_of, stands_in_list, AreMutual, added_of}
-use Rattle.ec_numbered.proofs.Numbers.{same_prop, IsOrder-number, same_members, has_number-filter, has_number-with_number}
+use Rattle.ec_numbered.proofs.Numbers.{same_prop, IsOrder-number, same_members, has_number-filter, has_number-with_number, are_ascending-with_number}
 use Rattle.ec_exclusive.proofs.KeptLists.{is_added-neighbours_of, All-neighbours_of, are_ascending-added_of, is_added-added_of, All-added_of, All-at}
 
 -- ---- tests
@@ -15,14 +15,6 @@ use Rattle.ec_exclusive.proofs.KeptLists.{is_added-neighbours_of, All-neighbours
 -- a list that ascends still does without the members that fail a test
 pub are_ascending-filter : (test : PropId → Bool) (ps : List PropId) → are_ascending ps ≡ true → are_ascending (filter test ps) ≡ true
 are_ascending-filter test ps ascending = is_ascending-filter comes_before test ps ascending
-
-pub are_ascending-with_number : (p : PropId) (ps : List PropId) → are_ascending ps ≡ true → are_ascending (with_number p ps) ≡ true
-are_ascending-with_number p ps ascending = is_ascending-with_member comes_before IsOrder-number p ps ascending
-
--- two tests one after the other
-pub filter_filter : {X : Type 0} (p q : X → Bool) (xs : List X) → filter p (filter q xs) ≡ filter q (filter p xs)
-filter_filter p q [] = refl
-filter_filter p q (x ∷ xs) = let ih = filter_filter p q xs in grind arith
 
 module _ (test : PropId → PropId → Bool) where
   -- each list is of the added properties that the test passes with its own

@@ -6,9 +6,10 @@ use Rattle.std.proofs.lemmas.List.Elements.{All-weaker, All-map, All-filter}
 use Rattle.ec_terms.specs.declared.ids.PropId.{PropId}
 use Rattle.ec_numbered.specs.PropSet.{has_number, are_ascending, without_number}
 use Rattle.ec_exclusive.specs.Added.{Added, added_props, neighbours_of, stands_in_list, AreMutual, without_neighbour, without_added, added_from, added_of}
-use Rattle.ec_numbered.proofs.Numbers.{has_number-filter}
+use Rattle.ec_numbered.proofs.Numbers.{has_number-filter, without_number-absent}
 use Rattle.ec_exclusive.proofs.KeptLists.{numbered, neighbours_of-added_of}
-use Rattle.ec_exclusive.proofs.Excluding.{AreListed, are_ascending-filter, filter_filter}
+use Rattle.ec_exclusive.proofs.Excluding.{AreListed, are_ascending-filter}
+use Rattle.ec_lists.proofs.Filters.{filter_comm}
 
 -- ---- rows without a property
 
@@ -34,7 +35,7 @@ AreListed-less test p rows listed =
     All-map by_test (without_neighbour p) (filter (λ (row : Added). not (row.prop.0 == p.0)) rows)
     (All-filter (λ (row : Added). not (row.prop.0 == p.0)) (λ (row : Added). by_test (without_neighbour p row)) rows
     (All-weaker (λ (row : Added). row.neighbours ≡ filter (test row.prop) (added_props rows)) (λ (row : Added). by_test (without_neighbour p row))
-    (λ row is. ap (without_number p) is ∙ filter_filter (λ (q : PropId). not (q.0 == p.0)) (test row.prop) (added_props rows)
+    (λ row is. ap (without_number p) is ∙ filter_comm (λ (q : PropId). not (q.0 == p.0)) (test row.prop) (added_props rows)
     ∙ ap (filter (test row.prop)) (sym (added_props-less p rows))) rows listed))
 
 -- what holds of the lists and numbers of all rows holds of those that stay, if it holds without the property
@@ -64,11 +65,6 @@ AreMutual-less p rows are = record {
 }
 
 -- ---- lists by number without a property
-
--- a list in which a property does not stand
-pub without_number-none : (p : PropId) (ps : List PropId) → has_number p.0 ps ≡ false → without_number p ps ≡ ps
-without_number-none p [] none = refl
-without_number-none p (q ∷ ps) none = let ih = without_number-none p ps in grind arith
 
 added_from-less : (p : PropId) (k : ℕ) (lists new : List (Option (List PropId))) → length new ≡ length lists →
     ((n : ℕ) → get_or new n None ≡ list_without p (numbered (k + n)) (get_or lists n None)) → added_from k new ≡ without_added p (added_from k lists)
@@ -105,5 +101,5 @@ added_of-less p lists new own are is same each =
     other q (Some ps) was =
         let there : stands_in_list q (Some own) ≡ stands_in_list p (Some ps) =
         ap (stands_in_list q) (sym (neighbours_of-added_of p lists ∙ is)) ∙ are.both_ways p q ∙ ap (stands_in_list p) (neighbours_of-added_of q lists ∙ was) in
-        let stays = without_number-none p ps in
+        let stays = without_number-absent p ps in
         grind arith

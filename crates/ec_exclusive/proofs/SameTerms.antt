@@ -11,14 +11,7 @@ use Rattle.ec_exclusive.specs.Neighbours.{AreNeighbours, ReadTermsAlone, both_ex
 use Rattle.ec_numbered.proofs.Numbers.{itself}
 use Rattle.ec_exclusive.proofs.KeptLists.{is_added-neighbours_of, All-neighbours_of}
 use Rattle.ec_exclusive.proofs.Leaving.{list_without, neighbours_of-less}
-
--- two tests that agree on all members keep the same
-filter-agree : {X : Type 0} (p q : X → Bool) (xs : List X) → All (λ x. p x ≡ q x) xs → filter p xs ≡ filter q xs
-filter-agree p q [] agree = refl
-filter-agree p q (x ∷ xs) agree =
-    let here = All-head (λ x. p x ≡ q x) x xs agree in
-    let ih = filter-agree p q xs (All-tail (λ x. p x ≡ q x) x xs agree) in
-    ap₂ (λ b ys. cond b (x ∷ ys) ys) here ih
+use Rattle.ec_lists.proofs.Filters.{filter_agree_at}
 
 -- a property whose term is kept is kept
 kept_by_term : (p : ℕ) (table : List KeptProp) → is_some (term_at p table) ≡ is_some (prop_at p table)
@@ -31,7 +24,7 @@ kept_by_term p table = from (prop_at p table)
 pub read_terms_alone : (theory : Theory) → ReadTermsAlone theory
 read_terms_alone theory table other rows keeps are = record {
   kept = λ i d within. sym (kept_by_term (get_or rows i d).prop.0 other) ∙ ap is_some (keeps i d within) ∙ kept_by_term (get_or rows i d).prop.0 table ∙ are.kept i d within;
-  lists = λ i d within. are.lists i d within ∙ filter-agree (exclusive_at theory table (get_or rows i d).prop) (exclusive_at theory other (get_or rows i d).prop) (added_props rows)
+  lists = λ i d within. are.lists i d within ∙ filter_agree_at (exclusive_at theory table (get_or rows i d).prop) (exclusive_at theory other (get_or rows i d).prop) (added_props rows)
       (All-map (λ q. exclusive_at theory table (get_or rows i d).prop q ≡ exclusive_at theory other (get_or rows i d).prop q) (λ (row : Added). row.prop) rows
       (λ j e there. ap₂ (both_exclusive theory) (sym (keeps i d within)) (sym (keeps j e there))));
 }

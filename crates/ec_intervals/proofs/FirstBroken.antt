@@ -12,7 +12,7 @@ use Rattle.ec_axioms.proofs.Ranks.{int_lt-not_after}
 use Rattle.ec_rows.specs.PlainMarks.{plain_marks}
 use Rattle.ec_rows.specs.Marks.{IsMarkRow, marks_before}
 use Rattle.ec_rows.specs.declared.mark.Mark.{Mark}
-use Rattle.ec_rows.proofs.OrderedLemmas.{and-left, and-right, list_all-weaker}
+use Rattle.ec_rows.proofs.OrderedLemmas.{and-left, and-right}
 use Rattle.ec_intervals.specs.Broken.{passes_after, first_after}
 use Rattle.ec_intervals.specs.Steps.{first_open, open_behind, open_through, broken_by, broken_through}
 use Rattle.ec_intervals.proofs.Pass.{pass, broken_begin_by, closing-broken_by, pass-broken_spans_of}
@@ -20,6 +20,7 @@ use Rattle.ec_intervals.proofs.Cut.{open_behind-begins, open_through-begins, ope
 use Rattle.ec_intervals.proofs.Written.{IsPlainRow-from_row}
 use Rattle.ec_intervals.proofs.Options.{none-is}
 use Rattle.ec_intervals.proofs.Spliced.{earlier-rest, earlier-before}
+use Rattle.ec_lists.proofs.Tests.{list_all-weaker}
 
 -- a search that finds a member in the front of a list
 find-front : {X : Type 0} (p : X → Bool) (xs ys : List X) → is_some (find p xs) ≡ true → find p (xs ++ ys) ≡ find p xs

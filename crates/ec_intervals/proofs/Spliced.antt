@@ -22,7 +22,7 @@ use Rattle.ec_rows.specs.Spans.{IsSpanRow, is_covering, reaches}
 use Rattle.ec_rows.specs.declared.mark.Mark.{Mark}
 use Rattle.ec_rows.specs.declared.span.End.{End}
 use Rattle.ec_rows.specs.declared.span.Span.{Span}
-use Rattle.ec_rows.proofs.OrderedLemmas.{and-left, and-right, list_all-weaker}
+use Rattle.ec_rows.proofs.OrderedLemmas.{and-left, and-right}
 use Rattle.ec_intervals.specs.declared.draft.Draft.{Draft}
 use Rattle.ec_intervals.specs.declared.interval.Begin.{Begin as Begun}
 use Rattle.ec_intervals.specs.declared.interval.Begin.TheVariants.{Initial}
@@ -38,6 +38,7 @@ use Rattle.ec_intervals.proofs.Cut.{filter-none, cut-front, cut-behind, IsPlainR
 use Rattle.ec_intervals.proofs.SpanCuts.{filter-both, take-cut, drop-cut, list_all-kept, length-weaker, plain-take, plain-drop, reaching-lasts, taken-up_to, dropped-up_to}
 use Rattle.ec_intervals.proofs.TwoRows.{is_start, not-true, kept-taken, opened-by, kept-before_all, front-kept, new-spelt, list_all-both, IsMember-front}
 use Rattle.ec_intervals.proofs.Reading.{up_to-None, first_behind-None, up_to_all, none_behind-up_to, none_behind-find}
+use Rattle.ec_lists.proofs.Tests.{list_all-weaker}
 
 -- ---- lists
 

@@ -8,8 +8,9 @@ use Rattle.std.proofs.lemmas.List.Folds.{list_any-append}
 use Rattle.std.proofs.lemmas.List.{get_or_default}
 use Rattle.std.proofs.lemmas.List.Elements.{filter_agree}
 use Rattle.ec_terms.specs.declared.ids.PropId.{PropId}
-use Rattle.ec_rows.proofs.OrderedLemmas.{IsOrder, IsPlace, is_at, ascending-first, ascending-rest, IsPartitionedBy-ascending, take-partition, filter-behind_free, free-from_none, with_member-free, at-from_any, filter-not_at, list_any-same, list_any-at, list_any-free, is_ascending-with_member, is_ascending-filter}
+use Rattle.ec_rows.proofs.OrderedLemmas.{IsOrder, IsPlace, is_at, ascending-first, ascending-rest, IsPartitionedBy-ascending, take-partition, filter-behind_free, free-from_none, with_member-free, at-from_any, filter-not_at, list_any-at, list_any-free, is_ascending-with_member, is_ascending-filter}
 use Rattle.ec_numbered.specs.PropSet.{has_number, comes_before, are_ascending, with_number, without_number}
+use Rattle.ec_lists.proofs.Tests.{list_any-same}
 
 -- ---- numbers
 

@@ -6,8 +6,9 @@ use Rattle.std.specs.List.Sorted.{IsPartitionedBy, IsPartitionPoint}
 use Rattle.std.proofs.lemmas.Bool.{cases_Bool}
 use Rattle.std.proofs.lemmas.List.{get_or_default}
 use Rattle.ec_terms.specs.declared.ids.PropId.{PropId}
-use Rattle.ec_rows.proofs.OrderedLemmas.{IsPlace, is_at, IsPartitionedBy-ascending, list_any-at, list_any-free, list_any-same}
+use Rattle.ec_rows.proofs.OrderedLemmas.{IsPlace, is_at, IsPartitionedBy-ascending, list_any-at, list_any-free}
 use Rattle.ec_points.specs.Table.{comes_before, are_ascending, has_number}
+use Rattle.ec_lists.proofs.Tests.{list_any-same}
 
 module _ (n : ℕ) where
   IsPlace-number : IsPlace comes_before (λ q. nat_lt q.0 n) (λ q. nat_lt n q.0)

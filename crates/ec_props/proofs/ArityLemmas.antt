@@ -12,8 +12,10 @@ use Rattle.std.proofs.lemmas.List.Elements.{filter_agree}
 use Rattle.ec_terms.specs.declared.ground.Ground.{Ground}
 use Rattle.ec_terms.specs.Term.{name_cmp, arg_cmp, term_cmp}
 use Rattle.ec_rows.specs.Ordered.{is_ascending}
-use Rattle.ec_rows.proofs.OrderedLemmas.{list_all-weaker, ascending-first, ascending-rest}
+use Rattle.ec_rows.proofs.OrderedLemmas.{ascending-first, ascending-rest}
 use Rattle.ec_props.specs.Table.{KeptProp, prop_before, is_in_order, arity_cmp, props_below, props_with, props_above}
+use Rattle.ec_lists.proofs.Orderings.{Less-from_is_lt, Greater-from_is_gt}
+use Rattle.ec_lists.proofs.Tests.{list_all-weaker}
 
 -- ---- a list in order, cut in three
 
@@ -97,16 +99,6 @@ term_cmp-form : (p q : Ground) → term_cmp p q ≡ ordering_then (form_cmp (for
 unfolding term_cmp
 term_cmp-form p q = then-assoc (name_cmp p.name q.name) (nat_cmp (length p.args) (length q.args)) (slice_cmp arg_cmp p.args q.args)
 
-Less-from : (r : Ordering) → is_lt r ≡ true → r ≡ Less
-Less-from Less e = refl
-Less-from Equal e = cc
-Less-from Greater e = cc
-
-Greater-from : (r : Ordering) → is_gt r ≡ true → r ≡ Greater
-Greater-from Less e = cc
-Greater-from Equal e = cc
-Greater-from Greater e = refl
-
 below-form : (x y z : Form) (r o : Ordering) → form_cmp x y ≡ r → is_lt (ordering_then r o) ≡ true → form_cmp y z ≡ Less → form_cmp x z ≡ Less
 below-form x y z Less o is before less = form_total.trans x y z is less
 below-form x y z Equal o is before less = form_total.congr x y z is ∙ less
@@ -125,9 +117,9 @@ place_by name arity k = arity_cmp k.term name arity
 pub IsRising-arity : (name : List ℕ) (arity : ℕ) → IsRising prop_before (place_by name arity)
 IsRising-arity name arity = record {
   below = λ x y before e. ap is_lt (below-form (form_of x.term) (form_of y.term) (name, arity) (form_cmp (form_of x.term) (form_of y.term)) (slice_cmp arg_cmp x.term.args y.term.args) refl
-      (ap is_lt (sym (term_cmp-form x.term y.term)) ∙ before) (Less-from (arity_cmp y.term name arity) e));
+      (ap is_lt (sym (term_cmp-form x.term y.term)) ∙ before) (Less-from_is_lt (arity_cmp y.term name arity) e));
   above = λ x y before e. ap is_gt (above-form (form_of x.term) (form_of y.term) (name, arity) (form_cmp (form_of x.term) (form_of y.term)) (slice_cmp arg_cmp x.term.args y.term.args) refl
-      (ap is_lt (sym (term_cmp-form x.term y.term)) ∙ before) (Greater-from (arity_cmp x.term name arity) e));
+      (ap is_lt (sym (term_cmp-form x.term y.term)) ∙ before) (Greater-from_is_gt (arity_cmp x.term name arity) e));
 }
 
 is_eq-then : (r o : Ordering) → (is_eq r && is_eq o) ≡ is_eq (ordering_then r o)

@@ -7,11 +7,13 @@ use Rattle.std.proofs.lemmas.Bool.{cases_Bool, false≢true}
 use Rattle.ec_terms.specs.declared.ground.Ground.{Ground}
 use Rattle.ec_terms.specs.declared.ids.PropId.{PropId}
 use Rattle.ec_terms.specs.Term.{term_cmp, term_eq}
-use Rattle.ec_rows.proofs.OrderedLemmas.{and-left, and-right, filter-all, ascending-first, ascending-rest, is_ascending-with_member, is_ascending-filter}
+use Rattle.ec_rows.proofs.OrderedLemmas.{and-left, and-right, ascending-first, ascending-rest, is_ascending-with_member, is_ascending-filter}
 use Rattle.ec_props.specs.Table.{KeptProp, prop_at, term_at, prop_of, prop_before, is_in_order, unmentioned, with_prop, without_prop, mentioned, with_mentions, kept_as, number_of, kept_of, IsTable}
 use Rattle.ec_props.specs.declared.property.Property.{Property}
-use Rattle.ec_props.proofs.KeptLemmas.{same_number, itself, turned_other, list_all-slice_get, by_term, prop_at-insert, prop_at-without, prop_at-with_mentions, term_at-with_mentions, in_order-with_mentions, prop_of-insert, prop_of-remove, prop_of-with_mentions, numbers-insert, numbers-remove, numbers-with_mentions}
+use Rattle.ec_props.proofs.KeptLemmas.{same_number, itself, turned_other, by_term, prop_at-insert, prop_at-without, prop_at-with_mentions, term_at-with_mentions, in_order-with_mentions, prop_of-insert, prop_of-remove, prop_of-with_mentions, numbers-insert, numbers-remove, numbers-with_mentions}
 use Rattle.ec_props.proofs.TableLemmas.{property_of, AllHeld, AllHeld-kept_of, AllHeld-slice_get, kept_of-numbers, prop_of-kept}
+use Rattle.ec_lists.proofs.Filters.{filter-all}
+use Rattle.ec_lists.proofs.Tests.{list_all-slice_get}
 
 -- ---- properties that are held
 

@@ -11,8 +11,12 @@ use Rattle.ec_terms.specs.declared.ids.PropId.{PropId}
 use Rattle.ec_terms.specs.Term.{term_cmp, term_eq}
 use Rattle.ec_terms.proofs.OrderLemmas.{term_cmp-total, term_cmp-exact, term_cmp-Equal, term_eq-Decides}
 use Rattle.ec_rows.specs.Ordered.{is_ascending}
-use Rattle.ec_rows.proofs.OrderedLemmas.{IsOrder, IsOrder-by_key, and-left, and-right, ascending-first, ascending-rest, find-none}
+use Rattle.ec_rows.proofs.OrderedLemmas.{IsOrder, IsOrder-by_key, and-left, and-right, ascending-first, ascending-rest}
 use Rattle.ec_props.specs.Table.{KeptProp, prop_at, term_at, mentions_at, prop_of, prop_before, is_in_order, without_prop, mentioned, with_mentions, number_of}
+use Rattle.ec_lists.proofs.Booleans.{option_map-cond, cond_comm, cond-same, cond-again}
+use Rattle.ec_lists.proofs.Finds.{find-none, is_some-find}
+use Rattle.ec_lists.proofs.Orderings.{Equal-from_is_eq}
+use Rattle.ec_lists.proofs.Tests.{list_all-slice_get}
 
 -- ---- tests and answers
 
@@ -30,39 +34,6 @@ or_left-false a b = grind arith
 
 or_right-false : (a b : Bool) → (a || b) ≡ false → b ≡ false
 or_right-false a b = grind arith
-
-option_map-cond : {A B : Type 0} (f : A → B) (b : Bool) (x : A) (o : Option A) → option_map f (cond b (Some x) o) ≡ cond b (Some (f x)) (option_map f o)
-option_map-cond f true x o = refl
-option_map-cond f false x o = refl
-
--- two answers of which not both are given
-cond-cond : {A : Type 0} (a b : Bool) (x y z : A) → (b ≡ true → a ≡ false) → cond a x (cond b y z) ≡ cond b y (cond a x z)
-cond-cond true true x y z apart = absurd (false≢true (sym (apart refl)))
-cond-cond false true x y z apart = refl
-cond-cond true false x y z apart = refl
-cond-cond false false x y z apart = refl
-
--- the same answer either way
-cond-same : {A : Type 0} (b : Bool) (x : A) → x ≡ cond b x x
-cond-same true x = refl
-cond-same false x = refl
-
--- nothing, whether or not the rest has an answer
-cond-none : {A : Type 0} (b : Bool) (x y o : A) → cond b x o ≡ cond b x (cond b y o)
-cond-none true x y o = refl
-cond-none false x y o = refl
-
--- what holds of all members holds of the one at a place
-pub list_all-slice_get : {A : Type 0} (p : A → Bool) (xs : List A) (i : ℕ) (x : A) → list_all p xs ≡ true → slice_get xs i ≡ Some x → p x ≡ true
-list_all-slice_get p [] i x all is = cc
-list_all-slice_get p (y ∷ xs) zero x all is = let same : y ≡ x = cc in subst (λ z. p z ≡ true) same (first (p y) (list_all p xs) all)
-  where
-    first : (a b : Bool) → (a && b) ≡ true → a ≡ true
-    first a b = grind arith
-list_all-slice_get p (y ∷ xs) (suc i) x all is = list_all-slice_get p xs i x (rest (p y) (list_all p xs) all) is
-  where
-    rest : (a b : Bool) → (a && b) ≡ true → b ≡ true
-    rest a b = grind arith
 
 -- ---- the property of a number
 
@@ -99,7 +70,7 @@ prop_at-insert k (j ∷ js) (suc i) id none =
     let apart : (k.id == id) ≡ true → (j.id == id) ≡ false =
     λ e. subst (λ n. (j.id == n) ≡ false) (same_number k.id id e) (absent-first k.id j js none) in
     ap (λ o. cond (j.id == id) (Some j) o) (prop_at-insert k js i id (absent-rest k.id j js none))
-    ∙ cond-cond (j.id == id) (k.id == id) (Some j) (Some k) (prop_at id js) apart
+    ∙ cond_comm (j.id == id) (k.id == id) (Some j) (Some k) (prop_at id js) apart
 
 -- with a property less
 pub prop_at-without : (p id : ℕ) (ks : List KeptProp) → prop_at id (without_prop p ks) ≡ cond (p == id) None (prop_at id ks)
@@ -110,12 +81,12 @@ prop_at-without p id (k ∷ ks) =
     ⊎_elim
     (λ e. let same : (k.id == id) ≡ (p == id) = ap (λ n. n == id) (same_number k.id p e) in
     ap (λ b. prop_at id (cond (not b) (k ∷ rest) rest)) e ∙ ih
-    ∙ cond-none (p == id) None (Some k) (prop_at id ks)
+    ∙ cond-again (p == id) None (Some k) (prop_at id ks)
     ∙ ap (λ b. cond (p == id) None (cond b (Some k) (prop_at id ks))) (sym same))
     (λ e. let apart : (p == id) ≡ true → (k.id == id) ≡ false = λ is. subst (λ n. (k.id == n) ≡ false) (same_number p id is) e in
     ap (λ b. prop_at id (cond (not b) (k ∷ rest) rest)) e
     ∙ ap (λ o. cond (k.id == id) (Some k) o) ih
-    ∙ cond-cond (k.id == id) (p == id) (Some k) None (prop_at id ks) apart)
+    ∙ cond_comm (k.id == id) (p == id) (Some k) None (prop_at id ks) apart)
     (cases_Bool (k.id == p))
 
 -- mentions change neither the number nor the term
@@ -152,14 +123,9 @@ in_order-with_mentions p count (k ∷ ks) = ap₂ (λ a b. a && b) (list_all-men
 
 -- ---- the property of a term
 
-is_eq-Equal : (r : Ordering) → is_eq r ≡ true → r ≡ Equal
-is_eq-Equal Less e = cc
-is_eq-Equal Equal e = refl
-is_eq-Equal Greater e = cc
-
 -- terms at the same place of the order are the same
 pub same_term : (p q : Ground) → is_eq (term_cmp p q) ≡ true → p ≡ q
-same_term p q e = term_cmp-exact p q (is_eq-Equal (term_cmp p q) e)
+same_term p q e = term_cmp-exact p q (Equal-from_is_eq (term_cmp p q) e)
 
 -- a term has the place of another in the order exactly where it is the same
 pub term_eq-is_eq : (p q : Ground) → term_eq p q ≡ is_eq (term_cmp p q)
@@ -286,11 +252,6 @@ prop_at-with_other_mentions p count id ks other = prop_at-with_mentions p count 
 
 -- ---- what a test finds, with a member more and with one less
 
--- whether some member passes
-pub is_some-find : {A : Type 0} (p : A → Bool) (xs : List A) → is_some (find p xs) ≡ list_any p xs
-is_some-find p [] = refl
-is_some-find p (x ∷ xs) = ⊎_elim (λ e. rw e refl) (λ e. rw e (is_some-find p xs)) (cases_Bool (p x))
-
 -- with a member more, which no other stands for
 pub find-insert : {A : Type 0} (p : A → Bool) (x : A) (xs : List A) (i : ℕ) → (p x ≡ true → list_any p xs ≡ false) → find p (insert xs i x) ≡ cond (p x) (Some x) (find p xs)
 find-insert p x [] zero alone = refl
@@ -298,7 +259,7 @@ find-insert p x [] (suc i) alone = refl
 find-insert p x (y ∷ ys) zero alone = refl
 find-insert p x (y ∷ ys) (suc i) alone =
     ap (λ o. cond (p y) (Some y) o) (find-insert p x ys i (λ e. or_right-false (p y) (list_any p ys) (alone e)))
-    ∙ cond-cond (p y) (p x) (Some y) (Some x) (find p ys) (λ e. or_left-false (p y) (list_any p ys) (alone e))
+    ∙ cond_comm (p y) (p x) (Some y) (Some x) (find p ys) (λ e. or_left-false (p y) (list_any p ys) (alone e))
 
 -- with the member at a place less, for which a test does not ask
 pub find-remove : {A : Type 0} (p : A → Bool) (xs : List A) (i : ℕ) (x : A) → slice_get xs i ≡ Some x → p x ≡ false → find p (remove xs i) ≡ find p xs

@@ -12,15 +12,12 @@ use Rattle.ec_terms.specs.declared.ids.PropId.{PropId}
 use Rattle.ec_terms.specs.Term.{term_cmp, term_eq}
 use Rattle.ec_terms.proofs.OrderLemmas.{term_cmp-total, term_eq-Decides}
 use Rattle.ec_rows.specs.Ordered.{Reserved, is_ascending}
-use Rattle.ec_rows.proofs.OrderedLemmas.{IsPlace, IsPlace-by_key, IsPartitionedBy-ascending, is_at, is_eq-is_at, length-partition, filter-behind_free, free-from_none, at-from_any, list_any-same}
+use Rattle.ec_rows.proofs.OrderedLemmas.{IsPlace, IsPlace-by_key, IsPartitionedBy-ascending, is_at, is_eq-is_at, length-partition, filter-behind_free, free-from_none, at-from_any}
 use Rattle.ec_props.proofs.KeptLemmas.{find-term, term_eq-is_eq, place-prop_at, same-places, list_any-absent, list_any-kept}
 use Rattle.ec_props.proofs.ArityLemmas.{IsRising-arity}
 use Rattle.ec_props.specs.Table.{KeptProp, prop_at, term_at, mentions_at, prop_of, prop_before, arity_cmp, props_below, kept_as, number_of, kept_of, IsTable}
 use Rattle.ec_props.specs.declared.property.Property.{Property}
-
--- what holds of an answer that is there
-pub if_some : {A : Type 0} (answer : Option A) (P : A → Type 0) (x : A) → answer ≡ Some x → P x → IfSome answer P
-if_some answer P x is holds = subst (λ o. IfSome o P) (sym is) holds
+use Rattle.ec_lists.proofs.Tests.{list_any-same}
 
 -- records that are the same have the same properties
 pub items_is : {r s : Reserved KeptProp} → r ≡ s → r.items ≡ s.items

@@ -11,9 +11,9 @@ use Rattle.ec_terms.specs.Term.{names_are_names, term_eq, term_text}
 use Rattle.ec_terms.specs.TextLaws.{IsTerm}
 use Rattle.ec_terms.proofs.OrderLemmas.{term_eq-Decides}
 use Rattle.ec_terms.proofs.ReadBack.{text_faithful}
-use Rattle.ec_rows.proofs.OrderedLemmas.{find-none}
 use Rattle.ec_props.specs.Table.{KeptProp, prop_at, term_at, prop_of, unmentioned, with_prop, without_prop, mentioned, with_mentions, IsFoundByText}
 use Rattle.ec_props.proofs.KeptLemmas.{mentioned-term}
+use Rattle.ec_lists.proofs.Finds.{find-none}
 
 -- a kept term has names that are names
 abbrev IsNamed : KeptProp → Type 0

@@ -6,16 +6,12 @@ use Rattle.std.specs.Ordering.{int_eq}
 use Rattle.std.proofs.lemmas.Bool.{cases_Bool}
 use Rattle.std.proofs.lemmas.Int.{ints}
 use Rattle.ec_rows.specs.Ordered.{is_ascending, by_time}
-use Rattle.ec_rows.proofs.OrderedLemmas.{and-left, and-right, list_all-weaker, ascending-first, ascending-rest}
-
-same-self : (a : ℤ) → int_eq a a ≡ true
-same-self a = grind (arith, ints)
+use Rattle.ec_rows.proofs.OrderedLemmas.{and-left, and-right, ascending-first, ascending-rest}
+use Rattle.ec_lists.proofs.Integers.{int_eq-same, int_lt-trans}
+use Rattle.ec_lists.proofs.Tests.{list_all-weaker}
 
 not_at-later : (a t : ℤ) → int_lt t a ≡ true → int_eq a t ≡ false
 not_at-later a t = grind (arith, ints)
-
-later-through : (s t a : ℤ) → int_lt s t ≡ true → int_lt t a ≡ true → int_lt s a ≡ true
-later-through s t a = grind (arith, ints)
 
 later-same : (s t a : ℤ) → int_eq s t ≡ true → int_lt s a ≡ true → int_lt t a ≡ true
 later-same s t a = grind (arith, ints)
@@ -36,13 +32,13 @@ module _ {T X : Type 0} (rank : T → ℤ) (time : X → T) where
 
   -- the first member stands at its time
   found-first : (x : X) (xs : List X) → found (rank (time x)) (x ∷ xs) ≡ Some x
-  found-first x xs = ap (λ b. cond b (Some x) (found (rank (time x)) xs)) (same-self (rank (time x)))
+  found-first x xs = ap (λ b. cond b (Some x) (found (rank (time x)) xs)) (int_eq-same (rank (time x)))
 
   -- nothing stands at a time before the first member
   none-before_first : (t : ℤ) (x : X) (xs : List X) → int_lt t (rank (time x)) ≡ true → is_ascending (by_time rank time) (x ∷ xs) ≡ true → found t (x ∷ xs) ≡ None
   none-before_first t x xs before ascending =
       none-later t (x ∷ xs) (ap₂ (λ a b. a && b) before
-      (list_all-weaker (by_time rank time x) (λ y. int_lt t (rank (time y))) (λ y e. later-through t (rank (time x)) (rank (time y)) before e) xs
+      (list_all-weaker (by_time rank time x) (λ y. int_lt t (rank (time y))) (λ y e. int_lt-trans t (rank (time x)) (rank (time y)) before e) xs
       (ascending-first (by_time rank time) x xs ascending)))
 
   -- nothing stands at the time of the first member behind it

@@ -5,8 +5,9 @@ use Rattle.std.proofs.lemmas.List.Folds.{list_all-append}
 use Rattle.ec_rows.specs.declared.mark.Mark.{Mark}
 use Rattle.ec_rows.specs.Ordered.{is_ascending, members_before, members_after}
 use Rattle.ec_rows.specs.Marks.{IsMarkRow, is_counted, mark_before, are_before, with_mark}
-use Rattle.ec_rows.proofs.OrderedLemmas.{list_all-remove, is_ascending-remove, is_ascending-append_one, list_all-with_member, is_ascending-with_member, with_member-at, with_member-free}
+use Rattle.ec_rows.proofs.OrderedLemmas.{is_ascending-remove, is_ascending-append_one, list_all-with_member, is_ascending-with_member, with_member-at, with_member-free}
 use Rattle.ec_rows.proofs.TimedLemmas.{IsOrder-by_time}
+use Rattle.ec_lists.proofs.Tests.{list_all-remove}
 
 module _ {T : Type 0} (rank : T → ℤ) where
   -- no marks

@@ -13,6 +13,9 @@ use Rattle.std.proofs.lemmas.List.Elements.{filter_passes}
 use Rattle.std.proofs.lemmas.List.Sums.{AllPass-from_list_all, list_all-from_AllPass}
 use Rattle.std.proofs.lemmas.List.Folds.{list_all-append}
 use Rattle.ec_rows.specs.Ordered.{is_ascending, with_member}
+use Rattle.ec_lists.proofs.Filters.{filter-all}
+use Rattle.ec_lists.proofs.Orderings.{Less-from_is_lt}
+use Rattle.ec_lists.proofs.Tests.{list_any-none, list_any-none_at, list_all-weaker, list_all-filter, list_all-remove}
 
 -- ---- tests of all members
 
@@ -22,46 +25,6 @@ and-left a b both = grind arith
 
 pub and-right : (a b : Bool) → (a && b) ≡ true → b ≡ true
 and-right a b both = grind arith
-
--- what holds of all members holds of those that a filter keeps
-pub list_all-filter : {X : Type 0} (p q : X → Bool) (xs : List X) → list_all p xs ≡ true → list_all p (filter q xs) ≡ true
-list_all-filter p q [] all = refl
-list_all-filter p q (x ∷ xs) all = let ih = list_all-filter p q xs in grind arith
-
--- and of those that are left where one is taken out
-pub list_all-remove : {X : Type 0} (p : X → Bool) (xs : List X) (i : ℕ) → list_all p xs ≡ true → list_all p (remove xs i) ≡ true
-list_all-remove p [] zero all = refl
-list_all-remove p [] (suc i) all = refl
-list_all-remove p (x ∷ xs) zero all = and-right _ _ all
-list_all-remove p (x ∷ xs) (suc i) all =
-    let ih : list_all p (remove xs i) ≡ true = list_all-remove p xs i (and-right _ _ all) in
-    let here : p x ≡ true = and-left _ _ all in
-    ap (λ b. b && list_all p (remove xs i)) here ∙ ih
-
--- a filter that passes all members
-pub filter-all : {X : Type 0} (p : X → Bool) (xs : List X) → list_all p xs ≡ true → filter p xs ≡ xs
-filter-all p [] all = refl
-filter-all p (x ∷ xs) all = let ih = filter-all p xs in grind arith
-
--- a test that follows from another
-pub list_all-weaker : {X : Type 0} (p q : X → Bool) → ((x : X) → p x ≡ true → q x ≡ true) → (xs : List X) → list_all p xs ≡ true → list_all q xs ≡ true
-list_all-weaker p q weaker [] all = refl
-list_all-weaker p q weaker (x ∷ xs) all = let ih = list_all-weaker p q weaker xs in let here = weaker x in grind arith
-
--- no member passes a test
-pub list_any-none : {X : Type 0} (p : X → Bool) (xs : List X) → list_all (λ x. not (p x)) xs ≡ true → list_any p xs ≡ false
-list_any-none p [] all = refl
-list_any-none p (x ∷ xs) all = let ih = list_any-none p xs in grind arith
-
--- where nothing passes, nothing is found
-pub find-none : {X : Type 0} (p : X → Bool) (xs : List X) → list_any p xs ≡ false → find p xs ≡ None
-find-none p [] none = refl
-find-none p (x ∷ xs) none = let ih = find-none p xs in grind arith
-
--- two tests that agree
-pub list_any-same : {X : Type 0} (p q : X → Bool) → ((x : X) → p x ≡ q x) → (xs : List X) → list_any p xs ≡ list_any q xs
-list_any-same p q same [] = refl
-list_any-same p q same (x ∷ xs) = ap₂ (λ a b. a || b) (same x) (list_any-same p q same xs)
 
 -- the first member of an ascending list stands before all others
 pub ascending-first : {X : Type 0} (stands_before : X → X → Bool) (x : X) (xs : List X) → is_ascending stands_before (x ∷ xs) ≡ true →
@@ -230,18 +193,12 @@ list_any-free stands_before p q place (x ∷ xs) (suc i) ascending cut free =
     let ih : list_any (is_at p q) xs ≡ false =
     list_any-free stands_before p q place xs i (ascending-rest stands_before x xs ascending) (IsPartitionPoint-rest p x xs i cut) (λ d lt. free d (omega arith)) in grind arith
 
--- no member passes a test
-none-at : {X : Type 0} (p : X → Bool) (xs : List X) (i : ℕ) (d : X) → list_any p xs ≡ false → i < length xs → p (get_or xs i d) ≡ false
-none-at p [] i d none within = absurd (omega arith)
-none-at p (x ∷ xs) zero d none within = grind arith
-none-at p (x ∷ xs) (suc i) d none within = let rest : list_any p xs ≡ false = grind arith in none-at p xs i d rest (omega arith)
-
 -- where no member is at the place, the one at the cut is behind it
 pub free-from_none : {X : Type 0} (p q : X → Bool) (xs : List X) (i : ℕ) → IsPartitionPoint (λ y. p y ≡ true) (λ y. p y ≡ false) xs i →
     list_any (is_at p q) xs ≡ false → (d : X) → i < length xs → q (get_or xs i d) ≡ true
 free-from_none p q xs i cut none d within =
     let not_before : p (get_or xs i d) ≡ false = cut.1 i d (omega arith) within in
-    let not_at : is_at p q (get_or xs i d) ≡ false = none-at (is_at p q) xs i d none within in
+    let not_at : is_at p q (get_or xs i d) ≡ false = list_any-none_at (is_at p q) xs i d none within in
     from_both (p (get_or xs i d)) (q (get_or xs i d)) not_before not_at
   where
     from_both : (a b : Bool) → a ≡ false → (not a && not b) ≡ false → b ≡ true
@@ -389,12 +346,6 @@ is_ascending-append_one stands_before (y ∷ xs) x ascending all =
     ap (λ b. b && is_ascending stands_before (xs ++ x ∷ [])) front ∙ ih
 
 -- ---- orders by a key
-
--- an answer that tests as less
-Less-from_is_lt : (r : Ordering) → is_lt r ≡ true → r ≡ Less
-Less-from_is_lt Less test = refl
-Less-from_is_lt Equal test = cc
-Less-from_is_lt Greater test = cc
 
 module _ {K X : Type 0} (compare : K → K → Ordering) (total : IsTotalOrder compare) (key : X → K) where
   -- a member stands before another where its key is less

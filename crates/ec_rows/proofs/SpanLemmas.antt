@@ -9,12 +9,10 @@ use Rattle.ec_rows.specs.declared.span.End.TheVariants.{At, Unended}
 use Rattle.ec_rows.specs.declared.span.Span.{Span}
 use Rattle.ec_rows.specs.Ordered.{is_ascending, by_time}
 use Rattle.ec_rows.specs.Spans.{IsSpanRow, ends_after, ends_by, reaches, is_proper, span_before, is_covering}
-use Rattle.ec_rows.proofs.OrderedLemmas.{and-left, and-right, list_all-weaker, ascending-first, ascending-rest}
+use Rattle.ec_rows.proofs.OrderedLemmas.{and-left, and-right, ascending-first, ascending-rest}
 use Rattle.ec_rows.proofs.TimedLemmas.{IsCutBefore}
-
--- an end after s that comes no later than t
-between : (s x t : ℤ) → int_lt s x ≡ true → int_le x t ≡ true → int_lt s t ≡ true
-between s x t = grind (arith, ints)
+use Rattle.ec_lists.proofs.Integers.{int_lt_le-trans}
+use Rattle.ec_lists.proofs.Tests.{list_all-weaker}
 
 -- an end that comes no later than s, which is before t
 ended : (x s t : ℤ) → int_le x s ≡ true → int_lt s t ≡ true → int_le t x ≡ false
@@ -35,7 +33,7 @@ module _ {T : Type 0} (rank : T → ℤ) where
 
   -- where an end is after s and no later than t
   passes : (s t : ℤ) (end : End T) → ends_after rank s end ≡ true → ends_by rank t end ≡ true → int_lt s t ≡ true
-  passes s t (At x) after by = between s (rank x) t after by
+  passes s t (At x) after by = int_lt_le-trans s (rank x) t after by
   passes s t Unended after by = cc
 
   -- a span that ends no later than s does not reach t

@@ -16,7 +16,9 @@ use Rattle.std.proofs.lemmas.Slice.Eq.{bytes_eq-Decides}
 use Rattle.ec_terms.specs.Term.{name_cmp}
 use Rattle.ec_rows.specs.Ordered.{is_ascending}
 use Rattle.ec_rows.specs.Times.{Entry, IsTimeRow, place_of, place_cmp, entry_before, entries_before, is_entry, has_entry, with_entry, without_entry}
-use Rattle.ec_rows.proofs.OrderedLemmas.{IsPlace-by_key, IsOrder-by_key, is_at, is_eq-is_at, IsPartitionedBy-ascending, take-partition, length-partition, filter-behind_free, free-from_none, list_any-same, filter-not_at, at-from_any, is_ascending-with_member, is_ascending-remove, with_member-free}
+use Rattle.ec_rows.proofs.OrderedLemmas.{IsPlace-by_key, IsOrder-by_key, is_at, is_eq-is_at, IsPartitionedBy-ascending, take-partition, length-partition, filter-behind_free, free-from_none, filter-not_at, at-from_any, is_ascending-with_member, is_ascending-remove, with_member-free}
+use Rattle.ec_lists.proofs.Integers.{int_eq-is}
+use Rattle.ec_lists.proofs.Tests.{list_any-same}
 
 -- places are in a total order
 pub place_cmp-total : IsTotalOrder place_cmp
@@ -31,10 +33,6 @@ is_eq-then : (r o : Ordering) → is_eq (ordering_then r o) ≡ (is_eq r && is_e
 is_eq-then Less o = refl
 is_eq-then Equal o = refl
 is_eq-then Greater o = refl
-
--- whole numbers that test as equal
-int_eq-true : (x y : ℤ) → int_eq x y ≡ true → x ≡ y
-int_eq-true x y e = grind (arith, ints)
 
 module _ {T : Type 0} (rank : T → ℤ) where
   -- no entries
@@ -125,7 +123,7 @@ module _ {T : Type 0} (rank : T → ℤ) where
       let not_before : is_before (rank at, id) entry ≡ false = ap (is_before (rank at, id)) is ∙ cut.1 i entry (omega arith) there.0 in
       let here : is_entry rank (rank at) id entry ≡ true =
       is_entry-is_at (rank at) id entry ∙ ap₂ (λ a b. not a && not b) not_before not_behind in
-      let same_time : entry.0 ≡ at = same_moment entry.0 at (int_eq-true (rank entry.0) (rank at) (both-left (int_eq (rank entry.0) (rank at)) (bytes_eq entry.1 id) here)) in
+      let same_time : entry.0 ≡ at = same_moment entry.0 at (int_eq-is (rank entry.0) (rank at) (both-left (int_eq (rank entry.0) (rank at)) (bytes_eq entry.1 id) here)) in
       let same_id : entry.1 ≡ id = (bytes_eq-Decides entry.1 id).0 (both-right (int_eq (rank entry.0) (rank at)) (bytes_eq entry.1 id) here) in
       (i, there.0, sym (get_or_read times i entry there.0 is (at, id, entry.2)) ∙ ap₂ (λ a b. (a, b, entry.2)) same_time same_id)
     where

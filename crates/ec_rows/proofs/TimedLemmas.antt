@@ -6,56 +6,34 @@ use Rattle.std.specs.Ordering.{int_eq}
 use Rattle.std.proofs.lemmas.Int.{ints}
 use Rattle.std.proofs.lemmas.List.{get_or_read}
 use Rattle.ec_rows.specs.Ordered.{is_ascending, by_time, members_before, members_from, members_up_to, members_after, has_member}
-use Rattle.ec_rows.proofs.OrderedLemmas.{IsPartitionedBy-ascending, IsPlace, IsOrder, is_at, take-partition, drop-partition, filter-behind_at, filter-behind_free, list_any-free, list_any-same}
+use Rattle.ec_rows.proofs.OrderedLemmas.{IsPartitionedBy-ascending, IsPlace, IsOrder, is_at, take-partition, drop-partition, filter-behind_at, filter-behind_free, list_any-free}
+use Rattle.ec_lists.proofs.Integers.{int_lt-trans, int_lt-not_after, int_eq-not_lt, int_eq-neither, int_lt-from_neither, int_lt-behind, int_le-not_lt, int_lt-not_le}
+use Rattle.ec_lists.proofs.Tests.{list_any-same}
 
 -- ---- facts on whole numbers
-
-before_too : (a b t : ℤ) → int_lt a b ≡ true → int_lt b t ≡ true → int_lt a t ≡ true
-before_too a b t = grind (arith, ints)
 
 up_to_too : (a b t : ℤ) → int_lt a b ≡ true → int_le b t ≡ true → int_le a t ≡ true
 up_to_too a b t = grind (arith, ints)
 
-int_le-not_lt : (a b : ℤ) → int_le a b ≡ not (int_lt b a)
-int_le-not_lt a b = grind (arith, ints)
-
-int_lt-not_le : (a b : ℤ) → int_lt a b ≡ not (int_le b a)
-int_lt-not_le a b = grind (arith, ints)
-
-behind_too : (a b t : ℤ) → int_lt a b ≡ true → int_lt a t ≡ false → int_lt t b ≡ true
-behind_too a b t = grind (arith, ints)
-
-not_both : (a t : ℤ) → int_lt a t ≡ true → int_lt t a ≡ false
-not_both a t = grind (arith, ints)
-
 pub before-not_at : (a t : ℤ) → int_lt a t ≡ true → int_eq a t ≡ false
 before-not_at a t = grind (arith, ints)
-
-same-not_behind : (a t : ℤ) → int_eq a t ≡ true → int_lt t a ≡ false
-same-not_behind a t = grind (arith, ints)
-
-behind-from_both : (a t : ℤ) → int_lt a t ≡ false → int_eq a t ≡ false → int_lt t a ≡ true
-behind-from_both a t = grind (arith, ints)
-
-same-from_neither : (a t : ℤ) → int_eq a t ≡ (not (int_lt a t) && not (int_lt t a))
-same-from_neither a t = grind (arith, ints)
 
 -- ---- the order of members by their times
 
 -- members are ordered by their times
 pub IsOrder-by_time : {T X : Type 0} (rank : T → ℤ) (time : X → T) → IsOrder (by_time rank time)
 IsOrder-by_time rank time = record {
-  transitive = λ x y z. before_too (rank (time x)) (rank (time y)) (rank (time z));
-  one_way = λ x y. not_both (rank (time x)) (rank (time y));
+  transitive = λ x y z. int_lt-trans (rank (time x)) (rank (time y)) (rank (time z));
+  one_way = λ x y. int_lt-not_after (rank (time x)) (rank (time y));
 }
 
 -- a time has a place in this order
 pub IsPlace-by_time : {T X : Type 0} (rank : T → ℤ) (time : X → T) (t : ℤ) →
     IsPlace (by_time rank time) (λ x. int_lt (rank (time x)) t) (λ x. int_lt t (rank (time x)))
 IsPlace-by_time rank time t = record {
-  keeps = λ x y. before_too (rank (time x)) (rank (time y)) t;
-  rises = λ x y. behind_too (rank (time x)) (rank (time y)) t;
-  apart = λ x. not_both (rank (time x)) t;
+  keeps = λ x y. int_lt-trans (rank (time x)) (rank (time y)) t;
+  rises = λ x y. int_lt-behind (rank (time x)) (rank (time y)) t;
+  apart = λ x. int_lt-not_after (rank (time x)) t;
 }
 
 -- ---- what a search needs, and what its cut gives
@@ -71,7 +49,7 @@ module _ {T X : Type 0} (rank : T → ℤ) (time : X → T) (t : ℤ) where
 
   pub IsPartitionedBy-before : (xs : List X) → is_ascending (by_time rank time) xs ≡ true → IsPartitionedBy (λ x. int_lt (rank (time x)) t) xs
   IsPartitionedBy-before xs ascending =
-      IsPartitionedBy-ascending (by_time rank time) (λ x. int_lt (rank (time x)) t) (λ x y. before_too (rank (time x)) (rank (time y)) t) xs ascending
+      IsPartitionedBy-ascending (by_time rank time) (λ x. int_lt (rank (time x)) t) (λ x y. int_lt-trans (rank (time x)) (rank (time y)) t) xs ascending
 
   pub IsPartitionedBy-up_to : (xs : List X) → is_ascending (by_time rank time) xs ≡ true → IsPartitionedBy (λ x. int_le (rank (time x)) t) xs
   IsPartitionedBy-up_to xs ascending =
@@ -95,7 +73,7 @@ module _ {T X : Type 0} (rank : T → ℤ) (time : X → T) (t : ℤ) where
   pub drop-after_at : (xs : List X) (i : ℕ) (x : X) → is_ascending (by_time rank time) xs ≡ true → IsCutBefore xs i → i < length xs →
       x ≡ get_or xs i x → int_eq (rank (time x)) t ≡ true → drop (i + 1) xs ≡ members_after rank time t xs
   drop-after_at xs i x ascending cut within is here =
-      let there : int_lt t (rank (time (get_or xs i x))) ≡ false = same-not_behind (rank (time (get_or xs i x))) t (rw (← is) here) in
+      let there : int_lt t (rank (time (get_or xs i x))) ≡ false = int_eq-not_lt (rank (time (get_or xs i x))) t (rw (← is) here) in
       rw add-one (sym (filter-behind_at (by_time rank time) (λ y. int_lt (rank (time y)) t) (λ y. int_lt t (rank (time y))) (IsPlace-by_time rank time t)
       xs i x ascending cut within there))
 
@@ -112,7 +90,7 @@ module _ {T X : Type 0} (rank : T → ℤ) (time : X → T) (t : ℤ) where
   IsFreeAt-other xs i x is other d within = ap (λ y. int_eq (rank (time y)) t) (sym (get_or_read xs i x within is d)) ∙ other
 
   free-behind : (xs : List X) (i : ℕ) → IsCutBefore xs i → IsFreeAt xs i → (d : X) → i < length xs → int_lt t (rank (time (get_or xs i d))) ≡ true
-  free-behind xs i cut free d within = behind-from_both (rank (time (get_or xs i d))) t (cut.1 i d (omega arith) within) (free d within)
+  free-behind xs i cut free d within = int_lt-from_neither (rank (time (get_or xs i d))) t (cut.1 i d (omega arith) within) (free d within)
 
   pub drop-after_free : (xs : List X) (i : ℕ) → is_ascending (by_time rank time) xs ≡ true → IsCutBefore xs i → IsFreeAt xs i →
       drop i xs ≡ members_after rank time t xs
@@ -123,6 +101,6 @@ module _ {T X : Type 0} (rank : T → ℤ) (time : X → T) (t : ℤ) where
   pub has_member-free : (xs : List X) (i : ℕ) → is_ascending (by_time rank time) xs ≡ true → IsCutBefore xs i → IsFreeAt xs i →
       has_member rank time t xs ≡ false
   has_member-free xs i ascending cut free =
-      list_any-same (λ x. int_eq (rank (time x)) t) (is_at (λ x. int_lt (rank (time x)) t) (λ x. int_lt t (rank (time x)))) (λ x. same-from_neither (rank (time x)) t) xs
+      list_any-same (λ x. int_eq (rank (time x)) t) (is_at (λ x. int_lt (rank (time x)) t) (λ x. int_lt t (rank (time x)))) (λ x. int_eq-neither (rank (time x)) t) xs
       ∙ list_any-free (by_time rank time) (λ x. int_lt (rank (time x)) t) (λ x. int_lt t (rank (time x))) (IsPlace-by_time rank time t)
       xs i ascending cut (free-behind xs i cut free)

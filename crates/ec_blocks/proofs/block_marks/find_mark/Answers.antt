@@ -3,9 +3,10 @@ use Rattle.std.proofs.Common.{◌≡◌, get_or, sym}
 use Rattle.std.proofs.lemmas.Option.{get_or_from_slice_get}
 use Rattle.std.specs.Prelude.{int_lt}
 use Rattle.std.specs.Ordering.{int_eq}
-use Rattle.ec_rows.proofs.OrderedLemmas.{find-at_cut, find-none}
+use Rattle.ec_rows.proofs.OrderedLemmas.{find-at_cut}
 use Rattle.ec_rows.proofs.TimedLemmas.{before-not_at}
 use Rattle.ec_blocks.proofs.block_marks.find_mark.Goals as goal
+use Rattle.ec_lists.proofs.Finds.{find-none}
 
 pub returns-in-Ok : goal.returns-in-Ok
 returns-in-Ok g c =

@@ -2,9 +2,10 @@
 use Rattle.std.proofs.Common.{sym}
 use Rattle.std.specs.Prelude.{int_lt}
 use Rattle.std.specs.Ordering.{int_eq}
-use Rattle.ec_rows.proofs.OrderedLemmas.{find-at_cut, find-none}
+use Rattle.ec_rows.proofs.OrderedLemmas.{find-at_cut}
 use Rattle.ec_rows.proofs.TimedLemmas.{before-not_at}
 use Rattle.ec_rows.proofs.vec_marks.find_mark.Goals as goal
+use Rattle.ec_lists.proofs.Finds.{find-none}
 
 pub returns-in-Ok : goal.returns-in-Ok
 returns-in-Ok g c =

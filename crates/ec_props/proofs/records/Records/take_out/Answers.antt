@@ -6,10 +6,11 @@ use Rattle.std.specs.Ordering.{is_lt}
 use Rattle.slab.specs.Slab.{get as property_at}
 use Rattle.ec_terms.specs.Term.{term_cmp, term_eq}
 use Rattle.ec_props.specs.Table.{KeptProp, kept_of, kept_as, prop_of, term_at, without_prop}
-use Rattle.ec_props.proofs.TableLemmas.{items_is, own_numbers, if_some, term-at_cut, prop_of-kept, same-place, within-order}
+use Rattle.ec_props.proofs.TableLemmas.{items_is, own_numbers, term-at_cut, prop_of-kept, same-place, within-order}
 use Rattle.ec_props.proofs.ChangeLemmas.{IsTable-remove, kept_of-remove, prop_of-less}
 use Rattle.ec_props.proofs.records.Records.take_out.Goals as goal
 use Rattle.ec_props.proofs.records.Records.take_out.Goals.{After-place_of-place}
+use Rattle.ec_lists.proofs.Options.{IfSome-from}
 
 -- the place cuts the properties by the term of the one that goes
 cut : (c : After-place_of-place) →
@@ -51,7 +52,7 @@ returns-clause-props c =
 
 pub returns-clause-lookups : goal.returns-clause-lookups
 returns-clause-lookups c =
-    if_some (term_at c.args.p.0 c.args.self.now.items) _ c.index.result.now.term
+    IfSome-from (term_at c.args.p.0 c.args.self.now.items) _ c.index.result.now.term
     (ap (term_at c.args.p.0) (sym (items_is c.self.view_is)) ∙ ap (option_map (λ (k : KeptProp). k.term)) (c.self.invariant.found c.args.p.0)
     ∙ ap (λ o. option_map (λ (k : KeptProp). k.term) (option_map (kept_as c.args.p.0) o)) c.index.ensures)
     (λ term. prop_of-less (property_at c.self.inside.properties) (property_at c.remove-2.new.self) c.self.inside.order.items c.remove.new.self.items c.self.invariant
