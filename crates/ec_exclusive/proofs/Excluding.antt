@@ -4,10 +4,10 @@ use Rattle.std.specs.Prelude.{◌==◌, option_map}
 use Rattle.std.proofs.lemmas.Bool.{cases_Bool}
 use Rattle.std.proofs.lemmas.List.Elements.{All-weaker}
 use Rattle.ec_terms.specs.declared.ids.PropId.{PropId}
-use Rattle.ec_rows.proofs.OrderedLemmas.{is_ascending-filter, is_ascending-with_member}
+use Rattle.ec_rows.proofs.OrderedLemmas.{is_ascending-filter}
 use Rattle.ec_numbered.specs.PropSet.{has_number, comes_before, are_ascending, with_number}
 use Rattle.ec_exclusive.specs.Added.{Added, added_props, is_added, neighbours_of, stands_in_list, AreMutual, added_of}
-use Rattle.ec_numbered.proofs.Numbers.{same_prop, IsOrder-number, same_members, has_number-filter, has_number-with_number, are_ascending-with_number}
+use Rattle.ec_numbered.proofs.Numbers.{same_prop, same_members, are_ascending-with_number, has_number-filter, has_number-with_number}
 use Rattle.ec_exclusive.proofs.KeptLists.{is_added-neighbours_of, All-neighbours_of, are_ascending-added_of, is_added-added_of, All-added_of, All-at}
 
 -- ---- tests

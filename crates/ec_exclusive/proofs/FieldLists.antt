@@ -1,15 +1,15 @@
 -- Rows as they are kept by number, against the lists that contracts see.
-use Rattle.std.proofs.Common.{◌≡◌, ◌≢◌, ℕ, ◌<◌, zero, suc, true, false, cond, IsTrue, List, [], ◌∷◌, get_or, set, length, Option, Some, None, is_some, refl, sym, ap, subst, ◌∙◌, ◌⊎◌, ⊎_elim, arith}
+use Rattle.std.proofs.Common.{◌≡◌, ◌≢◌, ℕ, zero, suc, true, false, cond, IsTrue, List, [], ◌∷◌, get_or, set, length, Option, Some, None, refl, sym, ap, subst, ◌∙◌, ◌⊎◌, ⊎_elim, arith}
 use Rattle.std.specs.Prelude.{◌==◌, option_map}
 use Rattle.std.proofs.lemmas.Bool.{cases_Bool, false≢true}
 use Rattle.std.proofs.lemmas.List.{map-set, set-get_or, get_or_past, length-map}
 use Rattle.ec_terms.specs.declared.ids.PropId.{PropId}
 use Rattle.ec_numbered.specs.ByNumber.{kept_at}
-use Rattle.ec_numbered.specs.PropSet.{has_number, with_number, without_number}
+use Rattle.ec_numbered.specs.PropSet.{has_number, with_number}
 use Rattle.ec_numbered.proofs.Numbers.{same_prop, itself}
 use Rattle.ec_exclusive.specs.declared.rows.Row.{Row}
 use Rattle.ec_exclusive.specs.Added.{neighbours_of, added_of}
-use Rattle.ec_exclusive.specs.Kept.{numbers_in, list_at, lists_of, list_with, list_left}
+use Rattle.ec_exclusive.specs.Kept.{numbers_in, list_at, lists_of, list_with}
 use Rattle.ec_exclusive.proofs.KeptLists.{neighbours_of-added_of, added_of-same}
 
 -- the list of a number
@@ -28,12 +28,6 @@ lists_of-set lists n old new is same =
     map-set numbers_in lists n (Some new)
     ∙ ap (set (lists_of lists) n) (ap Some same ∙ sym (ap numbers_in is) ∙ sym (get_or-lists_of lists n))
     ∙ set-get_or (lists_of lists) n None
-
--- a list that is there stands within
-pub within-lists : (lists : List (Option Row)) (n : ℕ) → is_some (get_or (lists_of lists) n None) ≡ true → n < length lists
-within-lists [] n there = absurd (false≢true (sym (ap is_some (get_or_past {X = Option (List PropId)} [] n None (omega arith))) ∙ there))
-within-lists (list ∷ lists) zero there = omega arith
-within-lists (list ∷ lists) (suc n) there = let ih = within-lists lists n there in omega arith
 
 -- lists with the same rows
 pub list_at-same : (lists other : List (Option Row)) (q : PropId) → added_of (lists_of other) ≡ added_of (lists_of lists) → list_at q other ≡ list_at q lists
@@ -76,26 +70,3 @@ list_with-set start lists new p own row stay put others q =
     rest : (has_number q.0 own.neighbours.items ≡ true) ⊎ (has_number q.0 own.neighbours.items ≡ false) → list_at q lists ≡ put_if p own.neighbours.items q (list_at q start)
     rest = ⊎_elim (λ e. put q e ∙ sym (ap (λ b. cond b (option_map (with_number p) (list_at q start)) (list_at q start)) e))
         (λ e. others q e ∙ sym (ap (λ b. cond b (option_map (with_number p) (list_at q start)) (list_at q start)) e))
-
--- the lists once a property is gone, where it stands in none of those that stood in its own
-pub list_left-take : (start lists new : List (Option Row)) (p : PropId) (own : List PropId) → kept_at p.0 lists ≡ None → ((n : ℕ) → n ≢ p.0 → kept_at n lists ≡ kept_at n start) →
-    has_number p.0 own ≡ false →
-    ((q : PropId) → IsTrue (has_number q.0 own) → list_at q new ≡ option_map (without_number p) (list_at q lists)) →
-    ((q : PropId) → has_number q.0 own ≡ false → list_at q new ≡ list_at q lists) →
-    (q : PropId) → list_at q new ≡ list_left p own q (list_at q start)
-list_left-take start lists new p own gone stay not_itself taken others q =
-    ⊎_elim
-    (λ e. let same : q ≡ p = same_prop q p e in
-    subst (λ r. list_at r new ≡ list_left p own r (list_at r start)) (sym same)
-    (others p not_itself ∙ ap numbers_in gone ∙ sym (ap (λ b. cond b None (cond (has_number p.0 own) (option_map (without_number p) (list_at p start)) (list_at p start))) (itself p))))
-    (λ e. rest (list_at q lists) (ap numbers_in (stay q.0 (λ is. absurd (false≢true (sym e ∙ equal is))))) (cases_Bool (has_number q.0 own))
-    ∙ sym (ap (λ b. cond b None (cond (has_number q.0 own) (option_map (without_number p) (list_at q start)) (list_at q start))) e))
-    (cases_Bool (q.0 == p.0))
-  where
-    equal : q.0 ≡ p.0 → (q.0 == p.0) ≡ true
-    equal is = grind arith
-
-    rest : (o : Option (List PropId)) → list_at q lists ≡ list_at q start → (has_number q.0 own ≡ true) ⊎ (has_number q.0 own ≡ false) →
-        list_at q new ≡ cond (has_number q.0 own) (option_map (without_number p) (list_at q start)) (list_at q start)
-    rest o same = ⊎_elim (λ e. taken q e ∙ ap (option_map (without_number p)) same ∙ sym (ap (λ b. cond b (option_map (without_number p) (list_at q start)) (list_at q start)) e))
-        (λ e. others q e ∙ same ∙ sym (ap (λ b. cond b (option_map (without_number p) (list_at q start)) (list_at q start)) e))

@@ -98,11 +98,6 @@ AllHeld-mentions property_at new p count property (k ∷ ks) held is there other
     with_count r = record { term = r.term; mentions = count }
 
 module _ (property_at new_property : ℕ → Option Property) (order new : List PropId) (table : IsTable property_at order) where
-  -- the same table in other fields
-  pub IsTable-same : ((id : ℕ) → new_property id ≡ property_at id) → new ≡ order → IsTable new_property new
-  IsTable-same same is =
-      subst (λ f. IsTable f new) (λ i n. sym (same n) i) (subst (IsTable property_at) (sym is) table)
-
   -- ---- a property more
 
   module _ (p : PropId) (term : Ground) (i : ℕ) (free : property_at p.0 ≡ None) (there : new_property p.0 ≡ Some (record { term = term; mentions = 0 }))

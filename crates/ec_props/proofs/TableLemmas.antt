@@ -1,12 +1,12 @@
 -- How a table keeps its properties.
 use Rattle.std.proofs.Common.{◌≡◌, ℕ, ◌<◌, ◌≤◌, zero, suc, Bool, true, false, not, ◌&&◌, All, IfSome, IsSome, drop, List, [], ◌∷◌, Option, Some, None, refl, sym, ap, ap₂, subst, ◌∙◌, length, map, filter, get_or, slice_get, is_some, arith}
-use Rattle.std.specs.Prelude.{find, option_map}
+use Rattle.std.specs.Prelude.{option_map}
 use Rattle.std.specs.List.{cons_option}
 use Rattle.std.specs.List.Sorted.{IsPartitionedBy, IsPartitionPoint}
 use Rattle.std.specs.declared.cmp.Ordering.{Ordering}
 use Rattle.std.specs.Ordering.{is_lt, is_some_and}
 use Rattle.std.proofs.lemmas.List.{length-map, get_or-map}
-use Rattle.std.proofs.lemmas.Option.{slice_get-map, slice_get-get_or, slice_get_read}
+use Rattle.std.proofs.lemmas.Option.{slice_get-map, slice_get-get_or}
 use Rattle.ec_terms.specs.declared.ground.Ground.{Ground}
 use Rattle.ec_terms.specs.declared.ids.PropId.{PropId}
 use Rattle.ec_terms.specs.Term.{term_cmp, term_eq}
@@ -15,7 +15,7 @@ use Rattle.ec_rows.specs.Ordered.{Reserved, is_ascending}
 use Rattle.ec_rows.proofs.OrderedLemmas.{IsPlace, IsPlace-by_key, IsPartitionedBy-ascending, is_at, is_eq-is_at, length-partition, filter-behind_free, free-from_none, at-from_any}
 use Rattle.ec_props.proofs.KeptLemmas.{find-term, term_eq-is_eq, place-prop_at, same-places, list_any-absent, list_any-kept}
 use Rattle.ec_props.proofs.ArityLemmas.{IsRising-arity}
-use Rattle.ec_props.specs.Table.{KeptProp, prop_at, term_at, mentions_at, prop_of, prop_before, arity_cmp, props_below, kept_as, number_of, kept_of, IsTable}
+use Rattle.ec_props.specs.Table.{KeptProp, prop_at, prop_of, prop_before, arity_cmp, props_below, kept_as, number_of, kept_of, IsTable}
 use Rattle.ec_props.specs.declared.property.Property.{Property}
 use Rattle.ec_lists.proofs.Tests.{list_any-same}
 
@@ -208,10 +208,6 @@ module _ (property_at : ℕ → Option Property) (order : List PropId) (table : 
   own_numbers i d within =
       own-property i (get_or (kept_of property_at order) i d) (slice_get-get_or (kept_of property_at order) i d within)
 
-  -- a number that is read within the order
-  pub number-read : (ks : List KeptProp) (i : ℕ) (p : PropId) → kept_of property_at order ≡ ks → i < length ks → p ≡ get_or order i p → slice_get order i ≡ Some p
-  number-read ks i p is within read = slice_get_read order (length ks) i p (ap length (sym is) ∙ sym length-order) within read
-
   -- the property whose number stands at a place
   kept-at_place : (i : ℕ) (p : PropId) → slice_get order i ≡ Some p → (k : KeptProp) × (slice_get (kept_of property_at order) i ≡ Some k) × (k.id ≡ p.0)
   kept-at_place i p is =
@@ -230,22 +226,6 @@ module _ (property_at : ℕ → Option Property) (order : List PropId) (table : 
   pub kept-place : (i : ℕ) (p : PropId) → slice_get order i ≡ Some p → is_some (prop_at p.0 (kept_of property_at order)) ≡ true
   kept-place i p is =
       let there = kept-at_place i p is in ap is_some (prop_at-place i p is ∙ there.1)
-
-  -- the term there, and the number that it finds
-  pub term_at-place : (term : Ground) (i : ℕ) (p : PropId) → slice_get order i ≡ Some p →
-      option_map (λ (k : KeptProp). k.term) (slice_get (kept_of property_at order) i) ≡ Some term → term_at p.0 (kept_of property_at order) ≡ Some term
-  term_at-place term i p is here = ap (option_map (λ (k : KeptProp). k.term)) (prop_at-place i p is) ∙ here
-
-  pub prop_of-place : (term : Ground) (i : ℕ) (p : PropId) → slice_get order i ≡ Some p →
-      option_map (λ (k : KeptProp). k.term) (slice_get (kept_of property_at order) i) ≡ Some term → prop_of term (kept_of property_at order) ≡ Some p.0
-  prop_of-place term i p is here =
-      let there = kept-at_place i p is in
-      let same : Some there.0.term ≡ Some term = sym (ap (option_map (λ (k : KeptProp). k.term)) there.1) ∙ here in
-      let has : there.0.term ≡ term = cc in
-      ap (option_map (λ (k : KeptProp). k.id))
-      (subst (λ t. find (λ (k : KeptProp). term_eq k.term t) (kept_of property_at order) ≡ Some there.0) has
-      (find-term (kept_of property_at order) i there.0 table.in_order there.1))
-      ∙ ap Some there.2
 
   -- a kept property stands at the place that its term finds
   pub same-place : (id i : ℕ) (property : Property) → property_at id ≡ Some property →
@@ -282,7 +262,3 @@ module _ (property_at : ℕ → Option Property) (order : List PropId) (table : 
   -- each number of the order has a property
   pub all-kept : All (λ (p : PropId). IsSome (prop_at p.0 (kept_of property_at order))) order
   all-kept i d within = kept-place i (get_or order i d) (slice_get-get_or order i d within)
-
-  -- how often it is mentioned
-  pub mentions_at-kept : (id : ℕ) (property : Property) → property_at id ≡ Some property → mentions_at id (kept_of property_at order) ≡ Some property.mentions
-  mentions_at-kept id property is = ap (option_map (λ (k : KeptProp). k.mentions)) (table.found id ∙ ap (option_map (kept_as id)) is)
