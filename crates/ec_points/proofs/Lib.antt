@@ -1,5 +1,7 @@
-pub mod Lists
-pub mod Numbers
-pub mod LastMarks
-pub mod KeptRows
-pub mod MadeChanges
+mod AppliedChanges
+mod LastMarks
+mod Lists
+mod MadeChanges
+mod PastMarks
+mod ReadyRows
+mod SeenRowLemmas

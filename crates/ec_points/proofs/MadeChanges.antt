@@ -4,13 +4,13 @@ use Rattle.std.specs.Prelude.{◌==◌, int_lt}
 use Rattle.std.specs.List.{list_all}
 use Rattle.std.specs.Option.{option_or}
 use Rattle.std.specs.Ordering.{int_eq}
-use Rattle.std.proofs.lemmas.Bool.{cases_Bool}
 use Rattle.std.proofs.lemmas.Int.{ints}
 use Rattle.std.proofs.lemmas.List.Folds.{find-append}
-use Rattle.ec_axioms.proofs.Members.{find-filter, find_agree}
+use Rattle.ec_lists.proofs.Finds.{find-filter, find_agree}
 use Rattle.ec_rows.specs.declared.mark.Mark.{Mark}
 use Rattle.ec_rows.specs.Marks.{is_counted, mark_at, with_mark}
-use Rattle.ec_rows.proofs.OrderedLemmas.{and-left, and-right, ascending-first, ascending-rest}
+use Rattle.std.proofs.lemmas.Bool.{and_parts, cases_Bool}
+use Rattle.ec_rows.proofs.OrderedLemmas.{ascending-first, ascending-rest}
 use Rattle.ec_points.specs.Changes.{Change, are_apart, are_all_apart, without_mark, with_change, changed, change_at, made, ChangesAreMade}
 
 -- ---- the first that passes a test, in what a filter keeps
@@ -110,7 +110,7 @@ module _ {T : Type 0} (rank : T → ℤ) (t : ℤ) where
         (cases_Bool (is_counted mark))
 
     -- and nowhere else
-    change-other : is_at mark ≡ false → mark_at rank t (with_change rank mark marks) ≡ mark_at rank t marks
+    pub change-other : is_at mark ≡ false → mark_at rank t (with_change rank mark marks) ≡ mark_at rank t marks
     change-other e =
         ⊎_elim
         (λ counts. ap (λ b. mark_at rank t (cond b (with_mark rank mark marks) (without_mark rank (rank mark.at) marks))) counts ∙ put-other e)
@@ -130,10 +130,10 @@ module _ {T : Type 0} (rank : T → ℤ) (t : ℤ) where
         list_all (are_apart rank change) changes ≡ true → change_at rank n t changes ≡ None
     change_at-apart change [] number time apart = refl
     change_at-apart change (c ∷ changes) number time apart =
-        let here : are_apart rank change c ≡ true = and-left _ _ apart in
+        let here : are_apart rank change c ≡ true = (and_parts _ _ apart).0 in
         let same : is_here c ≡ (change.0.0 == c.0.0 && int_eq (rank change.1.at) (rank c.1.at)) =
         ap₂ (λ a b. a && b) (same_number-as_either change.0.0 n c.0.0 number) (same-as_either (rank c.1.at) (rank change.1.at) t time) in
-        let ih : find is_here changes ≡ None = change_at-apart change changes number time (and-right _ _ apart) in
+        let ih : find is_here changes ≡ None = change_at-apart change changes number time (and_parts _ _ apart).1 in
         let not_here : is_here c ≡ false = same ∙ not-true _ here in
         ap (λ b. cond b (Some c) (find is_here changes)) not_here ∙ ih
       where

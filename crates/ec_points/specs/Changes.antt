@@ -5,7 +5,7 @@ use Rattle.std.specs.Ordering.{int_eq}
 use Rattle.ec_terms.specs.declared.ids.PropId.{PropId}
 use Rattle.ec_rows.specs.Ordered.{is_ascending}
 use Rattle.ec_rows.specs.declared.mark.Mark.{Mark}
-use Rattle.ec_rows.specs.Marks.{is_counted, mark_at, with_mark}
+use Rattle.ec_rows.specs.Marks.{is_counted, has_mark, mark_at, with_mark}
 
 -- a change: the new mark of a property, by its number
 abbrev pub Change : Type 0 → Type 0
@@ -28,6 +28,14 @@ are_all_apart rank changes = is_ascending (are_apart rank) changes
 -- how many of the changes are of a property
 abbrev pub count_of : {T : Type 0} → ℕ → List (Change T) → ℕ
 count_of n changes = length (filter (λ change. change.0.0 == n) changes)
+
+-- a mark is a new one for a row: it is counted, and no mark is at its time
+abbrev pub is_new : {T : Type 0} → (T → ℤ) → List (Mark T) → Mark T → Bool
+is_new rank marks mark = is_counted mark && not (has_mark rank (rank mark.at) marks)
+
+-- how many of the changes are new marks of a property
+abbrev pub growth_of : {T : Type 0} → (T → ℤ) → ℕ → List (Change T) → List (Mark T) → ℕ
+growth_of rank n changes marks = length (filter (λ change. change.0.0 == n && is_new rank marks change.1) changes)
 
 -- ---- what they leave
 

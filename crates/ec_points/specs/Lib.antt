@@ -1,3 +1,4 @@
 pub mod Changes
+pub mod CurrencyLaws
+pub mod SeenRows
 pub mod Table
-pub mod Kept

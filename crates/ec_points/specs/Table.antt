@@ -1,6 +1,6 @@
 -- The marks of all properties, and the currency that they tell.
-use Rattle.std.specs.Prelude.{◌≡◌, ◌==◌, ℕ, ℤ, Bool, nat_lt, List, [], Option, Some, None, is_some, IsTrue}
-use Rattle.std.specs.List.{list_any, slice_index_or}
+use Rattle.std.specs.Prelude.{◌≡◌, ℕ, ℤ, Bool, List, [], Option, Some, None, is_some, IsTrue}
+use Rattle.std.specs.List.{slice_index_or}
 use Rattle.ec_terms.specs.declared.ids.PropId.{PropId}
 use Rattle.ec_terms.specs.declared.ground.Ground.{Ground}
 use Rattle.ec_terms.specs.declared.theory.Theory.{Theory}
@@ -8,7 +8,7 @@ use Rattle.ec_terms.specs.Domain.{is_initial}
 use Rattle.ec_axioms.specs.Calculus.{PlainEvent, is_current}
 use Rattle.ec_axioms.specs.Changes.{is_history}
 use Rattle.ec_axioms.specs.Marks.{marks_of, last_mark_before, current_after}
-use Rattle.ec_rows.specs.Ordered.{is_ascending}
+use Rattle.ec_numbered.specs.PropSet.{has_number}
 use Rattle.ec_rows.specs.declared.mark.Mark.{Mark}
 use Rattle.ec_rows.specs.PlainMarks.{plain_marks}
 
@@ -55,18 +55,6 @@ abbrev pub room_at : {T : Type 0} → ℕ → PointTable T → ℕ
 room_at n points = room_in (row_at n points)
 
 -- ---- initial properties
-
--- a number stands in a list
-abbrev pub has_number : ℕ → List PropId → Bool
-has_number n props = list_any (λ p. p.0 == n) props
-
--- a property comes before another where its number is less
-abbrev pub comes_before : PropId → PropId → Bool
-comes_before p q = nat_lt p.0 q.0
-
--- the numbers ascend, and none stands there twice
-abbrev pub are_ascending : List PropId → Bool
-are_ascending props = is_ascending comes_before props
 
 -- the property of a number is initial
 abbrev pub is_initial_at : {T : Type 0} → ℕ → PointTable T → Bool

@@ -1,5 +1,6 @@
 //! The laws of points and changes, each the contract of a function that does nothing.
 ghost use Rattle.ec_points.specs.Changes.{ChangesAreMade};
+ghost use Rattle.ec_points.specs.CurrencyLaws.{CurrencyIsOfThePast, PastIsKnownByTimes};
 ghost use Rattle.ec_points.specs.Table.{PointTable, TellsCurrency};
 
 use ec_moment::Moment;
@@ -8,6 +9,16 @@ use ec_moment::Moment;
 /// current by the points exactly when its term is current in that history.
 pub fn points_tell_currency<T: Moment>()
     ensures { (points : PointTable T) → TellsCurrency T.rank points }
+{}
+
+/// Currency up to a time depends on the marks before that time alone.
+pub fn currency_is_of_the_past<T: Moment>()
+    ensures { CurrencyIsOfThePast T.rank }
+{}
+
+/// The marks of a row before a time are known by the mark at each time before it.
+pub fn past_is_known_by_times<T: Moment>()
+    ensures { PastIsKnownByTimes T.rank }
 {}
 
 /// After a change, the mark of a property at a time is the new one, where the change has one for it there, and else

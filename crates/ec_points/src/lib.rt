@@ -2,7 +2,6 @@
 #![tactic(auto)]
 
 mod change;
-mod initials;
 mod laws;
 mod points;
 mod row;
@@ -11,5 +10,7 @@ mod rows;
 mod tests;
 
 pub use change::MarkChange;
-pub use laws::{changes_are_made, points_tell_currency};
+pub use laws::{
+    changes_are_made, currency_is_of_the_past, past_is_known_by_times, points_tell_currency,
+};
 pub use points::Points;

@@ -1,16 +1,18 @@
-ghost use Rattle.std.specs.Prelude.{◌≡◌, ◌≢◌, ℕ, ◌+◌, ◌≤◌, [], IsTrue, IfOk, IfSome, IfNone, OnOk, Some, None, option_map};
+ghost use Rattle.std.specs.Prelude.{◌≡◌, ◌≢◌, ℕ, ◌+◌, ◌≤◌, ◌++◌, ◌∷◌, [], IsTrue, IfOk, IfSome, IfNone, OnOk, OnErr, Some, None, option_map};
 ghost use Rattle.ec_axioms.specs.Marks.{last_mark_before};
-ghost use Rattle.ec_points.specs.Changes.{changed, count_of as changes_of};
-ghost use Rattle.ec_points.specs.Kept.{IsGrown};
-ghost use Rattle.ec_points.specs.Table.{are_ascending, has_number, has_row, is_current_at, is_initial_at, marks_at, room_at, row_at, row_of};
+ghost use Rattle.ec_numbered.specs.PropSet.{are_ascending, has_number};
+ghost use Rattle.ec_points.specs.Changes.{changed, count_of as changes_of, growth_of};
+ghost use Rattle.ec_points.specs.SeenRows.{IsGrown};
+ghost use Rattle.ec_points.specs.Table.{has_row, is_current_at, is_initial_at, marks_at, room_at, row_at, row_of};
+ghost use Rattle.ec_rows.specs.Marks.{are_before, is_counted, mark_at};
 ghost use Rattle.ec_rows.specs.PlainMarks.{plain_mark, plain_marks};
 
 use crate::change::MarkChange;
-use crate::initials::stands_in;
 use crate::row::last_mark;
-use crate::rows::{KeptRow, change_rows, clear_in, empty_rows, find_row, prepare_rows};
+use crate::rows::{change_rows, clear_in, empty_rows, prepare_rows, push_in, reserve_in};
 use ec_axioms::Current;
 use ec_moment::Moment;
+use ec_numbered::{ByNumber, PropSet};
 use ec_rows::{Mark, MarkRow};
 use ec_terms::{NoMemory, PropId};
 use std::alloc::Global;
@@ -19,25 +21,22 @@ use std::marker::{Model, PhantomData};
 /// The marks of each property, a row of them under the number of the property, and the numbers of the
 /// properties that hold from before all events.
 ///
-/// After `prepare` has made room for a change, `apply` takes no memory.
+/// After `reserve` has made room for the new marks of a change, `apply` takes no memory.
 #[derive(Drop)]
 pub struct Points<T: Moment, M: MarkRow<T>> {
-    rows: Vec<Option<KeptRow<M>>>,
-    initials: Vec<PropId>,
+    rows: ByNumber<M>,
+    initials: PropSet,
     alloc: Global,
     moment: PhantomData<T>,
 }
 
 impl<T: Moment, M: MarkRow<T>> Model for Points<T, M> {
-    ghost use Rattle.std.specs.Prelude.{IsTrue};
-    ghost use Rattle.ec_points.specs.Kept.{rows_seen};
-    ghost use Rattle.ec_points.specs.Table.{PointTable, are_ascending};
+    ghost use Rattle.ec_points.specs.SeenRows.{rows_seen};
+    ghost use Rattle.ec_points.specs.Table.{PointTable};
 
     ghost Value = { PointTable T };
 
-    ghost view = { λ points. record { rows = rows_seen M.marks M.spare points.rows.items; initials = points.initials.items } };
-
-    ghost invariant = { λ points. IsTrue (are_ascending points.initials.items) };
+    ghost view = { λ points. record { rows = rows_seen M.marks M.spare points.rows; initials = points.initials.items } };
 }
 
 impl<T: Moment, M: MarkRow<T>> Points<T, M> {
@@ -47,8 +46,8 @@ impl<T: Moment, M: MarkRow<T>> Points<T, M> {
         ensures initials { IfOk result (λ points. points.initials ≡ []) }
     {
         Ok(Points {
-            rows: Vec::new(alloc),
-            initials: Vec::new(alloc),
+            rows: ByNumber::new(alloc),
+            initials: PropSet::new(alloc),
             alloc,
             moment: PhantomData,
         })
@@ -63,7 +62,7 @@ impl<T: Moment, M: MarkRow<T>> Points<T, M> {
     {
         Ok(Points {
             rows: empty_rows(alloc, initials)?,
-            initials: initials.to_vec(alloc)?,
+            initials: PropSet::from_ascending(initials.to_vec(alloc)?),
             alloc,
             moment: PhantomData,
         })
@@ -73,7 +72,7 @@ impl<T: Moment, M: MarkRow<T>> Points<T, M> {
     pub fn initial(&self, p: PropId) -> bool
         ensures { result ≡ is_initial_at p.0 self.now }
     {
-        stands_in(&self.initials, p)
+        self.initials.contains(p)
     }
 
     /// The row of a property. `None` exactly where it has none.
@@ -81,7 +80,14 @@ impl<T: Moment, M: MarkRow<T>> Points<T, M> {
         ensures some { IfSome result (λ row. row_at p.0 self.now ≡ Some (row_of M.marks M.spare row.now)) }
         ensures none { IfNone result (row_at p.0 self.now ≡ None) }
     {
-        find_row(&self.rows, p)
+        self.rows.get(p)
+    }
+
+    /// The mark of a property at a time. `None` exactly where it has none there.
+    pub fn mark_at(&self, p: PropId, at: T) -> Option<Mark<T>>
+        ensures { result ≡ mark_at T.rank (T.rank at) (marks_at p.0 self.now) }
+    {
+        self.row(p)?.mark_at(at)
     }
 
     /// The last mark of a property strictly before a time.
@@ -92,24 +98,55 @@ impl<T: Moment, M: MarkRow<T>> Points<T, M> {
         last_mark(row, at)
     }
 
-    /// Makes room for a change: each property of it gets a row, if it has none, and room in its row for all its
-    /// new marks. `Err` is for want of memory; then some rows may be new, and some have more room.
+    /// Gives a property a row, if it has none, and makes room in its row for `n` further marks. `Err`: memory ran out,
+    /// and the same rows are there.
+    pub fn reserve(&mut self, p: PropId, n: usize) -> Result<(), NoMemory>
+        ensures room { OnOk result (n ≤ room_at p.0 self.new) }
+        ensures row { OnOk result (IsTrue (has_row p.0 self.new)) }
+        ensures err { OnErr result (has_row p.0 self.new ≡ has_row p.0 self.old) }
+        ensures grown { IsGrown (row_at p.0 self.old) (row_at p.0 self.new) }
+        ensures others { (m : ℕ) → m ≢ p.0 → row_at m self.new ≡ row_at m self.old }
+        ensures initials { self.new.initials ≡ self.old.initials }
+    {
+        reserve_in(self.alloc, &mut self.rows, p, n)
+    }
+
+    /// Adds a mark of a property behind all its others; the property gets a row, if it has none. `Err`: memory ran out,
+    /// and the same rows are there with the same marks.
+    pub fn push(&mut self, p: PropId, mark: Mark<T>) -> Result<(), NoMemory>
+        requires counted { IsTrue (is_counted mark) }
+        requires last { IsTrue (are_before T.rank (marks_at p.0 self.old) mark) }
+        ensures ok { OnOk result (marks_at p.0 self.new ≡ marks_at p.0 self.old ++ mark ∷ []) }
+        ensures err { OnErr result (marks_at p.0 self.new ≡ marks_at p.0 self.old) }
+        ensures row { OnErr result (has_row p.0 self.new ≡ has_row p.0 self.old) }
+        ensures room { room_at p.0 self.old ≤ room_at p.0 self.new + 1 }
+        ensures others { (m : ℕ) → m ≢ p.0 → row_at m self.new ≡ row_at m self.old }
+        ensures initials { self.new.initials ≡ self.old.initials }
+    {
+        push_in(self.alloc, &mut self.rows, p, mark)
+    }
+
+    /// Makes room for a change: each property of it gets a row, if it has none, and room in its row for all its new
+    /// marks. It looks at the whole change for each of its marks: who knows how many are new calls `reserve`. `Err`:
+    /// memory ran out; then some properties of the change may have a new row of no marks.
     pub fn prepare(&mut self, change: &MarkChange<T>) -> Result<(), NoMemory>
         ensures room { OnOk result ((n : ℕ) → changes_of n change.now ≤ room_at n self.new) }
+        ensures growth { OnOk result ((n : ℕ) → growth_of T.rank n change.now (marks_at n self.new) ≤ room_at n self.new) }
         ensures rows { OnOk result ((n : ℕ) → 1 ≤ changes_of n change.now → IsTrue (has_row n self.new)) }
         ensures grown { (n : ℕ) → IsGrown (row_at n self.old) (row_at n self.new) }
         ensures others { (n : ℕ) → changes_of n change.now ≡ 0 → row_at n self.new ≡ row_at n self.old }
         ensures initials { self.new.initials ≡ self.old.initials }
     {
-        prepare_rows(&mut self.rows, change, self.alloc)
+        prepare_rows(self.alloc, &mut self.rows, change)
     }
 
     /// Puts each new mark of a change in place of the mark of its property at its time. Three zeros take that mark
-    /// out, if it is there; a row that loses its last mark stays, empty. It takes no memory.
+    /// out, if it is there; a row that loses its last mark stays, empty. It takes no memory, and room only for marks
+    /// at times at which the property has none.
     pub fn apply(&mut self, change: &MarkChange<T>)
-        requires room { (n : ℕ) → changes_of n change.now ≤ room_at n self.old }
+        requires room { (n : ℕ) → growth_of T.rank n change.now (marks_at n self.old) ≤ room_at n self.old }
         ensures marks { (n : ℕ) → marks_at n self.new ≡ changed T.rank n change.now (marks_at n self.old) }
-        ensures room { (n : ℕ) → room_at n self.old ≤ room_at n self.new + changes_of n change.now }
+        ensures room { (n : ℕ) → room_at n self.old ≤ room_at n self.new + growth_of T.rank n change.now (marks_at n self.old) }
         ensures rows { (n : ℕ) → has_row n self.new ≡ has_row n self.old }
         ensures others { (n : ℕ) → changes_of n change.now ≡ 0 → row_at n self.new ≡ row_at n self.old }
         ensures initials { self.new.initials ≡ self.old.initials }

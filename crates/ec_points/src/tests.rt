@@ -1,4 +1,6 @@
 //! What no clause shows: that memory is given, and the currency that whole rows of marks tell.
+ghost use Rattle.std.specs.Prelude.{◌≡◌};
+
 use crate::{MarkChange, Points};
 use ec_axioms::Current;
 use ec_moment::Tick;
@@ -9,22 +11,29 @@ use std::alloc::Global;
 /// A mark of a property: the number of the property, the time, and the three counts.
 type Given = (usize, i64, u32, u32, u32);
 
+/// The mark that is given.
+fn mark_of(given: &Given) -> Mark<Tick> {
+    let (_, at, inits, terms, clashes) = *given;
+    Mark {
+        at: Tick(at),
+        inits,
+        terms,
+        clashes,
+    }
+}
+
 /// Makes the marks of a property as they are given, all in one change. Of two at one place the first counts.
 fn put<M: MarkRow<Tick>>(
     alloc: Global,
     points: &mut Points<Tick, M>,
     given: &[Given],
 ) -> Result<(), NoMemory> {
-    let mut change = MarkChange::new(alloc)?;
-    for (p, at, inits, terms, clashes) in given {
-        let mark = Mark {
-            at: Tick(*at),
-            inits: *inits,
-            terms: *terms,
-            clashes: *clashes,
-        };
-        if !change.has(PropId(*p), Tick(*at)) {
-            change.push(PropId(*p), mark)?;
+    let mut change = MarkChange::new(alloc);
+    for one in given {
+        let p = PropId(one.0);
+        let mark = mark_of(one);
+        if !change.has(p, mark.at) {
+            change.push(p, mark, 0)?;
         }
     }
     points.prepare(&change)?;
@@ -69,26 +78,26 @@ const TWICE: [Given; 4] = [
 
 fn tells_currency<M: MarkRow<Tick>>(alloc: Global) -> Result<bool, NoMemory> {
     let mut points = Points::<Tick, M>::new(alloc)?;
-    if points.row(PropId(1)).is_some() || !is_current(&points, 1, &[(0, false), (40, false)]) {
-        return Ok(false);
-    }
+    let unknown = points.row(PropId(1)).is_none() && points.mark_at(PropId(1), Tick(7)).is_none();
     put(alloc, &mut points, &TWICE)?;
+    let known = points.mark_at(PropId(1), Tick(7)) == Some(mark_of(&TWICE[0]))
+        && points.mark_at(PropId(1), Tick(8)).is_none();
+    let times = [
+        (i64::MIN, false),
+        (7, false),
+        (8, true),
+        (10, true),
+        (11, false),
+        (20, false),
+        (21, true),
+        (30, true),
+        (31, false),
+    ];
     Ok(
-        is_current(
-            &points,
-            1,
-            &[
-                (i64::MIN, false),
-                (7, false),
-                (8, true),
-                (10, true),
-                (11, false),
-            ],
-        ) && is_current(
-            &points,
-            1,
-            &[(20, false), (21, true), (30, true), (31, false)],
-        ) && is_current(&points, 0, &[(8, false)])
+        unknown
+            && known
+            && is_current(&points, 1, &times)
+            && is_current(&points, 0, &[(8, false)])
             && is_current(&points, 2, &[(8, false)]),
     )
 }
@@ -144,9 +153,34 @@ fn applies_changes<M: MarkRow<Tick>>(alloc: Global) -> Result<bool, NoMemory> {
     )
 }
 
+/// A mark that initiates once.
+fn initiation(at: Tick) -> Mark<Tick>
+    ensures { result.inits ≡ 1 }
+{
+    Mark {
+        at,
+        inits: 1,
+        terms: 0,
+        clashes: 0,
+    }
+}
+
+/// Whether rows of marks are made by adding behind the last, in room that was made and without.
+fn grows_behind<M: MarkRow<Tick>>(alloc: Global) -> Result<bool, NoMemory> {
+    let mut points = Points::<Tick, M>::new(alloc)?;
+    points.reserve(PropId(3), 2)?;
+    let empty = has_marks(&points, 3, &[]);
+    points.clear(PropId(3));
+    points.push(PropId(3), initiation(Tick(7)))?;
+    points.clear(PropId(1));
+    points.push(PropId(1), initiation(Tick(9)))?;
+    Ok(empty && has_marks(&points, 3, &[(7, 1)]) && has_marks(&points, 1, &[(9, 1)]))
+}
+
 #[test]
 fn points_answer_through_their_bounds(rt: HostRuntime) {
     assert!(rt; tells_currency::<VecMarks<Tick>>(rt.alloc()) == Ok(true));
     assert!(rt; begins_with_initials::<VecMarks<Tick>>(rt.alloc()) == Ok(true));
     assert!(rt; applies_changes::<VecMarks<Tick>>(rt.alloc()) == Ok(true));
+    assert!(rt; grows_behind::<VecMarks<Tick>>(rt.alloc()) == Ok(true));
 }

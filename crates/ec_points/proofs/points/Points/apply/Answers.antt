@@ -1,0 +1,28 @@
+-- The table shows the rows.
+use Rattle.std.proofs.Common.{◌≡◌, ◌+◌, ◌≤◌, is_some, subst, sym}
+use Rattle.ec_points.specs.Changes.{changed, growth_of}
+use Rattle.ec_points.specs.Table.{marks_in, room_in}
+use Rattle.ec_points.proofs.SeenRowLemmas.{is_some-seen, row_at-table, shown}
+use Rattle.ec_points.proofs.points.Points.apply.Goals as goal
+
+pub change_rows-requires : goal.change_rows-requires
+change_rows-requires g c = record {
+  room = λ n. subst (λ row. growth_of g.T.Moment.rank n c.args.change.now (marks_in row) ≤ room_in row)
+      (sym (row_at-table g.M.MarkRow.marks g.M.MarkRow.spare c.self.inside.rows c.self.inside.initials.items c.args.self.now c.self.view_is n)) (c.requires.room n);
+}
+
+pub returns-clause-marks : goal.returns-clause-marks
+returns-clause-marks g c = λ n.
+    shown g.M.MarkRow.marks g.M.MarkRow.spare (λ old new. marks_in new ≡ changed g.T.Moment.rank n c.args.change.now (marks_in old)) c.self.inside.rows c.change_rows.new.rows
+    c.self.inside.initials.items c.self.inside.initials.items c.args.self.now c.self.view_is n (c.change_rows.ensures.marks n)
+
+pub returns-clause-room : goal.returns-clause-room
+returns-clause-room g c = λ n.
+    shown g.M.MarkRow.marks g.M.MarkRow.spare (λ old new. room_in old ≤ room_in new + growth_of g.T.Moment.rank n c.args.change.now (marks_in old)) c.self.inside.rows
+    c.change_rows.new.rows c.self.inside.initials.items c.self.inside.initials.items c.args.self.now c.self.view_is n (c.change_rows.ensures.room n)
+
+pub returns-clause-rows : goal.returns-clause-rows
+returns-clause-rows g c = λ n.
+    shown g.M.MarkRow.marks g.M.MarkRow.spare (λ old new. is_some new ≡ is_some old) c.self.inside.rows c.change_rows.new.rows c.self.inside.initials.items
+    c.self.inside.initials.items c.args.self.now c.self.view_is n
+    (is_some-seen g.M.MarkRow.marks g.M.MarkRow.spare c.self.inside.rows c.change_rows.new.rows n (c.change_rows.ensures.there n))

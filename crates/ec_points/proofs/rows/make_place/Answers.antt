@@ -1,8 +1,0 @@
--- A number without a row at the end leaves the rows as they were.
-use Rattle.std.proofs.Common.{ap, ◌∙◌}
-use Rattle.ec_points.specs.Kept.{kept_at}
-use Rattle.ec_points.proofs.KeptRows.{kept_at-widened}
-use Rattle.ec_points.proofs.rows.make_place.Goals as goal
-
-pub loop-p-preserved : goal.loop-p-preserved
-loop-p-preserved g c = λ n. ap (kept_at n) c.in_ok-push.ensures.items ∙ kept_at-widened c.loop-p.rows.items n ∙ c.loop-p.invariant n
