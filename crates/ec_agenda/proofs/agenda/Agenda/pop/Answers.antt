@@ -1,0 +1,13 @@
+-- What follows the first is in order.
+use Rattle.std.proofs.Common.{ap, ◌∙◌}
+use Rattle.ec_agenda.specs.Due.{are_in_order}
+use Rattle.ec_agenda.proofs.DueLemmas.{are_in_order-rest}
+use Rattle.ec_agenda.proofs.agenda.Agenda.pop.Goals as goal
+
+pub invariant_of-self : goal.invariant_of-self
+invariant_of-self g c =
+    ap (are_in_order g.T.Moment.rank) c.pop_front.ensures.rest ∙ are_in_order-rest g.T.Moment.rank c.self.inside.dues.items c.self.invariant
+
+pub returns-clause-order : goal.returns-clause-order
+returns-clause-order g c =
+    ap (are_in_order g.T.Moment.rank) c.pop_front.ensures.rest ∙ are_in_order-rest g.T.Moment.rank c.self.inside.dues.items c.self.invariant

@@ -1,0 +1,9 @@
+//! The times at which properties are looked at again, the earliest first.
+#![tactic(auto)]
+
+mod agenda;
+mod place;
+#[cfg(test)]
+mod tests;
+
+pub use agenda::Agenda;
