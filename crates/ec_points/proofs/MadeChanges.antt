@@ -15,7 +15,7 @@ use Rattle.ec_points.specs.Changes.{Change, are_apart, are_all_apart, without_ma
 
 -- ---- the first that passes a test, in what a filter keeps
 
-find-never : {X : Type 0} (xs : List X) → find (λ x. false) xs ≡ None
+pub find-never : {X : Type 0} (xs : List X) → find (λ x. false) xs ≡ None
 find-never [] = refl
 find-never (x ∷ xs) = find-never xs
 

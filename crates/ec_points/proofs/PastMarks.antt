@@ -1,5 +1,5 @@
 -- What is known of a row and of its currency from the marks before a time.
-use Rattle.std.proofs.Common.{◌≡◌, ℤ, true, false, cond, ◌&&◌, List, [], ◌∷◌, find, None, refl, sym, ap, ◌∙◌, ⊎_elim, arith}
+use Rattle.std.proofs.Common.{◌≡◌, ℤ, true, false, cond, ◌&&◌, List, None, sym, ap, ◌∙◌, ⊎_elim, arith}
 use Rattle.std.specs.Prelude.{int_le, int_lt}
 use Rattle.std.specs.List.{last_or}
 use Rattle.std.specs.Ordering.{int_eq}
@@ -15,6 +15,7 @@ use Rattle.ec_rows.specs.PlainMarks.{plain_marks}
 use Rattle.ec_rows.proofs.KnownByTimes.{by_time-ext}
 use Rattle.ec_rows.proofs.OrderedLemmas.{is_ascending-filter}
 use Rattle.ec_points.proofs.LastMarks.{before-plain}
+use Rattle.ec_points.proofs.MadeChanges.{find-never}
 
 module _ {T : Type 0} (rank : T → ℤ) where
   -- the marks before u are among those before t, where u is not after t
@@ -37,10 +38,6 @@ module _ {T : Type 0} (rank : T → ℤ) where
   -- and where it is not
   both-later : (a t u : ℤ) → int_lt u t ≡ false → (int_lt a t && int_eq a u) ≡ false
   both-later a t u = grind (arith, ints)
-
-  find-never : {X : Type 0} (xs : List X) → find (λ x. false) xs ≡ None
-  find-never [] = refl
-  find-never (x ∷ xs) = find-never xs
 
   -- the mark at u among those before t
   mark_at-before : (t u : ℤ) (marks : List (Mark T)) → mark_at rank u (marks_before rank t marks) ≡ cond (int_lt u t) (mark_at rank u marks) None
