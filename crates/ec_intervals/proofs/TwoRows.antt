@@ -28,7 +28,7 @@ last_or-all : {X : Type 0} (p : X → Bool) (o : Option X) (xs : List X) → opt
 last_or-all p o [] first all = first
 last_or-all p o (x ∷ xs) first all = last_or-all p (Some x) xs (and-left (p x) (list_all p xs) all) (and-right (p x) (list_all p xs) all)
 
-last_or-one_more : {X : Type 0} (o : Option X) (xs : List X) (x : X) → last_or o (xs ++ x ∷ []) ≡ Some x
+pub last_or-one_more : {X : Type 0} (o : Option X) (xs : List X) (x : X) → last_or o (xs ++ x ∷ []) ≡ Some x
 last_or-one_more o [] x = refl
 last_or-one_more o (y ∷ xs) x = last_or-one_more (Some y) xs x
 
@@ -73,14 +73,6 @@ later-start p i is = by_cases i.from is
 pub not-true : (b : Bool) → not b ≡ true → b ≡ false
 not-true true is = absurd (false≢true is)
 not-true false is = refl
-
-pub not_false : (b : Bool) → not b ≡ false → b ≡ true
-not_false true is = refl
-not_false false is = absurd (false≢true (sym is))
-
-not_not : (b : Bool) → not (not b) ≡ true → b ≡ true
-not_not true is = refl
-not_not false is = is
 
 -- ---- the window
 

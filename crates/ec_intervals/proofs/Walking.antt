@@ -18,6 +18,7 @@ use Rattle.ec_intervals.specs.Steps.{first_open, open_behind, open_through}
 use Rattle.ec_intervals.specs.Table.{front_members, span_interval, plain_end, plain_interval, plain_intervals}
 use Rattle.ec_intervals.proofs.Pass.{is_some-open_behind}
 use Rattle.ec_intervals.proofs.Cut.{open_through-append}
+use Rattle.ec_intervals.proofs.TwoRows.{last_or-one_more}
 use Rattle.ec_intervals.proofs.Spliced.{IsMember-slice_get}
 
 module _ {T : Type 0} (rank : T → ℤ) (marks : List (Mark T)) (strong initial : Bool) where
@@ -95,10 +96,6 @@ module _ {T : Type 0} (rank : T → ℤ) (marks : List (Mark T)) (strong initial
 
 -- ---- the last of some spans
 
-last_or-behind : {X : Type 0} (o : Option X) (xs : List X) (x : X) → last_or o (xs ++ x ∷ []) ≡ Some x
-last_or-behind o [] x = refl
-last_or-behind o (y ∷ xs) x = last_or-behind (Some y) xs x
-
 module _ {T : Type 0} (rank : T → ℤ) where
   pub last-span : (front : Option (End T)) (spans : List (Span T)) (count : ℕ) → 0 < count → (span : Span T) → slice_get spans (count - 1) ≡ Some span →
       Some (plain_end rank span.end) ≡ option_map (λ (i : PlainInterval). i.until) (last_or None (plain_intervals rank (front_members front ++ map span_interval (take count spans))))
@@ -113,4 +110,4 @@ module _ {T : Type 0} (rank : T → ℤ) where
       ∙ ap (λ xs. plain_intervals rank (front_members front ++ xs)) (map-append span_interval (take (count - 1) spans) (span ∷ []))
       ∙ ap (plain_intervals rank) (sym (append_assoc (front_members front) (map span_interval (take (count - 1) spans)) (span_interval span ∷ [])))
       ∙ map-append (plain_interval rank) (front_members front ++ map span_interval (take (count - 1) spans)) (span_interval span ∷ []))
-      ∙ last_or-behind None (plain_intervals rank (front_members front ++ map span_interval (take (count - 1) spans))) (plain_interval rank (span_interval span))))
+      ∙ last_or-one_more None (plain_intervals rank (front_members front ++ map span_interval (take (count - 1) spans))) (plain_interval rank (span_interval span))))

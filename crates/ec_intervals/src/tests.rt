@@ -7,7 +7,7 @@ ghost use Rattle.ec_rows.specs.PlainMarks.{plain_marks};
 
 use crate::{Begin, Interval, Intervals, broken_after};
 use ec_moment::{Moment, Tick};
-use ec_rows::{End, Mark, MarkRow, SpanRow, VecMarks, VecSpans};
+use ec_rows::{End, Mark, MarkRow, Span, SpanRow, VecMarks, VecSpans};
 use ec_terms::{NoMemory, PropId};
 use std::alloc::Global;
 
@@ -44,7 +44,9 @@ fn end(at: Option<i64>) -> End<Tick> {
 }
 
 /// A mark as it is given.
-fn mark(given: Given) -> Mark<Tick> {
+fn mark(given: Given) -> Mark<Tick>
+    ensures { (result.inits ≡ given.1) × (result.terms ≡ given.2) × (result.clashes ≡ given.3) }
+{
     let (at, inits, terms, clashes) = given;
     Mark {
         at: Tick(at),
@@ -301,4 +303,99 @@ fn mended_rows_are_those_rebuilt(rt: HostRuntime) {
             }
         }
     }
+}
+
+/// A span row that passes each call on. It keeps how many splices were made, and the least place at which one of those
+/// wrote that were made since it first had a hundred spans.
+#[derive(Drop)]
+struct TallySpans {
+    spans: VecSpans<Tick>,
+    splices: u64,
+    least: usize,
+}
+
+impl TallySpans {
+    /// The least place, with one more splice at a place.
+    fn least_with(&self, from: usize) -> usize {
+        if self.spans.len() < 100 {
+            return self.least;
+        }
+        self.least.min(from)
+    }
+}
+
+impl SpanRow<Tick> for TallySpans {
+    ghost spans = { λ row. row.spans.items };
+
+    ghost spare = { λ row. row.spans.spare };
+
+    fn new(alloc: Global) -> Result<Self, NoMemory> {
+        Ok(TallySpans {
+            spans: VecSpans::new(alloc)?,
+            splices: 0,
+            least: usize::MAX,
+        })
+    }
+
+    fn len(&self) -> usize {
+        self.spans.len()
+    }
+
+    fn reserve(&mut self, n: usize) -> Result<(), NoMemory> {
+        self.spans.reserve(n)
+    }
+
+    fn get(&self, i: usize) -> Span<Tick> {
+        self.spans.get(i)
+    }
+
+    fn run(&self, i: usize) -> &[Span<Tick>] {
+        self.spans.run(i)
+    }
+
+    fn count_before(&self, at: Tick) -> usize {
+        self.spans.count_before(at)
+    }
+
+    fn covering(&self, at: Tick) -> Option<usize> {
+        self.spans.covering(at)
+    }
+
+    fn splice(&mut self, from: usize, to: usize, with: &[Span<Tick>]) {
+        self.least = self.least_with(from);
+        self.splices = self.splices.wrapping_add(1);
+        self.spans.splice(from, to, with);
+    }
+}
+
+/// Starts and ends the property a hundred times, and starts it once more.
+fn pulse<M: MarkRow<Tick>>(
+    intervals: &mut Intervals<Tick, TallySpans>,
+    row: &mut M,
+) -> Result<(), NoMemory> {
+    rebuild(intervals, row, false, false)?;
+    for k in 1i64..101 {
+        let start = k.wrapping_mul(10);
+        let end = start.wrapping_add(5);
+        mend(intervals, row, false, false, mark((start, 1, 0, 0)))?;
+        mend(intervals, row, false, false, mark((end, 0, 1, 0)))?;
+    }
+    mend(intervals, row, false, false, mark((2000, 1, 0, 0)))?;
+    Ok(())
+}
+
+/// Whether a late change touches the last spans alone, by one splice for each change.
+fn touches_the_last_alone(alloc: Global) -> Result<bool, NoMemory> {
+    let mut row: VecMarks<Tick> = VecMarks::new(alloc)?;
+    let mut intervals = Intervals::new(alloc);
+    pulse(&mut intervals, &mut row)?;
+    match intervals.spans(P) {
+        Some(tally) => Ok(tally.len() == 101 && tally.splices == 202 && tally.least == 99),
+        None => Ok(false),
+    }
+}
+
+#[test]
+fn a_late_change_touches_the_last_spans_alone(rt: HostRuntime) {
+    assert!(rt; touches_the_last_alone(rt.alloc()) == Ok(true));
 }

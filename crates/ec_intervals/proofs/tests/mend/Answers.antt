@@ -1,7 +1,7 @@
 -- The old intervals are those of the row without the mark, which agrees with the new one before and behind it.
-use Rattle.std.proofs.Common.{◌≡◌, sym, ap, ◌∙◌, arith}
+use Rattle.std.proofs.Common.{sym, ap, ◌∙◌, arith}
 use Rattle.ec_rows.specs.Marks.{marks_before, marks_after, with_mark}
-use Rattle.ec_intervals.specs.Table.{members_at, plain_intervals}
+use Rattle.ec_intervals.specs.Table.{plain_intervals}
 use Rattle.ec_intervals.proofs.KeptRows.{members_in-grown}
 use Rattle.ec_intervals.proofs.OneMark.{before-with_mark, behind-with_mark}
 use Rattle.ec_intervals.proofs.Written.{length-spans_of}
