@@ -9,22 +9,21 @@ use Rattle.ec_axioms.specs.Timeline.{Begin, before_all, begin_at, Interval}
 use Rattle.ec_axioms.specs.Marks.{PlainMark, is_marked, mark_initiates, mark_terminates, mark_breaks, row_starts}
 use Rattle.ec_rows.proofs.OrderedLemmas.{and-left, and-right}
 use Rattle.ec_intervals.specs.Steps.{open_behind, ended_by, interval_up_to, unended_interval, begins_where, ends_where, lasting, open_through, ended_through, spelt_through}
-use Rattle.ec_intervals.proofs.Pass.{IsPlainRow, IsPlainRow-rest, pass, outcome, started, interval_by, next_mark, breaks-terminates, cons_option-append, is_some-open_behind, pass-starts, closing-ended_by, list_all-row_starts}
+use Rattle.ec_intervals.proofs.Pass.{IsPlainRow, IsPlainRow-rest, pass, outcome, started, interval_by, next_mark, breaks-terminates, is_some-open_behind, pass-starts, closing-ended_by, list_all-row_starts}
 use Rattle.ec_intervals.proofs.PassOrder.{list_all-cons}
 use Rattle.ec_lists.proofs.Filters.{filter-all}
+use Rattle.ec_lists.proofs.Filters.{filter-none as filter_none}
+use Rattle.ec_lists.proofs.Tests.{list_any-none}
+use Rattle.ec_lists.proofs.Options.{cons_option-is_append}
 
 -- ---- a list that is cut where a test begins to fail
 
-pub filter-none : {X : Type 0} (p : X → Bool) (xs : List X) → list_all (λ x. not (p x)) xs ≡ true → filter p xs ≡ []
-filter-none p [] none = refl
-filter-none p (x ∷ xs) none = here (p x) (and-left (not (p x)) (list_all (λ y. not (p y)) xs) none) (filter-none p xs (and-right (not (p x)) (list_all (λ y. not (p y)) xs) none))
-  where
-    here : (b : Bool) → not b ≡ true → filter p xs ≡ [] → cond b (x ∷ filter p xs) (filter p xs) ≡ []
-    here true kept rest = absurd (false≢true kept)
-    here false kept rest = rest
+-- a filter that each member fails keeps none
+pub filter-no_member : {X : Type 0} (p : X → Bool) (xs : List X) → list_all (λ x. not (p x)) xs ≡ true → filter p xs ≡ []
+filter-no_member p xs fails = filter_none p xs (list_any-none p xs fails)
 
 pub filter-cut : {X : Type 0} (p : X → Bool) (xs ys : List X) → list_all p xs ≡ true → list_all (λ x. not (p x)) ys ≡ true → filter p (xs ++ ys) ≡ xs
-filter-cut p xs ys front back = filter-append p xs ys ∙ ap₂ (λ a b. a ++ b) (filter-all p xs front) (filter-none p ys back) ∙ append-nil xs
+filter-cut p xs ys front back = filter-append p xs ys ∙ ap₂ (λ a b. a ++ b) (filter-all p xs front) (filter-no_member p ys back) ∙ append-nil xs
 
 -- the part that passes, and the part that does not
 pub filter-front : {X : Type 0} (p : X → Bool) (xs ys zs : List X) → xs ++ ys ≡ zs → list_all p xs ≡ true → list_all (λ x. not (p x)) ys ≡ true → filter p zs ≡ xs
@@ -175,7 +174,7 @@ module _ (p : ℤ → Bool) (strong : Bool) where
       from_starts : (starts : List ℤ) → list_all p starts ≡ true → list_all (λ (i : Interval). begins_where p i.from) (started interval_by strong ms starts) ≡ true
       from_starts [] all = refl
       from_starts (s ∷ starts) all =
-          ap (list_all (λ (i : Interval). begins_where p i.from)) (cons_option-append (interval_by (begin_at s) (next_mark strong ms (begin_at s))) (started interval_by strong ms starts))
+          ap (list_all (λ (i : Interval). begins_where p i.from)) (cons_option-is_append (interval_by (begin_at s) (next_mark strong ms (begin_at s))) (started interval_by strong ms starts))
           ∙ one s (next_mark strong ms (begin_at s)) (started interval_by strong ms starts) (and-left (p s) (list_all p starts) all) (from_starts starts (and-right (p s) (list_all p starts) all))
 
 module _ (q : Begin → Bool) (strong : Bool) where

@@ -18,9 +18,9 @@ use Rattle.ec_intervals.specs.Steps.{first_open, open_behind, open_through, brok
 use Rattle.ec_intervals.proofs.Pass.{pass, broken_begin_by, closing-broken_by, pass-broken_spans_of}
 use Rattle.ec_intervals.proofs.Cut.{open_behind-begins, open_through-begins, open_through-append}
 use Rattle.ec_intervals.proofs.Written.{IsPlainRow-from_row}
-use Rattle.ec_intervals.proofs.Options.{none-is}
 use Rattle.ec_intervals.proofs.Spliced.{earlier-rest, earlier-before}
 use Rattle.ec_lists.proofs.Tests.{list_all-weaker}
+use Rattle.ec_lists.proofs.Options.{None-from_is_some}
 
 -- a search that finds a member in the front of a list
 find-front : {X : Type 0} (p : X → Bool) (xs ys : List X) → is_some (find p xs) ≡ true → find p (xs ++ ys) ≡ find p xs
@@ -32,7 +32,7 @@ find-front p xs ys found = find-append p xs ys ∙ found_there (find p xs) found
 
 -- and one that does not
 find-behind : {X : Type 0} (p : X → Bool) (xs ys : List X) → is_some (find p xs) ≡ false → find p (xs ++ ys) ≡ find p ys
-find-behind p xs ys missed = find-append p xs ys ∙ ap (λ o. option_or o (find p ys)) (none-is (find p xs) missed)
+find-behind p xs ys missed = find-append p xs ys ∙ ap (λ o. option_or o (find p ys)) (None-from_is_some (find p xs) missed)
 
 -- ---- the begins that marks break
 

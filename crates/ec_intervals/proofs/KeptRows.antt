@@ -13,14 +13,12 @@ use Rattle.ec_intervals.specs.declared.row.KeptRow.{KeptRow}
 use Rattle.ec_intervals.specs.RowViews.{seen, seen_at, rows_seen}
 use Rattle.ec_intervals.specs.Table.{IntervalRow, IntervalTable, IsGrown, AreFew, has_row, row_at, members_in, front_in, spans_in, front_members, span_interval, plain_interval, plain_intervals}
 use Rattle.ec_intervals.proofs.Written.{length-spans_of}
+use Rattle.ec_lists.proofs.Numbers.{eqb-apart}
 
 -- ---- numbers
 
 equal : (m n : ℕ) → (m == n) ≡ true → n ≡ m
 equal m n e = grind arith
-
-different : (m n : ℕ) → (m == n) ≡ false → n ≢ m
-different m n e = λ is. absurd (false≢true (sym e ∙ grind arith))
 
 -- ---- rows
 
@@ -70,7 +68,7 @@ module _ {T I : Type 0} (spans : I → List (Span T)) (spare : I → ℕ) where
       ⊎_elim (λ e. subst (λ k. length (members_in (kept_at k (rows_seen spans spare new))) < 2 ^ 64) (sym (equal m n e))
       (subst (λ row. length (members_in row) < 2 ^ 64) (sym (kept_at-seen new m)) here))
       (λ e. subst (λ row. length (members_in row) < 2 ^ 64)
-      (kept_at-seen now n ∙ sym (ap (option_map (seen spans spare)) (others n (different m n e))) ∙ sym (kept_at-seen new n)) (few n))
+      (kept_at-seen now n ∙ sym (ap (option_map (seen spans spare)) (others n (eqb-apart m n e))) ∙ sym (kept_at-seen new n)) (few n))
       (cases_Bool (m == n))
 
   pub AreFew-grown : (now new : List (Option (KeptRow T I))) (m : ℕ) → AreFew (rows_seen spans spare now) → ((n : ℕ) → n ≢ m → kept_at n new ≡ kept_at n now) →

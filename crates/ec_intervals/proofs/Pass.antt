@@ -11,30 +11,18 @@ use mathlib.Core.Path.{fun_ext}
 use Rattle.ec_axioms.specs.Timeline.{Begin, before_all, begin_at, Interval, is_after, next_break, interval_from, broken_from}
 use Rattle.ec_axioms.specs.Marks.{PlainMark, is_marked, mark_initiates, mark_terminates, mark_breaks, current_after, mark_starts, row_starts, row_begins, row_mark, row_timeline, spans_of, broken_spans_of}
 use Rattle.ec_axioms.proofs.Ranks.{int_lt-same, int_lt-not_after, int_eq-same}
-use Rattle.ec_axioms.proofs.Members.{IsMember, IsMember-from_filter, find-map, find-Some, filter-map, list_all-member}
+use Rattle.ec_axioms.proofs.Members.{IsMember, IsMember-from_filter, find-map, find-Some, filter-map, list_all-member, find_agree_members}
 use Rattle.ec_rows.specs.Ordered.{is_ascending}
 use Rattle.ec_rows.proofs.OrderedLemmas.{and-left, and-right, ascending-first, ascending-rest}
 use Rattle.ec_intervals.specs.Steps.{first_open, open_behind, ended_by, broken_by, interval_up_to, unended_interval}
-use Rattle.ec_lists.proofs.Filters.{filter-all}
+use Rattle.ec_lists.proofs.Filters.{filter-all, filter-each}
+use Rattle.ec_lists.proofs.Options.{cons_option-is_append}
 
 -- ---- lists
-
-pub cons_option-append : {X : Type 0} (o : Option X) (xs : List X) → cons_option o xs ≡ option_to_list o ++ xs
-cons_option-append None xs = refl
-cons_option-append (Some x) xs = refl
 
 length-one : {X : Type 0} (o : Option X) (xs : List X) → length (option_to_list o ++ xs) ≤ suc (length xs)
 length-one None xs = omega arith
 length-one (Some x) xs = omega arith
-
-filter-each : {X : Type 0} (xs : List X) → filter (λ x. true) xs ≡ xs
-filter-each [] = refl
-filter-each (x ∷ xs) = ap (λ ys. x ∷ ys) (filter-each xs)
-
-find_same : {X : Type 0} (p q : X → Bool) (xs : List X) → ((x : X) → IsMember xs x → p x ≡ q x) → find p xs ≡ find q xs
-find_same p q [] same = refl
-find_same p q (x ∷ xs) same =
-    ap₂ (λ b o. cond b (Some x) o) (same x (inl refl)) (find_same p q xs (λ y member. same y (inr member)))
 
 -- ---- rows of plain marks
 
@@ -170,7 +158,7 @@ module _ {X : Type 0} (f : Begin → Option PlainMark → Option X) (strong : Bo
       first : (xs : List X) → xs ++ (outcome (find (mark_breaks strong) ms) (Some (begin_at m.instant)) ++ started ms rest) ≡ xs ++ started (m ∷ ms) (m.instant ∷ rest)
       first xs =
           ap (λ ys. xs ++ ys) (sym (ap₂ cons_option (ap (f (begin_at m.instant)) (started-first m ms (behind_first m ms row))) later
-          ∙ cons_option-append (f (begin_at m.instant) (find (mark_breaks strong) ms)) (started ms rest)))
+          ∙ cons_option-is_append (f (begin_at m.instant) (find (mark_breaks strong) ms)) (started ms rest)))
 
       -- what is closed and what is opened make up what becomes of the open begin and of the starts
       step : (breaks initiates : Bool) (begun : Option Begin) → (breaks ≡ false → initiates ≡ true) →
@@ -203,7 +191,7 @@ module _ {X : Type 0} (f : Begin → Option PlainMark → Option X) (strong : Bo
       pass (first_open initial) marks ≡ filter_map (λ begin. f begin (next_mark strong marks begin)) (row_begins marks strong initial)
   pass-begins true marks row =
       pass-starts true None (Some before_all) marks refl row
-      ∙ sym (cons_option-append (f before_all (find (mark_breaks strong) marks)) (started marks (row_starts strong true None marks)))
+      ∙ sym (cons_option-is_append (f before_all (find (mark_breaks strong) marks)) (started marks (row_starts strong true None marks)))
       ∙ ap (λ ms. cons_option (f before_all (find (mark_breaks strong) ms)) (started marks (row_starts strong true None marks))) (sym (filter-each marks))
   pass-begins false marks row = pass-starts false None None marks refl row
 
@@ -228,7 +216,7 @@ module _ (marks : List PlainMark) (strong initial : Bool) (row : IsPlainRow mark
       ap (find breaks) (filter-map (is_after begin) (λ (m : PlainMark). m.instant) marks)
       ∙ find-map breaks (λ (m : PlainMark). m.instant) (filter (λ (m : PlainMark). is_after begin m.instant) marks)
       ∙ ap (option_map (λ (m : PlainMark). m.instant))
-      (find_same (λ (m : PlainMark). breaks m.instant) (mark_breaks strong) (filter (λ (m : PlainMark). is_after begin m.instant) marks)
+      (find_agree_members (λ (m : PlainMark). breaks m.instant) (mark_breaks strong) (filter (λ (m : PlainMark). is_after begin m.instant) marks)
       (λ m kept. ap (λ o. option_map_or (mark_breaks strong) o false)
       (row_mark-member marks m row.ascending (IsMember-from_filter (λ (m : PlainMark). is_after begin m.instant) marks m kept).0)))
 

@@ -10,13 +10,10 @@ use Rattle.ec_rows.specs.Ordered.{is_ascending}
 use Rattle.ec_rows.proofs.OrderedLemmas.{and-left, and-right, ascending-first, ascending-rest}
 use Rattle.ec_intervals.specs.Steps.{first_open, open_behind, interval_up_to, is_proper, begins_from, comes_before, IsIntervalRow}
 use Rattle.ec_intervals.proofs.Pass.{IsPlainRow, IsPlainRow-rest, behind_first, closing, pass, interval_by}
-use Rattle.ec_lists.proofs.Tests.{list_all-weaker}
+use Rattle.ec_lists.proofs.Tests.{list_all-weaker, list_all-each, list_all-front}
+use Rattle.ec_lists.proofs.Integers.{int_le-from_lt, int_le-same}
 
 -- ---- lists
-
-pub list_all-each : {X : Type 0} (xs : List X) → list_all (λ x. true) xs ≡ true
-list_all-each [] = refl
-list_all-each (x ∷ xs) = list_all-each xs
 
 -- one more in front, if there is one
 pub list_all-cons : {X : Type 0} (p : X → Bool) (o : Option X) (xs : List X) → option_map_or p o true ≡ true → list_all p xs ≡ true → list_all p (option_to_list o ++ xs) ≡ true
@@ -28,11 +25,6 @@ is_ascending-cons : {X : Type 0} (stands_before : X → X → Bool) (o : Option 
 unfolding is_ascending
 is_ascending-cons stands_before None xs first rest = rest
 is_ascending-cons stands_before (Some x) xs first rest = ap (λ b. b && is_ascending stands_before xs) first ∙ rest
-
--- the front of a list whose members pass
-pub list_all-front : {X : Type 0} (p : X → Bool) (xs ys : List X) → list_all p (xs ++ ys) ≡ true → list_all p xs ≡ true
-list_all-front p [] ys all = refl
-list_all-front p (x ∷ xs) ys all = ap₂ (λ a b. a && b) (and-left (p x) (list_all p (xs ++ ys)) all) (list_all-front p xs ys (and-right (p x) (list_all p (xs ++ ys)) all))
 
 -- the front of a list that is in order is in order
 pub is_ascending-front : {X : Type 0} (stands_before : X → X → Bool) (xs ys : List X) → is_ascending stands_before (xs ++ ys) ≡ true → is_ascending stands_before xs ≡ true
@@ -46,12 +38,6 @@ pub IsIntervalRow-front : (xs ys : List Interval) → IsIntervalRow (xs ++ ys) �
 IsIntervalRow-front xs ys row = record { proper = list_all-front is_proper xs ys row.proper; ascending = is_ascending-front comes_before xs ys row.ascending }
 
 -- ---- the pass
-
-int_le-from_lt : (s t : ℤ) → int_lt s t ≡ true → int_le s t ≡ true
-int_le-from_lt s t before = grind (arith, ints)
-
-int_le-same : (s : ℤ) → int_le s s ≡ true
-int_le-same s = grind (arith, ints)
 
 -- a mark lies after the open begin
 abbrev lies_after : Option Begin → PlainMark → Bool

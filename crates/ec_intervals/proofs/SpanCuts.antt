@@ -19,8 +19,8 @@ use Rattle.ec_rows.proofs.OrderedLemmas.{and-left, and-right, ascending-first, a
 use Rattle.ec_rows.proofs.SpanLemmas.{by_time-from_row}
 use Rattle.ec_intervals.specs.Steps.{ends_before, begins_behind}
 use Rattle.ec_intervals.specs.Table.{plain_spans, plain_interval, plain_end, span_interval, spans_up_to}
-use Rattle.ec_intervals.proofs.Cut.{filter-none}
 use Rattle.ec_lists.proofs.Tests.{list_all-weaker}
+use Rattle.ec_intervals.proofs.Cut.{filter-no_member}
 
 -- ---- lists
 
@@ -30,7 +30,7 @@ pub filter-both : {X : Type 0} (stands_before : X → X → Bool) (p : X → Boo
 unfolding is_ascending
 filter-both {X} stands_before p keeps [] ascending = refl
 filter-both {X} stands_before p keeps (x ∷ xs) ascending =
-    here (p x) refl (λ failing. filter-none p xs (list_all-weaker (stands_before x) (λ y. not (p y)) (λ y before. fails y before failing (cases_Bool (p y))) xs (ascending-first stands_before x xs ascending)))
+    here (p x) refl (λ failing. filter-no_member p xs (list_all-weaker (stands_before x) (λ y. not (p y)) (λ y before. fails y before failing (cases_Bool (p y))) xs (ascending-first stands_before x xs ascending)))
     (filter-both stands_before p keeps xs (ascending-rest stands_before x xs ascending))
   where
     fails : (y : X) → stands_before x y ≡ true → p x ≡ false → (p y ≡ true) ⊎ (p y ≡ false) → not (p y) ≡ true
@@ -56,16 +56,6 @@ list_all-kept p (x ∷ xs) = here (p x) refl (list_all-kept p xs)
     here : (b : Bool) → p x ≡ b → list_all p (filter p xs) ≡ true → list_all p (cond b (x ∷ filter p xs) (filter p xs)) ≡ true
     here true is rest = ap (λ b. b && list_all p (filter p xs)) is ∙ rest
     here false is rest = rest
-
-pub length-weaker : {X : Type 0} (p q : X → Bool) → ((x : X) → p x ≡ true → q x ≡ true) → (xs : List X) → length (filter p xs) ≤ length (filter q xs)
-length-weaker p q weaker [] = omega arith
-length-weaker p q weaker (x ∷ xs) = one (p x) (q x) (weaker x) (length-weaker p q weaker xs)
-  where
-    one : (a b : Bool) → (a ≡ true → b ≡ true) → length (filter p xs) ≤ length (filter q xs) → length (cond a (x ∷ filter p xs) (filter p xs)) ≤ length (cond b (x ∷ filter q xs) (filter q xs))
-    one true true so rest = omega (arith, rest)
-    one true false so rest = absurd (false≢true (so refl))
-    one false true so rest = omega (arith, rest)
-    one false false so rest = rest
 
 length-kept : {X : Type 0} (p : X → Bool) (n : ℕ) (xs : List X) → n ≤ length xs → list_all p (take n xs) ≡ true → n ≤ length (filter p xs)
 length-kept p zero xs within all = omega arith
@@ -186,7 +176,7 @@ module _ {T : Type 0} (rank : T → ℤ) where
       let rest = uncovered-cut a spans (IsSpanRow-rest s spans row) (or-right (is_covering rank a s) (list_any (is_covering rank a) spans) none) in
       ⊎_elim (λ earlier. subst (Is (s ∷ spans)) (sym (ap (λ b. cond b (s ∷ spans_before rank a spans) (spans_before rank a spans)) earlier))
       (ap₂ (λ x y. x && y) (short-ends a s (short earlier (or-left (is_covering rank a s) (list_any (is_covering rank a) spans) none))) rest.0, rest.1))
-      (λ from. subst (Is (s ∷ spans)) (sym (ap (λ b. cond b (s ∷ spans_before rank a spans) (spans_before rank a spans)) from ∙ filter-none (λ (other : Span T). int_lt (rank other.from) a) spans (later from)))
+      (λ from. subst (Is (s ∷ spans)) (sym (ap (λ b. cond b (s ∷ spans_before rank a spans) (spans_before rank a spans)) from ∙ filter-no_member (λ (other : Span T). int_lt (rank other.from) a) spans (later from)))
       (refl, from-last a (s ∷ spans) row.proper (ap₂ (λ x y. not x && y) from (later from))))
       (cases_Bool (int_lt (rank s.from) a))
     where
@@ -244,10 +234,10 @@ module _ {T : Type 0} (rank : T → ℤ) where
       from at_least =
           subst (λ xs. IsCount xs (spans_up_to rank t (s ∷ spans)))
           (sym (ap (λ b. cond b (s ∷ spans_before rank t spans) (spans_before rank t spans)) at_least
-          ∙ filter-none (λ (other : Span T). int_lt (rank other.from) t) spans
+          ∙ filter-no_member (λ (other : Span T). int_lt (rank other.from) t) spans
           (list_all-weaker (λ (other : Span T). int_lt t (rank other.from)) (λ (other : Span T). not (int_lt (rank other.from) t)) (λ other. not_before (rank other.from)) spans (later at_least))))
           (ap (λ xs. length (cond (int_le (rank s.from) t) (s ∷ xs) xs))
-          (filter-none (λ (other : Span T). int_le (rank other.from) t) spans
+          (filter-no_member (λ (other : Span T). int_le (rank other.from) t) spans
           (list_all-weaker (λ (other : Span T). int_lt t (rank other.from)) (λ (other : Span T). not (int_le (rank other.from) t)) (λ other. not_up_to (rank other.from)) spans (later at_least)))
           ∙ ap (λ b. length (cond {A = List (Span T)} b (s ∷ []) [])) (equal (rank s.from) at_least) ∙ one (int_eq (rank s.from) t))
         where

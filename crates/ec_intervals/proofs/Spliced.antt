@@ -14,7 +14,7 @@ use Rattle.std.proofs.lemmas.List.Folds.{list_all-map}
 use Rattle.std.proofs.lemmas.List.Elements.{filter-append}
 use Rattle.ec_axioms.specs.Timeline.{Begin, before_all, begin_at, Interval as PlainInterval}
 use Rattle.ec_axioms.specs.Marks.{PlainMark, spans_of}
-use Rattle.ec_axioms.proofs.Members.{IsMember, IsMember_at, filter-map}
+use Rattle.ec_axioms.proofs.Members.{IsMember, IsMember_at, filter-map, IsMember-append_right, IsMember-map}
 use Rattle.ec_axioms.proofs.Ranks.{int_lt-same}
 use Rattle.ec_rows.specs.Marks.{IsMarkRow, mark_before, marks_before, marks_after}
 use Rattle.ec_rows.specs.PlainMarks.{plain_mark, plain_marks}
@@ -32,13 +32,13 @@ use Rattle.ec_intervals.specs.OldMarks.{AreOfOldMarks}
 use Rattle.ec_intervals.specs.Steps.{first_open, lasting, open_through, ended_through, spelt_through, is_behind, up_to_first_behind, first_behind, end_behind, ends_before, begins_behind, begins_where, IsIntervalRow}
 use Rattle.ec_intervals.specs.Table.{front_members, span_interval, plain_begin, plain_interval, plain_intervals, plain_spans, spans_up_to}
 use Rattle.ec_intervals.proofs.Pass.{IsPlainRow, plain_before, behind_first, pass, interval_by, pass-spans_of}
-use Rattle.ec_intervals.proofs.PassOrder.{list_all-each}
 use Rattle.ec_intervals.proofs.Written.{IsPlainRow-from_row, IsIntervalRow-spans_of, IsSpanRow-members}
-use Rattle.ec_intervals.proofs.Cut.{filter-none, cut-front, cut-behind, IsPlainRow-behind, pass-append, pass-spelt_through, ended_through-begins, open_through-begins}
-use Rattle.ec_intervals.proofs.SpanCuts.{filter-both, take-cut, drop-cut, list_all-kept, length-weaker, plain-take, plain-drop, reaching-lasts, taken-up_to, dropped-up_to}
+use Rattle.ec_intervals.proofs.Cut.{filter-no_member, cut-front, cut-behind, IsPlainRow-behind, pass-append, pass-spelt_through, ended_through-begins, open_through-begins}
+use Rattle.ec_intervals.proofs.SpanCuts.{filter-both, take-cut, drop-cut, list_all-kept, plain-take, plain-drop, reaching-lasts, taken-up_to, dropped-up_to}
 use Rattle.ec_intervals.proofs.TwoRows.{is_start, not-true, kept-taken, opened-by, kept-before_all, front-kept, new-spelt, list_all-both, IsMember-front}
 use Rattle.ec_intervals.proofs.Reading.{up_to-None, first_behind-None, up_to_all, none_behind-up_to, none_behind-find}
-use Rattle.ec_lists.proofs.Tests.{list_all-weaker}
+use Rattle.ec_lists.proofs.Tests.{list_all-weaker, list_all-each}
+use Rattle.ec_lists.proofs.Filters.{length-filter_wider}
 
 -- ---- lists
 
@@ -61,15 +61,6 @@ take-take zero n xs le = refl
 take-take (suc m) zero xs le = absurd (omega arith)
 take-take (suc m) (suc n) [] le = refl
 take-take (suc m) (suc n) (x ∷ xs) le = ap (λ ys. x ∷ ys) (take-take m n xs (omega arith))
-
-IsMember-map : {X Y : Type 0} (f : X → Y) (xs : List X) (x : X) → IsMember xs x → IsMember (map f xs) (f x)
-IsMember-map f [] x member = absurd member
-IsMember-map f (y ∷ xs) x (inl same) = inl (ap f same)
-IsMember-map f (y ∷ xs) x (inr rest) = inr (IsMember-map f xs x rest)
-
-IsMember-back : {X : Type 0} (xs ys : List X) (x : X) → IsMember ys x → IsMember (xs ++ ys) x
-IsMember-back [] ys x member = member
-IsMember-back (y ∷ xs) ys x member = inr (IsMember-back xs ys x member)
 
 append_nil_back : {X : Type 0} (xs ys : List X) → xs ++ ys ≡ [] → ys ≡ []
 append_nil_back [] ys none = none
@@ -149,7 +140,7 @@ module _ {T : Type 0} (rank : T → ℤ) where
           ∙ ap (λ ms. within ++ ms)
           (filter_same (λ (m : PlainMark). not (not (int_lt b m.instant))) (λ (m : PlainMark). int_lt b m.instant) (λ m. twice (int_lt b m.instant)) rest
           ∙ ap (λ ms. ms ++ filter (λ (m : PlainMark). int_lt b m.instant) rest)
-          (sym (filter-none (λ (m : PlainMark). int_lt b m.instant) earlier (list_all-weaker (λ (m : PlainMark). int_lt m.instant a) (λ (m : PlainMark). not (int_lt b m.instant)) (λ m. early m.instant) earlier earlier-before)))
+          (sym (filter-no_member (λ (m : PlainMark). int_lt b m.instant) earlier (list_all-weaker (λ (m : PlainMark). int_lt m.instant a) (λ (m : PlainMark). not (int_lt b m.instant)) (λ m. early m.instant) earlier earlier-before)))
           ∙ sym (filter-append (λ (m : PlainMark). int_lt b m.instant) earlier rest) ∙ ap (filter (λ (m : PlainMark). int_lt b m.instant)) (sym earlier-rest)
           ∙ filter-map (λ (m : PlainMark). int_lt b m.instant) (plain_mark rank) marks)
         where
@@ -321,7 +312,7 @@ module _ {T : Type 0} (rank : T → ℤ) where
         opened ≡ Some (begin_at (rank span.from))
     opened-span place span read lasts before =
         opened-interval (plain_interval rank (span_interval span))
-        (IsMember-back (plain_intervals rank (front_members front)) (plain_spans rank spans) (plain_interval rank (span_interval span))
+        (IsMember-append_right (plain_intervals rank (front_members front)) (plain_spans rank spans) (plain_interval rank (span_interval span))
         (IsMember-map (λ (s : Interval T). plain_interval rank s) (map span_interval spans) (span_interval span) (IsMember-map span_interval spans span (IsMember-slice_get spans place span read))))
         lasts (ap not before)
 
@@ -490,7 +481,7 @@ module _ {T : Type 0} (rank : T → ℤ) where
 
           pub later-behind : length (spans_up_to rank b spans) ≤ hi
           later-behind =
-              let later = length-weaker (λ (s : Span T). int_le (rank s.from) b) (λ (s : Span T). int_le (rank s.from) t) (λ s. up_to (rank s.from) t (rest-behind t hi counted found).1) spans in
+              let later = length-filter_wider (λ (s : Span T). int_le (rank s.from) b) (λ (s : Span T). int_le (rank s.from) t) (λ s. up_to (rank s.from) t (rest-behind t hi counted found).1) spans in
               omega (arith, later, counted)
             where
               up_to : (x u : ℤ) → int_lt b u ≡ true → int_le x b ≡ true → int_le x u ≡ true

@@ -5,9 +5,9 @@ use Rattle.ec_rows.specs.PlainMarks.{plain_mark, plain_marks}
 use Rattle.ec_intervals.specs.Steps.{open_through, broken_through}
 use Rattle.ec_intervals.specs.Table.{plain_begin, plain_broken}
 use Rattle.ec_intervals.proofs.FirstBroken.{first_of, first_of-found, first_of-missed, open_through-missed}
-use Rattle.ec_intervals.proofs.Options.{is_some-map}
 use Rattle.ec_intervals.proofs.Written.{marks-split, marks-taken}
 use Rattle.ec_intervals.proofs.broken.first_in_run.Goals as goal
+use Rattle.ec_lists.proofs.Options.{is_some-option_map}
 
 pub loop-mark-init : goal.loop-mark-init
 unfolding open_through broken_through
@@ -21,7 +21,7 @@ returns-then-is_some-clause-found g c =
     (marks-split g.T.Moment.rank c.args.marks.now c.loop-mark.mark-index c.mark-item.result (slice_get_read c.args.marks.now (length c.args.marks.now) c.loop-mark.mark-index c.mark-item.result refl (omega arith) c.mark-item.is))
     c.loop-mark.invariant.none (option_map (plain_begin g.T.Moment.rank) c.loop-mark.begun) c.loop-mark.invariant.opened
     (option_map (plain_broken g.T.Moment.rank) c.found_by-found.result) c.found_by-found.ensures
-    (is_some-map (plain_broken g.T.Moment.rank) c.found_by-found.result ∙ sym c.is_some.ensures ∙ c.if-is_some.true)
+    (is_some-option_map (plain_broken g.T.Moment.rank) c.found_by-found.result ∙ sym c.is_some.ensures ∙ c.if-is_some.true)
 
 pub loop-mark-preserved : goal.loop-mark-preserved
 loop-mark-preserved g c =
@@ -36,7 +36,7 @@ loop-mark-preserved g c =
           (marks-split g.T.Moment.rank c.args.marks.now c.loop-mark.mark-index c.mark-item.result (slice_get_read c.args.marks.now (length c.args.marks.now) c.loop-mark.mark-index c.mark-item.result refl (omega arith) c.mark-item.is))
           c.loop-mark.invariant.none (option_map (plain_begin g.T.Moment.rank) c.loop-mark.begun) c.loop-mark.invariant.opened
           (option_map (plain_broken g.T.Moment.rank) c.found_by-found.result) c.found_by-found.ensures
-          (is_some-map (plain_broken g.T.Moment.rank) c.found_by-found.result ∙ sym c.is_some.ensures ∙ c.if-is_some.false);
+          (is_some-option_map (plain_broken g.T.Moment.rank) c.found_by-found.result ∙ sym c.is_some.ensures ∙ c.if-is_some.false);
       opened =
           open_through-missed c.args.strong (option_map (plain_begin g.T.Moment.rank) c.args.after) (option_map (plain_begin g.T.Moment.rank) c.args.begun.now)
           (take c.loop-mark.mark-index (plain_marks g.T.Moment.rank c.args.marks.now)) (plain_mark g.T.Moment.rank c.mark-item.result) (drop (c.loop-mark.mark-index + 1) (plain_marks g.T.Moment.rank c.args.marks.now))

@@ -2,10 +2,10 @@
 use Rattle.std.proofs.Common.{◌+◌, length, drop, option_map, is_some, sym, ap, subst, ◌∙◌, arith}
 use Rattle.std.proofs.lemmas.List.{length-map, length-drop, length-append}
 use Rattle.ec_rows.specs.PlainMarks.{plain_mark, plain_marks}
-use Rattle.ec_intervals.proofs.Options.{is_some-map, none-is}
 use Rattle.ec_intervals.proofs.Written.{marks-none}
 use Rattle.ec_intervals.proofs.Reading.{marks-run, IsReadUpTo, IsReadUpTo-none, IsReadUpTo-count, IsReadUpTo-run, IsReadOver-run, first_behind-run, IsReadOver-all, first_behind-all}
 use Rattle.ec_intervals.proofs.draft.Draft.read_row.Goals as goal
+use Rattle.ec_lists.proofs.Options.{is_some-option_map, None-from_is_some}
 
 pub loop-i-init : goal.loop-i-init
 loop-i-init g c = record {
@@ -32,7 +32,7 @@ returns-then-is_some-clause-read g c =
     let next = marks-run rank (g.M.MarkRow.marks c.args.row.now) c.run-run.result.now c.loop-i.i c.run-run.ensures.run in
     IsReadOver-run rank c.args.strong until (drop c.args.first all) (plain_marks rank c.run-run.result.now) (drop (c.loop-i.i + length c.run-run.result.now) all) c.args.self.now c.loop-i.self c.read_run-last.new.self
     (subst (λ left. IsReadUpTo rank c.args.strong until (drop c.args.first all) left c.args.self.now c.loop-i.self) next c.loop-i.invariant.read) c.read_run-last.ensures.read
-    (ap is_some (sym c.read_run-last.ensures.last) ∙ is_some-map rank c.read_run-last.result ∙ sym c.is_some.ensures ∙ c.if-is_some.true)
+    (ap is_some (sym c.read_run-last.ensures.last) ∙ is_some-option_map rank c.read_run-last.result ∙ sym c.is_some.ensures ∙ c.if-is_some.true)
 
 pub returns-then-is_some-clause-last : goal.returns-then-is_some-clause-last
 returns-then-is_some-clause-last g c =
@@ -42,7 +42,7 @@ returns-then-is_some-clause-last g c =
     let next = marks-run rank (g.M.MarkRow.marks c.args.row.now) c.run-run.result.now c.loop-i.i c.run-run.ensures.run in
     c.read_run-last.ensures.last ∙ first_behind-run rank c.args.strong until (drop c.args.first all) (plain_marks rank c.run-run.result.now) (drop (c.loop-i.i + length c.run-run.result.now) all) c.args.self.now c.loop-i.self c.read_run-last.new.self
     (subst (λ left. IsReadUpTo rank c.args.strong until (drop c.args.first all) left c.args.self.now c.loop-i.self) next c.loop-i.invariant.read) c.read_run-last.ensures.read
-    (ap is_some (sym c.read_run-last.ensures.last) ∙ is_some-map rank c.read_run-last.result ∙ sym c.is_some.ensures ∙ c.if-is_some.true)
+    (ap is_some (sym c.read_run-last.ensures.last) ∙ is_some-option_map rank c.read_run-last.result ∙ sym c.is_some.ensures ∙ c.if-is_some.true)
 
 pub loop-i-preserved : goal.loop-i-preserved
 loop-i-preserved g c =
@@ -53,7 +53,7 @@ loop-i-preserved g c =
     record {
       read = IsReadUpTo-run rank c.args.strong until (drop c.args.first all) (plain_marks rank c.run-run.result.now) (drop (c.loop-i.i + length c.run-run.result.now) all) c.args.self.now c.loop-i.self c.read_run-last.new.self
           (subst (λ left. IsReadUpTo rank c.args.strong until (drop c.args.first all) left c.args.self.now c.loop-i.self) next c.loop-i.invariant.read) c.read_run-last.ensures.read
-          (sym c.read_run-last.ensures.last ∙ ap (option_map rank) (none-is c.read_run-last.result (sym c.is_some.ensures ∙ c.if-is_some.false)));
+          (sym c.read_run-last.ensures.last ∙ ap (option_map rank) (None-from_is_some c.read_run-last.result (sym c.is_some.ensures ∙ c.if-is_some.false)));
     }
 
 pub returns-clause-read : goal.returns-clause-read

@@ -6,5 +6,5 @@ use Rattle.ec_points.proofs.points.Points.with_initials.Goals as goal
 
 pub returns-clause-marks : goal.returns-clause-marks
 returns-clause-marks g c = λ n.
-    ap marks_in (sym (row_at-table g.M.MarkRow.marks g.M.MarkRow.spare c.in_ok-empty_rows.field-0 c.in_ok-from_ascending.field-0.items _ refl n))
+    ap marks_in (sym (row_at-table g.M.MarkRow.marks g.M.MarkRow.spare c.in_ok-empty_rows.field-0 c.from_ascending.result.items _ refl n))
     ∙ c.in_ok-empty_rows.ensures.marks n
