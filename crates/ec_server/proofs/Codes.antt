@@ -1,8 +1,8 @@
 -- Exit statuses and their numbers, and shapes and their names.
-use Rattle.std.proofs.Common.{◌≡◌, ◌==◌, ◌⊎◌, ℕ, List, Option, Some, None, refl, sym, ap, ◌∙◌, inl, inr, subst, cond}
+use Rattle.std.proofs.Common.{◌≡◌, ◌==◌, ◌⊎◌, ℕ, List, Option, Some, None, refl, sym, ap, ◌∙◌, inl, inr, cond}
 use Rattle.ec_server.specs.declared.status.Status.{Status}
 use Rattle.ec_server.specs.declared.status.Status.TheVariants as status
-use Rattle.ec_server.specs.ExitStatus.{code_of, IsCheckStatus, IsServeStatus}
+use Rattle.ec_server.specs.ExitStatus.{code_of}
 use Rattle.ec_server.specs.Words.{Shape, check_theory, serve_theory}
 
 -- ---- statuses
@@ -42,14 +42,6 @@ pub either_status : {code : ℕ} {s : Status} (a b : Status) → code ≡ code_o
 either_status a b is (inl one) = inl (status_same a is one)
 either_status a b is (inr other) = inr (status_same b is other)
 
--- ---- statuses that a command does not have
-
-pub check_not : {s : Status} (t : Status) → s ≡ t → IsCheckStatus s → IsCheckStatus t
-check_not t same is = subst IsCheckStatus same is
-
-pub serve_not : {s : Status} (t : Status) → s ≡ t → IsServeStatus s → IsServeStatus t
-serve_not t same is = subst IsServeStatus same is
-
 -- ---- shapes
 
 pub check_name : {a b : List ℕ} {shape : Option Shape} → shape ≡ Some (check_theory a) → shape ≡ Some (check_theory b) → a ≡ b
@@ -69,24 +61,19 @@ shape_is_there one none = let both = sym one ∙ none in cc
 
 -- ---- either of two
 
-pub swapped : {A B : Type 0} → A ⊎ B → B ⊎ A
-swapped (inl a) = inr a
-swapped (inr b) = inl b
+pub first_of_two : {A B : Type 0} → A ⊎ B → (B → ⊥) → A
+first_of_two (inl a) never = a
+first_of_two (inr b) never = absurd (never b)
 
--- one of two is one of three
-pub either_first : {A B C : Type 0} → A ⊎ B → A ⊎ (B ⊎ C)
-either_first (inl a) = inl a
-either_first (inr b) = inr (inl b)
+pub by_either : {A B C : Type 0} → A ⊎ B → (A → C) → (B → C) → C
+by_either (inl a) one other = one a
+by_either (inr b) one other = other b
 
--- a command that serves has a shape, so where a theory is refused it is that
-pub bad_theory : {s : Status} → IsServeStatus s → (s ≡ status.NoShape) ⊎ (s ≡ status.BadTheory) → s ≡ status.BadTheory
-bad_theory is (inl none) = absurd (subst IsServeStatus none is)
-bad_theory is (inr bad) = bad
+pub second_of_two : {A B : Type 0} → A ⊎ B → (A → ⊥) → B
+second_of_two (inl a) never = absurd (never a)
+second_of_two (inr b) never = b
 
--- a command that checks reads no input
-pub reads_nothing : {s : Status} → IsCheckStatus s → (s ≡ status.ReadFault) ⊎ (s ≡ status.LimitReached) → ⊥
-reads_nothing is (inl fault) = subst IsCheckStatus fault is
-reads_nothing is (inr limit) = subst IsCheckStatus limit is
+-- ---- words without a shape
 
 -- the code of a run whose words have no shape is that of no other status
 pub no_shape_alone : {code : ℕ} {s : Status} (t : Status) → code ≡ code_of s → s ≡ status.NoShape → code ≡ code_of t → t ≡ status.NoShape

@@ -10,8 +10,9 @@ use Rattle.ec_outside.specs.Counts.{Rose}
 use Rattle.ec_outside.specs.Streams.{Kept}
 use Rattle.ec_outside.proofs.Counts.{Rose-earlier}
 use Rattle.ec_server.specs.declared.handled.Ending.{Ending}
-use Rattle.ec_server.specs.declared.handled.Ending.TheVariants.{End, Quit, WriteFault as Broken}
-use Rattle.ec_server.specs.Ending.{IsEnding}
+use Rattle.ec_server.specs.declared.handled.Ending.TheVariants.{End, Quit, Limit, ReadFault, WriteFault as Broken}
+use Rattle.ec_server.specs.Ending.{IsEnding, HasEnded, SaysServed}
+use Rattle.ec_server.specs.ExitStatus.{status_of}
 use Rattle.ec_server.specs.Handling.{Language, IsHandled, IsServing, HasQuit, AnswersLines, AnswersPart}
 use Rattle.ec_server.specs.Serving.{IsLast}
 use Rattle.ec_server.proofs.Serving.{AnswersLines-line, AnswersLines-so_far, AnswersLines-kept, AnswersLines-quit, HasQuit-kept}
@@ -77,3 +78,14 @@ module _ {K : Type 0} (stands : K → List ℕ → Type 0) (language : Language)
   IsEnding-quit ending limit left taken start now next (inr failed) within has kept =
       subst (λ (e : Ending). IsEnding stands language e limit left taken start next) (sym failed.0)
       (IsEnding-broken limit left taken start next within (AnswersPart-kept (AnswersPart-all (AnswersLines-quit [] (sym (append-nil taken)) has)) kept))
+
+-- what an ending says is what its status says
+pub SaysServed-of : {S K : Type 0} (left : S → Option (List ℕ)) (read_faults : S → ℕ) (stands : K → List ℕ → Type 0) (write_faults : K → ℕ) (language : Language) (limit : ℕ)
+    (input_before input : S) (output_before output : K) (ending : Ending) → HasEnded left read_faults stands write_faults language limit input_before input output_before output ending
+    → SaysServed left read_faults stands write_faults language limit input_before input output_before output (status_of ending)
+unfolding status_of
+SaysServed-of left read_faults stands write_faults language limit input_before input output_before output End has = inl has
+SaysServed-of left read_faults stands write_faults language limit input_before input output_before output Quit has = inr has
+SaysServed-of left read_faults stands write_faults language limit input_before input output_before output Limit has = has
+SaysServed-of left read_faults stands write_faults language limit input_before input output_before output ReadFault has = has
+SaysServed-of left read_faults stands write_faults language limit input_before input output_before output Broken has = has

@@ -5,6 +5,7 @@ pub mod Parts
 pub mod Pieces
 pub mod Takings
 pub mod Endings
-pub mod Outcomes
+pub mod WholeInput
 pub mod TheoryTexts
 pub mod Codes
+pub mod RunEnds

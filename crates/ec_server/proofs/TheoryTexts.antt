@@ -1,5 +1,6 @@
 -- A text is a theory or has a fault, and never both; a folder has one file of a name.
-use Rattle.std.proofs.Common.{◌≡◌, ◌≤◌, ◌⊎◌, ℕ, Bool, true, false, List, length, Option, Some, None, Ok, Err, IsSome, IsOk, IsErrOf, sym, ap, ◌∙◌, subst, inl, inr, arith}
+use Rattle.std.proofs.Common.{◌≡◌, ◌≤◌, ℕ, Bool, true, false, List, length, Option, Some, None, IsSome, sym, ap, ◌∙◌, subst, true≢false, arith}
+use Rattle.std.specs.Prelude.{codes}
 use Rattle.std.specs.FinMap as map
 use Rattle.ec_terms.specs.declared.theory.Theory.{Theory}
 use Rattle.ec_tokens.specs.declared.fault.TokenFault.TheVariants as token
@@ -16,10 +17,9 @@ use Rattle.ec_outside.specs.Files.{Files, HasFile, IsMissing, IsTooLong}
 use Rattle.ec_server.specs.declared.theory_file.NoTheory.{NoTheory}
 use Rattle.ec_server.specs.declared.theory_file.NoTheory.TheVariants.{FolderFault, NoMemory, Said}
 use Rattle.ec_server.specs.declared.status.Status.{Status}
-use Rattle.ec_server.specs.declared.status.Status.TheVariants as status
-use Rattle.ec_server.specs.Loading.{IsBytesReason, IsFaulty, IsReason, IsRefusal, IsSaid}
-use Rattle.ec_server.specs.Outcomes.{Wrote}
-use Rattle.ec_server.specs.TheoryFiles.{HasTheory, IsNoTheory, IsNotServed, too_long, faulty, no_theory, unbuilt, is_served, most_theory_bytes, fault_text, token_text, syntax_text, theory_line}
+use Rattle.ec_server.specs.CommandEnds.{SaysRefused}
+use Rattle.ec_server.specs.Loading.{IsBytesReason, IsReason, IsRefusal, most_said}
+use Rattle.ec_server.specs.TheoryFiles.{HasTheory, IsNoTheory, IsNotServed, too_long, faulty, no_theory, unbuilt, is_served, most_theory_bytes, fault_text, token_text, syntax_text}
 
 -- ---- texts
 
@@ -71,22 +71,6 @@ HasFile-not_long {told} {name} {a} {most} has fits long =
     let more = long.long in
     omega (arith, size, fits, more)
 
--- ---- why a file gave no theory
-
--- what is said of the bytes of a file is said of the file
-pub IsReason-bytes : (told : Option Files) (name bytes : List ℕ) (before after : ℕ) → (IsSome told → HasFile told name bytes) → length bytes ≤ most_theory_bytes
-    → (reason : NoTheory) → IsBytesReason bytes reason → IsReason told name before after reason
-IsReason-bytes told name bytes before after file fits FolderFault is = absurd is
-IsReason-bytes told name bytes before after file fits NoMemory is = tt
-IsReason-bytes told name bytes before after file fits (Said text) is = ((λ tells. faulty bytes text is.0.fault (file tells) fits is.0.has is.0.said), is.1)
-
--- of a file whose bytes were read whole, only a fault of its bytes is said
-pub IsFaulty-file : {told : Option Files} {name bytes text : List ℕ} → (IsSome told → HasFile told name bytes) → length bytes ≤ most_theory_bytes → IsNoTheory told name text → IsFaulty bytes text
-IsFaulty-file file fits (too_long long) = absurd (HasFile-not_long (file (HasFile-told long.file)) fits long)
-IsFaulty-file file fits (faulty bytes text fault has within wrong said) =
-    let same = HasFile-same has (file (HasFile-told has)) in
-    subst (λ (b : List ℕ). IsFaulty b text) same (record { fault = fault; has = wrong; said = said })
-
 -- a folder has one theory under a name
 pub HasTheory-same : {told : Option Files} {name : List ℕ} {a b : Theory} → HasTheory told name a → HasTheory told name b → a ≡ b
 HasTheory-same {told} {name} {a} {b} one other =
@@ -96,38 +80,63 @@ HasTheory-same {told} {name} {a} {b} one other =
     let tokens : accepted.tokens ≡ other.accepted.tokens = cc in
     reading_same (subst (λ (l : Lexemes). Reads l a) tokens accepted.reads) other.accepted.reads
 
--- ---- runs without a theory
+-- a file that has a theory is not refused as none
+pub HasTheory-not_refused : {told : Option Files} {name text : List ℕ} {theory : Theory} → HasTheory told name theory → IsNoTheory told name text → ⊥
+HasTheory-not_refused has (too_long long) = HasFile-not_long has.file has.fits long
+HasTheory-not_refused {theory = theory} has (faulty bytes text fault file fits wrong said) =
+    accepted_not_faulty (subst (λ (b : List ℕ). IsAccepted b theory) (HasFile-same has.file file) has.accepted) text fault wrong said
 
--- where only want of memory can have been the reason, it is the status
-pub refusal_for_memory : {K : Type 0} (stands : K → List ℕ → Type 0) (faults : K → ℕ) (reason : NoTheory) (told : Status) (old new : K)
-    → (IsOk {T = Theory} (Err reason)) ⊎ IsErrOf {T = Theory} (Err reason) NoMemory → IsRefusal stands faults reason told old new → told ≡ status.NoMemory
-refusal_for_memory stands faults FolderFault told old new (inl ok) is = cc
-refusal_for_memory stands faults FolderFault told old new (inr err) is = cc
-refusal_for_memory stands faults NoMemory told old new either is = is.0
-refusal_for_memory stands faults (Said text) told old new (inl ok) is = cc
-refusal_for_memory stands faults (Said text) told old new (inr err) is = cc
+-- nor, where the theory is served, as one that is not
+pub HasTheory-served : {told : Option Files} {name text : List ℕ} {theory : Theory} → HasTheory told name theory → is_served theory ≡ true → IsNotServed told name text → ⊥
+HasTheory-served has served (no_theory text none) = HasTheory-not_refused has none
+HasTheory-served has served (unbuilt theory other not_served) = true≢false (sym served ∙ ap is_served (HasTheory-same has other) ∙ not_served)
 
--- where the theory is refused, this is said of it
-pub refusal_said : {K : Type 0} (stands : K → List ℕ → Type 0) (faults : K → ℕ) (files : Option Files) (name : List ℕ) (before after : ℕ) (reason : NoTheory) (told : Status) (old new : K)
-    → IsReason files name before after reason → IsRefusal stands faults reason told old new → told ≡ status.BadTheory → IsSome files
-    → (text : List ℕ) × IsNoTheory files name text × Wrote stands faults old new (theory_line text)
-refusal_said stands faults files name before after FolderFault told old new why is bad tells = let both = sym is.0 ∙ bad in cc
-refusal_said stands faults files name before after NoMemory told old new why is bad tells = let both = sym is.0 ∙ bad in cc
-refusal_said stands faults files name before after (Said text) told old new why is bad tells = (text, why.0 tells, is.1)
+-- what is refused is a file that the folder tells
+pub IsNoTheory-file : {told : Option Files} {name text : List ℕ} → IsNoTheory told name text → (bytes : List ℕ) × HasFile told name bytes
+IsNoTheory-file (too_long long) = (long.bytes, long.file)
+IsNoTheory-file (faulty bytes text fault file fits wrong said) = (bytes, file)
 
--- a theory that was taken is refused exactly where it is not served so far
-pub refused_unbuilt : {files : Option Files} {name text : List ℕ} (checked : Theory) (told : Status) → HasTheory files name checked → IsNotServed files name text
-    → (((said : List ℕ) → IsNoTheory files name said → ⊥)) → (is_served checked ≡ false → told ≡ status.BadTheory) → told ≡ status.BadTheory
-refused_unbuilt checked told has (no_theory said none) never refuses = absurd (never said none)
-refused_unbuilt checked told has (unbuilt theory other is) never refuses = refuses (ap is_served (HasTheory-same has other) ∙ is)
+pub IsNotServed-file : {told : Option Files} {name text : List ℕ} → IsNotServed told name text → (bytes : List ℕ) × HasFile told name bytes
+IsNotServed-file (no_theory text none) = IsNoTheory-file none
+IsNotServed-file (unbuilt theory has not_served) = (has.bytes, has.file)
 
--- where there is a theory, nothing is said of it
-pub not_said : (checked : Theory) → IsSaid (Ok checked) ⊎ IsErrOf {T = Theory} (Ok checked) NoMemory → ⊥
-not_said checked (inl said) = said
-not_said checked (inr err) = cc
+-- ---- why a file gave no theory
 
--- what is said of a file is said where the folder tells its files
-pub IsNotServed-told : {files : Option Files} {name text : List ℕ} → IsNotServed files name text → IsSome files
-IsNotServed-told (no_theory said (too_long long)) = HasFile-told long.file
-IsNotServed-told (no_theory said (faulty bytes text fault has fits wrong is)) = HasFile-told has
-IsNotServed-told (unbuilt theory has is) = HasFile-told has.file
+-- what is said of the bytes of a file is said of the file
+pub IsReason-bytes : (told : Option Files) (name bytes : List ℕ) (before after : ℕ) → (IsSome told → HasFile told name bytes) → length bytes ≤ most_theory_bytes
+    → (reason : NoTheory) → IsBytesReason bytes reason → IsReason (IsNoTheory told name) told name before after reason
+IsReason-bytes told name bytes before after file fits FolderFault is = absurd is
+IsReason-bytes told name bytes before after file fits NoMemory is = tt
+IsReason-bytes told name bytes before after file fits (Said text) is = (
+  (λ tells. faulty bytes text is.0.fault (file tells) fits is.0.has is.0.said),
+  (λ long. absurd (HasFile-not_long (file (HasFile-told long.file)) fits long)),
+  is.1,
+)
+
+-- what is no theory is none to serve
+pub IsReason-to_serve : (told : Option Files) (name : List ℕ) (before after : ℕ) (reason : NoTheory) → IsReason (IsNoTheory told name) told name before after reason
+    → IsReason (IsNotServed told name) told name before after reason
+IsReason-to_serve told name before after FolderFault is = is
+IsReason-to_serve told name before after NoMemory is = is
+IsReason-to_serve told name before after (Said text) is = ((λ tells. no_theory text (is.0 tells)), is.1, is.2)
+
+-- what is said of a theory that is not served so far
+pub IsReason-unbuilt : (told : Option Files) (name : List ℕ) (before after : ℕ) (theory : Theory) → (IsSome told → HasTheory told name theory) → is_served theory ≡ false
+    → (text : List ℕ) → text ≡ codes "unbuilt" → IsReason (IsNotServed told name) told name before after (Said text)
+IsReason-unbuilt told name before after theory has not_served text is = (
+  (λ tells. subst (λ (t : List ℕ). IsNotServed told name t) (sym is) (unbuilt theory (has tells) not_served)),
+  (λ long. let there = has (HasFile-told long.file) in absurd (HasFile-not_long there.file there.fits long)),
+  subst (λ (t : List ℕ). length t ≤ most_said) (sym is) (omega arith),
+)
+
+-- what the status of a run says that has no theory
+pub SaysRefused-of : {K : Type 0} (stands : K → List ℕ → Type 0) (faults : K → ℕ) (told : Option Files) (name : List ℕ) (before after : ℕ) (old new : K) (Refuses : List ℕ → Type 0)
+    (reason : NoTheory) (ended : Status) → IsReason Refuses told name before after reason → IsRefusal stands faults reason ended old new
+    → SaysRefused stands faults told name before after old new Refuses ended
+SaysRefused-of stands faults told name before after old new Refuses FolderFault ended why is =
+    subst (λ (s : Status). SaysRefused stands faults told name before after old new Refuses s) (sym is.0) (is.1, why)
+SaysRefused-of stands faults told name before after old new Refuses NoMemory ended why is =
+    subst (λ (s : Status). SaysRefused stands faults told name before after old new Refuses s) (sym is.0) is.1
+SaysRefused-of stands faults told name before after old new Refuses (Said text) ended why is =
+    subst (λ (s : Status). SaysRefused stands faults told name before after old new Refuses s) (sym is.0)
+    (record { text = text; why = why.0; long = why.1; wrote = is.1 })

@@ -1,10 +1,13 @@
--- What is known of the bytes taken and of the output where the serving of an input ended.
-use Rattle.std.specs.Prelude.{◌≡◌, ◌≤◌, ◌<◌, ℕ, false, List, length, Option}
+-- What is known of the bytes taken and of the output where the serving of an input ended, by the way it ended and by its status.
+use Rattle.std.specs.Prelude.{◌≡◌, ◌≤◌, ◌<◌, ◌⊎◌, ℕ, false, List, length, Option}
 use Rattle.ec_axioms.specs.Lines.{whole_lines, lines_of}
 use Rattle.ec_axioms.specs.Replies.{has_quit}
-use Rattle.ec_outside.specs.Streams.{IsAtEnd}
+use Rattle.ec_outside.specs.Counts.{Rose}
+use Rattle.ec_outside.specs.Streams.{IsAtEnd, Took}
 use Rattle.ec_server.specs.declared.handled.Ending.{Ending}
 use Rattle.ec_server.specs.declared.handled.Ending.TheVariants.{End, Quit, Limit, ReadFault, WriteFault}
+use Rattle.ec_server.specs.declared.status.Status.{Status}
+use Rattle.ec_server.specs.declared.status.Status.TheVariants as status
 use Rattle.ec_server.specs.Handling.{Language, AnswersLines, AnswersPart, HasQuit}
 
 module _ {K : Type 0} (stands : K → List ℕ → Type 0) (language : Language) where
@@ -31,3 +34,24 @@ module _ {K : Type 0} (stands : K → List ℕ → Type 0) (language : Language)
   pub record IsEnding (ending : Ending) (limit : ℕ) (left : Option (List ℕ)) (taken : List ℕ) (old new : K) : Type 0 where
     pub within : length taken ≤ limit
     pub says : SaysEnding ending limit left taken old new
+
+module _ {S K : Type 0} (left : S → Option (List ℕ)) (read_faults : S → ℕ) (stands : K → List ℕ → Type 0) (write_faults : K → ℕ) (language : Language) (limit : ℕ)
+    (input_before input : S) (output_before output : K) where
+  -- bytes were taken from the input, of which the ending says this; where a call failed, its fault was counted
+  pub record HasEnded (ending : Ending) : Type 0 where
+    pub taken : List ℕ
+    pub took : Took (left input_before) (left input) taken
+    pub ended : IsEnding stands language ending limit (left input) taken output_before output
+    pub read_fault : ending ≡ ReadFault → Rose (read_faults input_before) (read_faults input)
+    pub write_fault : ending ≡ WriteFault → Rose (write_faults output_before) (write_faults output)
+
+  -- what the status of a serving says: how it ended, or that nothing was taken and written; no other status comes
+  abbrev pub SaysServed : Status → Type 0
+  SaysServed status.Done = HasEnded End ⊎ HasEnded Quit
+  SaysServed status.NoShape = ⊥
+  SaysServed status.BadTheory = ⊥
+  SaysServed status.ReadFault = HasEnded ReadFault
+  SaysServed status.WriteFault = HasEnded WriteFault
+  SaysServed status.NoMemory = (output ≡ output_before) × (input ≡ input_before)
+  SaysServed status.FolderFault = ⊥
+  SaysServed status.LimitReached = HasEnded Limit

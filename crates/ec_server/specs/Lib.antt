@@ -1,3 +1,4 @@
+pub mod CommandEnds
 pub mod CommandSteps
 pub mod DeskState
 pub mod Ending

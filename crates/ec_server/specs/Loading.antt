@@ -1,16 +1,15 @@
 -- Why no theory was loaded from a file.
-use Rattle.std.specs.Prelude.{◌≡◌, ◌≤◌, ◌⊎◌, ℕ, List, length, Option, Some, IsSome, Result, Ok, Err}
-use Rattle.ec_terms.specs.declared.theory.Theory.{Theory}
+use Rattle.std.specs.Prelude.{◌≡◌, ◌≤◌, ◌⊎◌, ℕ, List, length, Option, Some, IsSome}
 use Rattle.ec_theory.specs.declared.text.Refused.{Refused}
 use Rattle.ec_theory.specs.Accepted.{HasFault}
 use Rattle.ec_outside.specs.Counts.{Rose}
-use Rattle.ec_outside.specs.Files.{Files, IsMissing}
+use Rattle.ec_outside.specs.Files.{Files, IsMissing, IsTooLong}
 use Rattle.ec_server.specs.declared.theory_file.NoTheory.{NoTheory}
 use Rattle.ec_server.specs.declared.theory_file.NoTheory.TheVariants.{FolderFault, NoMemory, Said}
 use Rattle.ec_server.specs.declared.status.Status.{Status}
 use Rattle.ec_server.specs.declared.status.Status.TheVariants as said
 use Rattle.ec_server.specs.Outcomes.{Wrote}
-use Rattle.ec_server.specs.TheoryFiles.{IsNoTheory, fault_text, theory_line}
+use Rattle.ec_server.specs.TheoryFiles.{fault_text, most_theory_bytes, theory_line}
 
 -- the most bytes of what is said of a theory
 abbrev pub most_said : ℕ
@@ -28,18 +27,13 @@ IsBytesReason bytes FolderFault = ⊥
 IsBytesReason bytes NoMemory = Unit {0}
 IsBytesReason bytes (Said text) = IsFaulty bytes text × (length text ≤ most_said)
 
--- why a file gave no theory: the folder failed or has no such file; or it is no theory, where the folder tells its files
-abbrev pub IsReason : Option Files → List ℕ → ℕ → ℕ → NoTheory → Type 0
-IsReason told name before after FolderFault = Rose before after ⊎ IsMissing told name
-IsReason told name before after NoMemory = Unit {0}
-IsReason told name before after (Said text) = (IsSome told → IsNoTheory told name text) × (length text ≤ most_said)
-
--- something is said of the file
-abbrev pub IsSaid : Result Theory NoTheory → Type 0
-IsSaid (Ok theory) = ⊥
-IsSaid (Err FolderFault) = ⊥
-IsSaid (Err NoMemory) = ⊥
-IsSaid (Err (Said text)) = Unit {0}
+-- why a file gave no theory that `Refuses` leaves: the folder failed or has no such file; or this is said of it, where the folder tells
+-- its files. A file is found too long without a fault.
+abbrev pub IsReason : (List ℕ → Type 0) → Option Files → List ℕ → ℕ → ℕ → NoTheory → Type 0
+IsReason Refuses told name before after FolderFault = Rose before after ⊎ IsMissing told name
+IsReason Refuses told name before after NoMemory = Unit {0}
+IsReason Refuses told name before after (Said text) =
+    (IsSome told → Refuses text) × (IsTooLong told name most_theory_bytes → ¬ Rose before after) × (length text ≤ most_said)
 
 -- what is said fits a line
 abbrev pub IsShortReason : NoTheory → Type 0

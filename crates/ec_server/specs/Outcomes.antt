@@ -6,6 +6,7 @@ use Rattle.ec_axioms.specs.Lines.{whole_lines}
 use Rattle.ec_axioms.specs.Replies.{has_quit}
 use Rattle.ec_outside.specs.Counts.{Rose}
 use Rattle.ec_outside.specs.Streams.{Appended, AppendedPart}
+use Rattle.ec_server.specs.declared.commands.TheConstants.{MOST_INPUT}
 use Rattle.ec_server.specs.Handling.{Language, AnswersLines}
 
 -- a theory with times that are spelt as whole numbers
@@ -14,7 +15,7 @@ in_ticks theory = record { theory = theory; spelt = number_value }
 
 -- the most bytes of input that a run takes
 abbrev pub most_input : ℕ
-most_input = 1099511627776
+most_input = MOST_INPUT
 
 -- a text was written whole, or a first part of it and then the sink failed
 abbrev pub Wrote : {K : Type 0} → (K → List ℕ → Type 0) → (K → ℕ) → K → K → List ℕ → Type 0

@@ -1,16 +1,18 @@
 //! The top call: what the words ask for, done whole.
-ghost use Rattle.std.specs.Prelude.{◌≡◌, ◌≤◌, ◌⊎◌, ◌↔◌, ℕ, true, List, Some, None, IsSome};
+ghost use Rattle.std.specs.Prelude.{◌≡◌, ◌≤◌, ◌⊎◌, ◌↔◌, ℕ, true, List, Some, None, IsSome, length, drop};
+ghost use Rattle.ec_moment.specs.Number.{number_value};
 ghost use Rattle.ec_terms.specs.declared.theory.Theory.{Theory};
-ghost use Rattle.ec_axioms.specs.Lines.{lines_of};
+ghost use Rattle.ec_axioms.specs.Lines.{lines_of, whole_lines};
+ghost use Rattle.ec_axioms.specs.Replies.{has_quit};
 ghost use Rattle.ec_outside.specs.Counts.{Rose};
-ghost use Rattle.ec_outside.specs.Files.{IsMissing};
-ghost use Rattle.ec_outside.specs.Streams.{Appended, AppendedPart, Took};
+ghost use Rattle.ec_outside.specs.Files.{IsMissing, IsTooLong};
+ghost use Rattle.ec_outside.specs.Streams.{Appended, AppendedPart, IsAtEnd, Took};
 ghost use Rattle.ec_server.specs.Ending.{GoesOn};
 ghost use Rattle.ec_server.specs.ExitStatus.{IsExitCode};
 ghost use Rattle.ec_server.specs.Handling.{AnswersLines, AnswersPart};
 ghost use Rattle.ec_server.specs.Outcomes.{in_ticks, most_input, IsShort, IsLong, StopsAtLimit, Wrote};
 ghost use Rattle.ec_server.specs.ShownShape.{asked};
-ghost use Rattle.ec_server.specs.TheoryFiles.{HasTheory, IsRefused, accepted_line, is_served, theory_line};
+ghost use Rattle.ec_server.specs.TheoryFiles.{HasTheory, IsRefused, accepted_line, is_served, most_theory_bytes, theory_line};
 ghost use Rattle.ec_server.specs.Words.{Shape as PlainShape, check_theory, serve_theory, theory_name, usage_line};
 
 use crate::commands::{check_command, refuse_words, serve_command};
@@ -43,6 +45,13 @@ pub fn run<F: Folder, S: Source, K: Sink>(
         ¬ Rose (S.faults input.old) (S.faults input.new) → ¬ Rose (K.faults output.old) (K.faults output.new) →
         (result ≡ 0) ⊎ (result ≡ 6) }
 
+    // Then nothing is left of the input, or `quit` is among the whole lines of what was taken; and the theory was one that is
+    // accepted and served, also where the source does not tell what it has left.
+    ensures ended { result ≡ 0 → (name : List ℕ) → asked words.now ≡ Some (serve_theory name) →
+        (taken : List ℕ) × Took (S.left input.old) (S.left input.new) taken × (IsAtEnd (S.left input.new) ⊎ (has_quit number_value (whole_lines taken) ≡ true)) }
+    ensures served { (result ≡ 0) ⊎ (result ≡ 8) → (name : List ℕ) → asked words.now ≡ Some (serve_theory name) → IsSome (F.files files.old) →
+        (theory : Theory) × HasTheory (F.files files.old) name theory × (is_served theory ≡ true) }
+
     // A theory that is accepted, and one that is not.
     ensures accepted { result ≡ 0 → (name : List ℕ) → asked words.now ≡ Some (check_theory name) → IsSome (F.files files.old) →
         (theory : Theory) × HasTheory (F.files files.old) name theory × Appended K.stands output.old output.new (accepted_line theory) }
@@ -53,6 +62,8 @@ pub fn run<F: Folder, S: Source, K: Sink>(
         (text : List ℕ) × IsRefused shape (F.files files.old) text × Wrote K.stands K.faults output.old output.new (theory_line text) }
     ensures refuses { (shape : PlainShape) (text : List ℕ) → asked words.now ≡ Some shape → IsRefused shape (F.files files.old) text →
         ¬ Rose (F.faults files.old) (F.faults files.new) → (result ≡ 3) ⊎ (result ≡ 6) }
+    ensures long_file { result ≡ 3 → (shape : PlainShape) → asked words.now ≡ Some shape → IsTooLong (F.files files.old) (theory_name shape) most_theory_bytes →
+        ¬ Rose (F.faults files.old) (F.faults files.new) }
 
     // Words without a shape.
     ensures no_shape { (result ≡ 2) ↔ (asked words.now ≡ None) }
@@ -65,6 +76,11 @@ pub fn run<F: Folder, S: Source, K: Sink>(
         S.left input.old ≡ Some text → IsLong (in_ticks theory) most_input text → ¬ Rose (F.faults files.old) (F.faults files.new) →
         ¬ Rose (S.faults input.old) (S.faults input.new) → ¬ Rose (K.faults output.old) (K.faults output.new) →
         (result ≡ 8) ⊎ (result ≡ 6) }
+    ensures rest { result ≡ 8 → (text : List ℕ) → S.left input.old ≡ Some text → S.left input.new ≡ Some (drop most_input text) }
+
+    // With any status no more is taken than the limit allows, and nothing where a theory is only checked.
+    ensures within { (taken : List ℕ) × Took (S.left input.old) (S.left input.new) taken × (length taken ≤ most_input) }
+    ensures unasked { (name : List ℕ) → asked words.now ≡ Some (check_theory name) → input.new ≡ input.old }
 
     // Faults, and what they leave.
     ensures serves_alone { (result ≡ 4) ⊎ (result ≡ 8) → (name : List ℕ) × (asked words.now ≡ Some (serve_theory name)) }

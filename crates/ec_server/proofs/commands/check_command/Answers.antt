@@ -1,8 +1,22 @@
--- Where there is a theory and no fault, only want of memory is a reason to have none.
-use Rattle.std.proofs.Common.{inr}
-use Rattle.ec_server.proofs.TheoryTexts.{refusal_for_memory}
+-- The theory that was loaded is told as accepted; where there is none, this is said.
+use Rattle.std.proofs.Common.{inl, inr, subst}
+use Rattle.ec_terms.specs.declared.theory.Theory.{Theory}
+use Rattle.ec_server.specs.CommandEnds.{SaysAccepted}
+use Rattle.ec_server.specs.TheoryFiles.{IsNoTheory}
+use Rattle.ec_server.proofs.TheoryTexts.{SaysRefused-of}
 use Rattle.ec_server.proofs.commands.check_command.Goals as goal
 
-pub returns-in-Err-clause-accepts : goal.returns-in-Err-clause-accepts
-returns-in-Err-clause-accepts g c = λ checked has fine writes.
-    inr (refusal_for_memory g.K.Sink.stands g.K.Sink.faults c.in-Err.reason c.refuse.result c.args.output.now c.refuse.new.output (c.in-Err.ensures.taken checked has fine) c.refuse.ensures)
+pub returns-in-Ok : goal.returns-in-Ok
+returns-in-Ok g c = record {
+  says = inl (
+    c.in-Ok.checked,
+    c.in-Ok.ensures.theory,
+    subst (λ (theory : Theory). SaysAccepted g.K.Sink.stands g.K.Sink.faults c.args.output.now c.tell_accepted.new.output theory c.tell_accepted.result) c.theory.ensures.theory c.tell_accepted.ensures,
+  );
+}
+
+pub returns-in-Err : goal.returns-in-Err
+returns-in-Err g c = record {
+  says = inr (SaysRefused-of g.K.Sink.stands g.K.Sink.faults (g.F.Folder.files c.args.files.now) c.args.theory.now (g.F.Folder.faults c.args.files.now) _ c.args.output.now c.refuse.new.output
+      (IsNoTheory (g.F.Folder.files c.args.files.now) c.args.theory.now) c.in-Err.reason c.refuse.result c.in-Err.ensures.reason c.refuse.ensures);
+}
