@@ -16,7 +16,7 @@ use Rattle.ec_server.specs.ExitStatus.{status_of}
 use Rattle.ec_server.specs.Handling.{Language, IsHandled, IsServing, HasQuit, AnswersLines, AnswersPart}
 use Rattle.ec_server.specs.Serving.{IsLast}
 use Rattle.ec_server.proofs.Serving.{AnswersLines-line, AnswersLines-so_far, AnswersLines-kept, AnswersLines-quit, HasQuit-kept}
-use Rattle.ec_server.proofs.Parts.{AnswersPart-all, AnswersPart-kept, AnswersPart-line}
+use Rattle.ec_server.proofs.PartialReplies.{AnswersPart-all, AnswersPart-kept, AnswersPart-line}
 
 -- where handing on failed or did not, the serving ended so or the sink failed
 pub ending_either : {R : Type 0} (ending : Ending) → (ending ≡ End) ⊎ ((ending ≡ Broken) × R) → (ending ≡ End) ⊎ (ending ≡ Broken)

@@ -1,11 +1,11 @@
 pub mod LineSteps
-pub mod Places
+pub mod EventPlaces
 pub mod Serving
-pub mod Parts
-pub mod Pieces
-pub mod Takings
+pub mod PartialReplies
+pub mod PieceSteps
+pub mod InputTurns
 pub mod Endings
 pub mod WholeInput
 pub mod TheoryTexts
-pub mod Codes
+pub mod StatusCodes
 pub mod RunEnds

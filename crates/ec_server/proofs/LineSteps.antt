@@ -1,5 +1,5 @@
 -- From an update to a command, and from a command to a line: what is answered is a step.
-use Rattle.std.proofs.Common.{◌≡◌, ℕ, Bool, true, false, not, ◌&&◌, ◌||◌, ◌⊎◌, List, [], ◌∷◌, ℤ, Option, Some, None, Result, Ok, Err, IsTrue, refl, sym, ap, ◌∙◌, subst, inl, inr, map, cond}
+use Rattle.std.proofs.Common.{◌≡◌, ℕ, Bool, true, false, not, ◌&&◌, ◌||◌, ◌⊎◌, List, [], ◌∷◌, ℤ, Option, Some, None, Result, Ok, Err, IsTrue, refl, sym, ap, ◌∙◌, subst, inl, inr, map, cond, true≢false}
 use Rattle.std.specs.Prelude.{filter, bytes_eq}
 use Rattle.std.specs.List.{list_any}
 use Rattle.ec_terms.specs.declared.ground.Ground.{Ground}
@@ -16,7 +16,7 @@ use Rattle.ec_axioms.specs.Answers.{PlainAnswer, answer_ok, answer_bye, refused_
 use Rattle.ec_axioms.specs.Replies.{State, Reply, update_reply, query_reply, yes_or_no, command_reply, reply_of, update_may_want_memory, command_may_want_memory, may_want_memory, Step, command_quits, is_quit}
 use Rattle.ec_server.specs.declared.handled.Handled.{Handled}
 use Rattle.ec_server.specs.declared.handled.Handled.TheVariants.{Go, Bye, WriteFault}
-use Rattle.ec_server.specs.CommandSteps.{IsUpdated, answer_line, CommandStep, IsWritten}
+use Rattle.ec_server.specs.CommandSteps.{IsUpdated, answer_line, answers_quit, is_bye, CommandStep, IsWritten}
 use Rattle.ec_server.specs.Handling.{Language, IsHandled}
 
 -- ---- the present list
@@ -116,6 +116,17 @@ outcome_reply (Ok events) before answer after (inl done) = inl (λ session. same
 outcome_reply (Ok events) before answer after (inr wanting) = inr (refl, wanting.0, wanting.1)
 outcome_reply (Err cut) before answer after told = inl (λ session. same_reply session told.0 told.1)
 
+-- no update is answered by `bye`, and no question
+IsUpdated-not_bye : (outcome : Result (List PlainEvent) Cut) (before : List PlainEvent) (answer : PlainAnswer) (after : List PlainEvent) → IsUpdated outcome before answer after
+    → is_bye answer ≡ false
+IsUpdated-not_bye (Ok events) before answer after (inl done) = ap is_bye done.0
+IsUpdated-not_bye (Ok events) before answer after (inr wanting) = ap is_bye wanting.0
+IsUpdated-not_bye (Err cut) before answer after told = ap is_bye told.0
+
+yes_or_no-not_bye : (b : Bool) → is_bye (yes_or_no b) ≡ false
+yes_or_no-not_bye true = refl
+yes_or_no-not_bye false = refl
+
 -- the answer to an update answers its command
 pub CommandStep-assert : (theory : Theory) (id : List ℕ) (t : ℤ) (term : Ground) (before after : State) (answer : PlainAnswer)
     → IsUpdated (update_of before.events (asserting (record { id = id; rank = t; term = term }))) before.events answer after.events
@@ -129,7 +140,7 @@ CommandStep-assert theory id t term before after answer updated =
 
     by_reply : ((session : Option ℕ) → update_reply session before outcome ≡ replying (reply_text session answer) after)
         ⊎ (IsTrue (update_may_want_memory outcome) × (answer ≡ refused_memory) × (after.events ≡ before.events)) → CommandStep theory before (assert_event id t term) (Some answer) after
-    by_reply (inl reply) = inl (record { reply_is = reply })
+    by_reply (inl reply) = inl (record { reply_is = reply; quits = IsUpdated-not_bye outcome before.events answer after.events updated })
     by_reply (inr wanting) =
         inr (record { may = wanting.0; answer_is = ap (λ (a : PlainAnswer). Some a) wanting.1; after_is = ap (λ (l : List PlainEvent). let s : State = record { events = l } in s) wanting.2 })
 
@@ -143,7 +154,7 @@ CommandStep-retract theory id before after answer updated = by_reply (outcome_re
 
     by_reply : ((session : Option ℕ) → update_reply session before outcome ≡ replying (reply_text session answer) after)
         ⊎ (IsTrue (update_may_want_memory outcome) × (answer ≡ refused_memory) × (after.events ≡ before.events)) → CommandStep theory before (retract_event id) (Some answer) after
-    by_reply (inl reply) = inl (record { reply_is = reply })
+    by_reply (inl reply) = inl (record { reply_is = reply; quits = IsUpdated-not_bye outcome before.events answer after.events updated })
     by_reply (inr wanting) =
         inr (record { may = wanting.0; answer_is = ap (λ (a : PlainAnswer). Some a) wanting.1; after_is = ap (λ (l : List PlainEvent). let s : State = record { events = l } in s) wanting.2 })
 
@@ -155,7 +166,20 @@ CommandStep-holds theory p t before after answer is same =
     inl (record {
       reply_is = λ session.
           ap (λ (a : PlainAnswer). replying (reply_text session a) before) (sym is) ∙ ap (λ (s : State). replying (reply_text session answer) s) (sym same);
+      quits = ap is_bye is ∙ yes_or_no-not_bye (holds_at theory before.events p t);
     })
+
+-- memory is wanting for no `quit`
+not_quit : (before : State) (command : PlainCommand) → IsTrue (command_may_want_memory before command) → command_quits command ≡ false
+unfolding command_may_want_memory
+not_quit before quit may = absurd (true≢false (sym may))
+not_quit before command may = refl
+
+-- only `quit` is answered by `bye`
+pub CommandStep-quits : (theory : Theory) (before : State) (command : PlainCommand) (answer : Option PlainAnswer) (after : State) → CommandStep theory before command answer after
+    → answers_quit answer ≡ command_quits command
+CommandStep-quits theory before command answer after (inl reply) = reply.quits
+CommandStep-quits theory before command answer after (inr wanting) = ap answers_quit wanting.answer_is ∙ sym (not_quit before command wanting.may)
 
 -- a command that is this one
 pub CommandStep-same : (theory : Theory) (before : State) (command told : PlainCommand) (answer : Option PlainAnswer) (after : State) → command ≡ told
@@ -178,23 +202,23 @@ IsSettled command = Unit {0}
 
 pub CommandStep-settled : (theory : Theory) (command : PlainCommand) (before : State) → IsSettled command → CommandStep theory before command (plain_reply command) before
 unfolding command_reply query_reply
-CommandStep-settled theory silent before settled = inl (record { reply_is = λ session. refl })
-CommandStep-settled theory bad before settled = inl (record { reply_is = λ session. refl })
+CommandStep-settled theory silent before settled = inl (record { reply_is = λ session. refl; quits = refl })
+CommandStep-settled theory bad before settled = inl (record { reply_is = λ session. refl; quits = refl })
 CommandStep-settled theory (assert_event id t term) before settled = absurd settled
 CommandStep-settled theory (retract_event id) before settled = absurd settled
-CommandStep-settled theory begin_draft before settled = inl (record { reply_is = λ session. refl })
-CommandStep-settled theory commit_draft before settled = inl (record { reply_is = λ session. refl })
-CommandStep-settled theory abort_draft before settled = inl (record { reply_is = λ session. refl })
+CommandStep-settled theory begin_draft before settled = inl (record { reply_is = λ session. refl; quits = refl })
+CommandStep-settled theory commit_draft before settled = inl (record { reply_is = λ session. refl; quits = refl })
+CommandStep-settled theory abort_draft before settled = inl (record { reply_is = λ session. refl; quits = refl })
 CommandStep-settled theory (ask_holds p t) before settled = absurd settled
-CommandStep-settled theory (ask_through p s e) before settled = inl (record { reply_is = λ session. refl })
-CommandStep-settled theory (ask_intervals p) before settled = inl (record { reply_is = λ session. refl })
-CommandStep-settled theory (ask_broken p) before settled = inl (record { reply_is = λ session. refl })
-CommandStep-settled theory (ask_at t) before settled = inl (record { reply_is = λ session. refl })
-CommandStep-settled theory ask_clashes before settled = inl (record { reply_is = λ session. refl })
-CommandStep-settled theory ask_events before settled = inl (record { reply_is = λ session. refl })
-CommandStep-settled theory (ask_why p t) before settled = inl (record { reply_is = λ session. refl })
-CommandStep-settled theory ask_last before settled = inl (record { reply_is = λ session. refl })
-CommandStep-settled theory quit before settled = inl (record { reply_is = λ session. refl })
+CommandStep-settled theory (ask_through p s e) before settled = inl (record { reply_is = λ session. refl; quits = refl })
+CommandStep-settled theory (ask_intervals p) before settled = inl (record { reply_is = λ session. refl; quits = refl })
+CommandStep-settled theory (ask_broken p) before settled = inl (record { reply_is = λ session. refl; quits = refl })
+CommandStep-settled theory (ask_at t) before settled = inl (record { reply_is = λ session. refl; quits = refl })
+CommandStep-settled theory ask_clashes before settled = inl (record { reply_is = λ session. refl; quits = refl })
+CommandStep-settled theory ask_events before settled = inl (record { reply_is = λ session. refl; quits = refl })
+CommandStep-settled theory (ask_why p t) before settled = inl (record { reply_is = λ session. refl; quits = refl })
+CommandStep-settled theory ask_last before settled = inl (record { reply_is = λ session. refl; quits = refl })
+CommandStep-settled theory quit before settled = inl (record { reply_is = λ session. refl; quits = refl })
 
 -- ---- lines
 

@@ -10,14 +10,14 @@ use Rattle.ec_outside.specs.Streams.{Appended, AppendedPart, IsAtEnd, Took}
 use Rattle.ec_outside.proofs.Streams.{Took-nil}
 use Rattle.ec_server.specs.declared.status.Status.{Status}
 use Rattle.ec_server.specs.declared.status.Status.TheVariants as status
-use Rattle.ec_server.specs.CommandEnds.{HasChecked, HasServed, SaysAccepted, SaysRefused}
+use Rattle.ec_server.specs.CommandEnds.{HasChecked, HasServed, SaysAccepted, SaysRefused, Wrote}
 use Rattle.ec_server.specs.Ending.{GoesOn, SaysServed}
 use Rattle.ec_server.specs.ExitStatus.{code_of}
-use Rattle.ec_server.specs.Handling.{AnswersLines, AnswersPart}
-use Rattle.ec_server.specs.Outcomes.{in_ticks, most_input, IsShort, IsLong, StopsAtLimit, Wrote}
+use Rattle.ec_server.specs.Handling.{AnswersLines, AnswersPart, in_ticks}
+use Rattle.ec_server.specs.InputLimits.{most_input, IsShort, IsLong, StopsAtLimit}
 use Rattle.ec_server.specs.TheoryFiles.{HasTheory, IsNoTheory, IsNotServed, IsRefused, accepted_line, is_served, most_theory_bytes, theory_line}
 use Rattle.ec_server.specs.Words.{Shape, check_theory, serve_theory, theory_name}
-use Rattle.ec_server.proofs.Codes.{status_same, either_code, check_name, serve_name, shape_same, shape_is_there, by_either, first_of_two, second_of_two}
+use Rattle.ec_server.proofs.StatusCodes.{status_same, either_code, check_name, serve_name, shape_same, shape_is_there, by_either, first_of_two, second_of_two}
 use Rattle.ec_server.proofs.TheoryTexts.{HasFile-told, HasFile-not_missing, HasTheory-not_refused, HasTheory-served, IsNoTheory-file, IsNotServed-file}
 use Rattle.ec_server.proofs.WholeInput.{lines_done, read_done, stops_at_limit, left_at_limit, short_not_limit, long_not_done, taken_within}
 
@@ -134,9 +134,9 @@ module _ {S K : Type 0} {left : S → Option (List ℕ)} {read_faults : S → �
       let has = first_of_two (served_at run status.LimitReached name asked is).says (λ none. none.0) in
       (has.0, has.1 tells, stops_at_limit has.3 text is_text)
 
-  pub serve_left : IsServeRun left read_faults stands write_faults told before after input_before input output_before output asks code → code ≡ 8 → (text : List ℕ) → left input_before ≡ Some text → left input ≡ Some (drop most_input text)
+  pub serve_rest : IsServeRun left read_faults stands write_faults told before after input_before input output_before output asks code → code ≡ 8 → (text : List ℕ) → left input_before ≡ Some text → left input ≡ Some (drop most_input text)
   unfolding code_of
-  serve_left run is text is_text =
+  serve_rest run is text is_text =
       let has = first_of_two (served_at run status.LimitReached run.name run.asked is).says (λ none. none.0) in
       left_at_limit has.3 text is_text
 

@@ -11,7 +11,7 @@ use Rattle.ec_server.specs.declared.status.Status.{Status}
 use Rattle.ec_server.specs.declared.status.Status.TheVariants as status
 use Rattle.ec_server.specs.Ending.{HasEnded, SaysServed}
 use Rattle.ec_server.specs.Handling.{Language, AnswersLines}
-use Rattle.ec_server.specs.Outcomes.{IsShort, StopsAtLimit}
+use Rattle.ec_server.specs.InputLimits.{IsShort, StopsAtLimit}
 use Rattle.ec_server.proofs.Serving.{AnswersLines-quit, whole_lines-append, has_quit-more, has_quit-taken}
 
 -- `quit` among the whole lines of a first part is among those of all

@@ -7,8 +7,13 @@ use Rattle.ec_outside.specs.Streams.{Appended, AppendedPart}
 use Rattle.ec_server.specs.declared.status.Status.{Status}
 use Rattle.ec_server.specs.declared.status.Status.TheVariants as status
 use Rattle.ec_server.specs.Ending.{SaysServed}
-use Rattle.ec_server.specs.Outcomes.{in_ticks, most_input, Wrote}
+use Rattle.ec_server.specs.Handling.{in_ticks}
+use Rattle.ec_server.specs.InputLimits.{most_input}
 use Rattle.ec_server.specs.TheoryFiles.{HasTheory, IsNoTheory, IsNotServed, accepted_line, is_served, most_theory_bytes, theory_line}
+
+-- a text was written whole, or a first part of it and then the sink failed
+abbrev pub Wrote : {K : Type 0} → (K → List ℕ → Type 0) → (K → ℕ) → K → K → List ℕ → Type 0
+Wrote stands faults old new text = Appended stands old new text ⊎ (Rose (faults old) (faults new) × AppendedPart stands old new text)
 
 -- the line about an accepted theory was written whole, or the sink failed within it; no other status comes
 abbrev pub SaysAccepted : {K : Type 0} → (K → List ℕ → Type 0) → (K → ℕ) → K → K → Theory → Status → Type 0

@@ -4,8 +4,8 @@ use Rattle.ec_terms.specs.declared.theory.Theory.{Theory}
 use Rattle.ec_axioms.specs.Calculus.{PlainEvent}
 use Rattle.ec_axioms.specs.declared.event.Cut.{Cut}
 use Rattle.ec_axioms.specs.Commands.{PlainCommand}
-use Rattle.ec_axioms.specs.Answers.{PlainAnswer, answer_ok, refused_memory, refused_update, reply_text}
-use Rattle.ec_axioms.specs.Replies.{State, command_reply, command_may_want_memory}
+use Rattle.ec_axioms.specs.Answers.{PlainAnswer, answer_ok, answer_bye, refused_memory, refused_update, reply_text}
+use Rattle.ec_axioms.specs.Replies.{State, command_reply, command_may_want_memory, command_quits}
 use Rattle.ec_outside.specs.Streams.{Appended, AppendedPart}
 use Rattle.ec_server.specs.declared.handled.Handled.{Handled}
 use Rattle.ec_server.specs.declared.handled.Handled.TheVariants.{Go, Bye, WriteFault}
@@ -21,9 +21,20 @@ abbrev pub answer_line : Option ℕ → Option PlainAnswer → List ℕ
 answer_line session None = []
 answer_line session (Some answer) = reply_text session answer
 
--- a command is answered by its reply, for whatever session
+-- the answer to `quit`
+abbrev pub is_bye : PlainAnswer → Bool
+is_bye answer_bye = true
+is_bye answer = false
+
+-- there is an answer, and it is that to `quit`
+abbrev pub answers_quit : Option PlainAnswer → Bool
+answers_quit None = false
+answers_quit (Some answer) = is_bye answer
+
+-- a command is answered by its reply, for whatever session, and only to `quit` by `bye`
 pub record IsCommandReply (theory : Theory) (before : State) (command : PlainCommand) (answer : Option PlainAnswer) (after : State) : Type 0 where
   pub reply_is : (session : Option ℕ) → command_reply theory session before command ≡ record { text = answer_line session answer; after = after }
+  pub quits : answers_quit answer ≡ command_quits command
 
 -- a command is refused for want of memory, and leaves the state as it was
 pub record IsCommandMemoryRefusal (before : State) (command : PlainCommand) (answer : Option PlainAnswer) (after : State) : Type 0 where

@@ -1,5 +1,6 @@
 -- How one line is handled, and what has been served of an input.
 use Rattle.std.specs.Prelude.{◌≡◌, ℕ, Bool, true, false, List, ◌++◌, ℤ, Option}
+use Rattle.ec_moment.specs.Number.{number_value}
 use Rattle.ec_terms.specs.declared.theory.Theory.{Theory}
 use Rattle.ec_axioms.specs.Lines.{whole_lines}
 use Rattle.ec_axioms.specs.Replies.{State, empty_state, Step, Run, IsRun, is_quit, has_quit}
@@ -11,6 +12,10 @@ use Rattle.ec_server.specs.declared.handled.Handled.TheVariants.{Go, Bye, WriteF
 pub record Language : Type 0 where
   pub theory : Theory
   pub spelt : List ℕ → Option ℤ
+
+-- a theory with times that are spelt as whole numbers
+abbrev pub in_ticks : Theory → Language
+in_ticks theory = record { theory = theory; spelt = number_value }
 
 module _ {K : Type 0} (stands : K → List ℕ → Type 0) (language : Language) where
   -- a line made a step whose whole text was appended, and it was `quit` or not, as `quits` says

@@ -5,7 +5,7 @@ pub mod Ending
 pub mod ExitStatus
 pub mod Handling
 pub mod Loading
-pub mod Outcomes
+pub mod InputLimits
 pub mod Serving
 pub mod ShownShape
 pub mod TheoryFiles

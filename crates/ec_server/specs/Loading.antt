@@ -8,7 +8,7 @@ use Rattle.ec_server.specs.declared.theory_file.NoTheory.{NoTheory}
 use Rattle.ec_server.specs.declared.theory_file.NoTheory.TheVariants.{FolderFault, NoMemory, Said}
 use Rattle.ec_server.specs.declared.status.Status.{Status}
 use Rattle.ec_server.specs.declared.status.Status.TheVariants as said
-use Rattle.ec_server.specs.Outcomes.{Wrote}
+use Rattle.ec_server.specs.CommandEnds.{Wrote}
 use Rattle.ec_server.specs.TheoryFiles.{fault_text, most_theory_bytes, theory_line}
 
 -- the most bytes of what is said of a theory

@@ -14,10 +14,10 @@ module _ {K : Type 0} (stands : K → List ℕ → Type 0) (language : Language)
     pub serving : IsServing stands language taken state old new
 
   -- what a piece of the input leaves: it was served, or `quit` was in it, or the sink failed
-  abbrev pub IsServed : Handled → List ℕ → State → FeedState → K → K → Type 0
-  IsServed Go taken state feed old new = IsAt taken state feed old new
-  IsServed Bye taken state feed old new = HasQuit stands language taken old new
-  IsServed WriteFault taken state feed old new = BreaksOff stands language taken old new
+  abbrev pub IsPieceHandled : Handled → List ℕ → State → FeedState → K → K → Type 0
+  IsPieceHandled Go taken state feed old new = IsAt taken state feed old new
+  IsPieceHandled Bye taken state feed old new = HasQuit stands language taken old new
+  IsPieceHandled WriteFault taken state feed old new = BreaksOff stands language taken old new
 
   -- what the last line leaves: all lines are answered, or the sink failed within their replies
   abbrev pub IsLast : Handled → List (List ℕ) → K → K → Type 0

@@ -1,8 +1,7 @@
 //! What each shape of the words does.
 ghost use Rattle.std.specs.Prelude.{◌≡◌};
-ghost use Rattle.ec_server.specs.CommandEnds.{HasChecked, HasServed, SaysAccepted};
+ghost use Rattle.ec_server.specs.CommandEnds.{HasChecked, HasServed, SaysAccepted, Wrote};
 ghost use Rattle.ec_server.specs.Loading.{IsRefusal, IsShortReason};
-ghost use Rattle.ec_server.specs.Outcomes.{Wrote};
 ghost use Rattle.ec_server.specs.Words.{usage_line};
 
 use crate::served::serve;

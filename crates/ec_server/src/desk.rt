@@ -1,18 +1,18 @@
 //! The handling of one line.
-ghost use Rattle.std.specs.Prelude.{◌≡◌, ◌≤◌, ℕ, List, IsTrue, None, map, option_map, OnOk, OnErr, false};
+ghost use Rattle.std.specs.Prelude.{◌≡◌, ◌≤◌, ℕ, List, IsTrue, map, option_map, OnOk, OnErr, false};
 ghost use Rattle.ec_terms.specs.Term.{ground_of, names_are_names};
 ghost use Rattle.ec_axioms.specs.Answers.{reply_text};
 ghost use Rattle.ec_axioms.specs.Calculus.{holds_at};
 ghost use Rattle.ec_axioms.specs.Changes.{asserting, retracting, update_of, with_event};
-ghost use Rattle.ec_axioms.specs.Commands.{parsed_of, silent};
+ghost use Rattle.ec_axioms.specs.Commands.{parsed_of};
 ghost use Rattle.ec_axioms.specs.Events.{event_of};
 ghost use Rattle.ec_axioms.specs.Lines.{is_long};
-ghost use Rattle.ec_axioms.specs.Replies.{empty_state, yes_or_no, command_quits};
+ghost use Rattle.ec_axioms.specs.Replies.{empty_state, yes_or_no};
 ghost use Rattle.ec_lines.specs.ShownAnswer.{plain_answer};
 ghost use Rattle.ec_lines.specs.ShownCommand.{plain_command, plain_parsed, AreNamed};
 ghost use Rattle.ec_lines.specs.ShownLine.{ShowsLine};
 ghost use Rattle.ec_outside.specs.Counts.{Rose};
-ghost use Rattle.ec_server.specs.CommandSteps.{CommandStep, IsUpdated, IsWritten};
+ghost use Rattle.ec_server.specs.CommandSteps.{CommandStep, IsUpdated, IsWritten, is_bye};
 ghost use Rattle.ec_server.specs.Handling.{IsHandled};
 
 use crate::handled::Handled;
@@ -71,7 +71,7 @@ impl<T: Moment> Desk<T> {
     {
         match line {
             Line::Text(bytes) => self.handle_parsed(read_command(bytes), out),
-            Line::Long => reply(None, &Answer::LongLine, false, out),
+            Line::Long => reply(None, &Answer::LongLine, out),
         }
     }
 
@@ -84,9 +84,8 @@ impl<T: Moment> Desk<T> {
         ensures failed { result ≡ Handled.WriteFault → Rose (K.faults out.old) (K.faults out.new) }
         ensures counted { K.faults out.old ≤ K.faults out.new }
     {
-        let quits = is_quit(&parsed.command);
         match self.answer(parsed.command) {
-            Some(answer) => reply(parsed.session, &answer, quits, out),
+            Some(answer) => reply(parsed.session, &answer, out),
             None => Handled::Go,
         }
     }
@@ -96,7 +95,6 @@ impl<T: Moment> Desk<T> {
         requires { AreNamed (plain_command T.rank command) }
         ensures theory { self.new.theory ≡ self.old.theory }
         ensures step { CommandStep self.old.theory self.old.state (plain_command T.rank command.entry) (option_map plain_answer result) self.new.state }
-        ensures silent { result ≡ None → plain_command T.rank command.entry ≡ silent }
     {
         match command {
             Command::Silent => None,
@@ -178,22 +176,22 @@ fn keep<T: Moment>(
     insert(events, Event { id, at, term })
 }
 
-/// Whether a command is `quit`.
-fn is_quit<T: Moment>(command: &Command<'_, T>) -> bool
-    ensures { result ≡ command_quits (plain_command T.rank command.now) }
+/// Whether an answer is that to `quit`.
+fn is_bye(answer: &Answer) -> bool
+    ensures { result ≡ is_bye (plain_answer answer.now) }
 {
-    matches!(command, Command::Quit)
+    matches!(answer, Answer::Bye)
 }
 
 /// Writes an answer, and says what follows.
-fn reply<K: Sink>(session: Option<u8>, answer: &Answer, quits: bool, out: &mut K) -> Handled
-    ensures written { IsWritten K.stands result quits (reply_text session (plain_answer answer.now)) out.old out.new }
+fn reply<K: Sink>(session: Option<u8>, answer: &Answer, out: &mut K) -> Handled
+    ensures written { IsWritten K.stands result (is_bye (plain_answer answer.now)) (reply_text session (plain_answer answer.now)) out.old out.new }
     ensures failed { result ≡ Handled.WriteFault → Rose (K.faults out.old) (K.faults out.new) }
     ensures counted { K.faults out.old ≤ K.faults out.new }
 {
     if write_answer(session, answer, out).is_err() {
         Handled::WriteFault
-    } else if quits {
+    } else if is_bye(answer) {
         Handled::Bye
     } else {
         Handled::Go

@@ -3,7 +3,7 @@ ghost use Rattle.std.specs.Prelude.{◌≡◌, ◌≤◌, ℕ, List, ◌++◌, f
 ghost use Rattle.ec_lines.specs.FeedState.{Advances};
 ghost use Rattle.ec_outside.specs.Counts.{Rose};
 ghost use Rattle.ec_server.specs.Handling.{IsServing, Language};
-ghost use Rattle.ec_server.specs.Serving.{IsAt, IsServed};
+ghost use Rattle.ec_server.specs.Serving.{IsAt, IsPieceHandled};
 
 use crate::desk::Desk;
 use crate::handled::Handled;
@@ -17,7 +17,7 @@ fn answer_ready<T: Moment, K: Sink>(desk: &mut Desk<T>, feed: &mut Feed, out: &m
     ensures served { let language : Language = record { theory = desk.old.theory; spelt = T.spelt } in
         (taken longer : List ℕ) (start : K) → IsServing K.stands language taken desk.old.state start out.old →
         Advances feed.old.is_ready feed.old taken longer →
-        IsServed K.stands language result longer desk.new.state feed.new start out.new }
+        IsPieceHandled K.stands language result longer desk.new.state feed.new start out.new }
     ensures ready { feed.new.is_ready ≡ false }
     ensures failed { result ≡ Handled.WriteFault → Rose (K.faults out.old) (K.faults out.new) }
     ensures counted { K.faults out.old ≤ K.faults out.new }
@@ -41,7 +41,7 @@ pub fn answer_piece<T: Moment, K: Sink>(
     ensures theory { desk.new.theory ≡ desk.old.theory }
     ensures served { let language : Language = record { theory = desk.old.theory; spelt = T.spelt } in
         (taken : List ℕ) (start : K) → IsAt K.stands language taken desk.old.state feed.old start out.old →
-        IsServed K.stands language result (taken ++ piece.now) desk.new.state feed.new start out.new }
+        IsPieceHandled K.stands language result (taken ++ piece.now) desk.new.state feed.new start out.new }
     ensures ready { feed.new.is_ready ≡ false }
     ensures failed { result ≡ Handled.WriteFault → Rose (K.faults out.old) (K.faults out.new) }
     ensures counted { K.faults out.old ≤ K.faults out.new }

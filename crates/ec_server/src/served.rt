@@ -1,6 +1,6 @@
 //! Serving an input with a theory.
 ghost use Rattle.ec_server.specs.Ending.{SaysServed};
-ghost use Rattle.ec_server.specs.Outcomes.{in_ticks};
+ghost use Rattle.ec_server.specs.Handling.{in_ticks};
 
 use crate::desk::Desk;
 use crate::input::serve_input;

@@ -5,8 +5,8 @@ use Rattle.ec_terms.specs.declared.theory.Theory.{Theory}
 use Rattle.ec_outside.proofs.Streams.{Took-then}
 use Rattle.ec_server.specs.Handling.{BreaksOff, HasQuit}
 use Rattle.ec_server.specs.Serving.{IsAt}
-use Rattle.ec_server.proofs.Parts.{AnswersPart-broken, AnswersPart-so_far}
-use Rattle.ec_server.proofs.Takings.{IsTaking-start, IsTaking-kept, IsTaking-next}
+use Rattle.ec_server.proofs.PartialReplies.{AnswersPart-broken, AnswersPart-so_far}
+use Rattle.ec_server.proofs.InputTurns.{IsTaking-start, IsTaking-kept, IsTaking-next}
 use Rattle.ec_server.proofs.Endings.{IsEnding-broken, IsEnding-quit}
 use Rattle.ec_server.proofs.input.serve_input.Goals as goal
 

@@ -1,6 +1,6 @@
 -- What was taken is served, and less of the limit is left.
 use Rattle.std.proofs.Common.{◌≡◌}
-use Rattle.ec_server.proofs.Takings.{IsTaking}
+use Rattle.ec_server.proofs.InputTurns.{IsTaking}
 use Rattle.ec_server.proofs.input.serve_input.Given as goal
 
 abbrev pub invariant-loop-buffer : goal.invariant-loop-buffer

@@ -3,8 +3,8 @@ use Rattle.std.proofs.Common.{◌≡◌, ℕ, List, length, ◌∙◌, subst, ar
 use Rattle.ec_terms.specs.declared.theory.Theory.{Theory}
 use Rattle.ec_lines.specs.FeedState.{Advances}
 use Rattle.ec_server.specs.Handling.{IsServing}
-use Rattle.ec_server.specs.Serving.{IsAt, IsServed}
-use Rattle.ec_server.proofs.Pieces.{IsUnderWay-next, IsUnderWay-stop, IsUnderWay-end, empty_list}
+use Rattle.ec_server.specs.Serving.{IsAt, IsPieceHandled}
+use Rattle.ec_server.proofs.PieceSteps.{IsUnderWay-next, IsUnderWay-stop, IsUnderWay-end, empty_list}
 use Rattle.ec_outside.proofs.Counts.{Rose-earlier}
 use Rattle.ec_server.proofs.piece.answer_piece.Goals as goal
 
@@ -29,7 +29,7 @@ returns-in_default g c = record {
       c.loop-rest.feed c.push-count.new.self c.answer_ready.new.feed c.loop-rest.out c.answer_ready.new.out c.loop-rest.invariant.under_way c.in_default.not-Go c.push-count.ensures.stream
       (subst (λ (theory : Theory). (taken longer : List ℕ) (start : _) → IsServing g.K.Sink.stands (record { theory = theory; spelt = g.T.Moment.spelt }) taken c.loop-rest.desk.state start c.loop-rest.out
       → Advances c.push-count.new.self.is_ready c.push-count.new.self taken longer
-      → IsServed g.K.Sink.stands (record { theory = theory; spelt = g.T.Moment.spelt }) c.answer_ready.result longer c.answer_ready.new.desk.state c.answer_ready.new.feed start c.answer_ready.new.out)
+      → IsPieceHandled g.K.Sink.stands (record { theory = theory; spelt = g.T.Moment.spelt }) c.answer_ready.result longer c.answer_ready.new.desk.state c.answer_ready.new.feed start c.answer_ready.new.out)
       c.loop-rest.invariant.theory c.answer_ready.ensures.served);
   ready = c.answer_ready.ensures.ready;
   failed = λ fault. Rose-earlier c.loop-rest.invariant.under_way.counted (c.answer_ready.ensures.failed fault);

@@ -1,6 +1,6 @@
 -- The bytes before the rest are served, and the rest grows shorter.
 use Rattle.std.proofs.Common.{◌≡◌, length}
-use Rattle.ec_server.proofs.Pieces.{IsUnderWay}
+use Rattle.ec_server.proofs.PieceSteps.{IsUnderWay}
 use Rattle.ec_server.proofs.piece.answer_piece.Given as goal
 
 abbrev pub invariant-loop-rest : goal.invariant-loop-rest

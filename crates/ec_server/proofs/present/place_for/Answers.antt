@@ -1,7 +1,7 @@
 -- The new event goes in front of the first event that it comes before, or to the end.
 use Rattle.std.proofs.Common.{sym, ◌∙◌, length, subst, ◌≡◌, arith, ℕ}
 use Rattle.ec_axioms.specs.Events.{event_of}
-use Rattle.ec_server.proofs.Places.{IsBehind, IsPlaced-here, IsBehind-next, IsPlaced-last}
+use Rattle.ec_server.proofs.EventPlaces.{IsBehind, IsPlaced-here, IsBehind-next, IsPlaced-last}
 use Rattle.ec_server.proofs.present.place_for.Goals as goal
 
 pub returns-then-is_before-clause-place : goal.returns-then-is_before-clause-place

@@ -3,7 +3,7 @@ use Rattle.std.proofs.Common.{sym, subst}
 use Rattle.ec_terms.specs.declared.theory.Theory.{Theory}
 use Rattle.ec_server.specs.declared.status.Status.{Status}
 use Rattle.ec_server.specs.Ending.{IsEnding, SaysServed}
-use Rattle.ec_server.specs.Outcomes.{in_ticks}
+use Rattle.ec_server.specs.Handling.{in_ticks}
 use Rattle.ec_server.proofs.Endings.{SaysServed-of}
 use Rattle.ec_server.proofs.served.serve.Goals as goal
 

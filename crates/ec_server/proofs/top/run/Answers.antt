@@ -5,8 +5,8 @@ use Rattle.ec_server.specs.declared.status.Status.TheVariants as status
 use Rattle.ec_server.specs.ExitStatus.{code_of}
 use Rattle.ec_server.specs.ShownShape.{plain_shape}
 use Rattle.ec_server.specs.Words.{usage_line}
-use Rattle.ec_server.proofs.Codes.{check_is_not_serve, no_shape_alone, neither}
-use Rattle.ec_server.proofs.RunEnds.{serve_run, serve_ended, serve_folder_fault, serve_left, serve_limit, serve_long_file, serve_no_shape, serve_part, serve_read_fault, serve_refused, serve_refuses, serve_replies, serve_serves, serve_stops, serve_theory_of, serve_unread, serve_untouched, serve_usage, serve_whole, serve_within, serve_write_fault, check_run, check_accepted, check_accepted_part, check_accepts, check_folder_fault, check_long_file, check_no_shape, check_reads_nothing, check_refused, check_refuses, check_untouched, check_usage, check_write_fault}
+use Rattle.ec_server.proofs.StatusCodes.{check_is_not_serve, no_shape_alone, neither}
+use Rattle.ec_server.proofs.RunEnds.{serve_run, serve_ended, serve_folder_fault, serve_rest, serve_limit, serve_long_file, serve_no_shape, serve_part, serve_read_fault, serve_refused, serve_refuses, serve_replies, serve_serves, serve_stops, serve_theory_of, serve_unread, serve_untouched, serve_usage, serve_whole, serve_within, serve_write_fault, check_run, check_accepted, check_accepted_part, check_accepts, check_folder_fault, check_long_file, check_no_shape, check_reads_nothing, check_refused, check_refuses, check_untouched, check_usage, check_write_fault}
 use Rattle.ec_server.proofs.top.run.Goals as goal
 
 pub returns-in-Some-Check-clause-accepted : goal.returns-in-Some-Check-clause-accepted
@@ -91,7 +91,7 @@ pub returns-in-Some-Serve-clause-stops : goal.returns-in-Some-Serve-clause-stops
 returns-in-Some-Serve-clause-stops g c = serve_stops (serve_run (sym c.in-Some-Serve.ensures ∙ ap (λ (s : _). Some (plain_shape s)) c.in-Some-Serve.field-0-is) c.code-in-Some-Serve.ensures c.serve_command.ensures)
 
 pub returns-in-Some-Serve-clause-rest : goal.returns-in-Some-Serve-clause-rest
-returns-in-Some-Serve-clause-rest g c = serve_left (serve_run (sym c.in-Some-Serve.ensures ∙ ap (λ (s : _). Some (plain_shape s)) c.in-Some-Serve.field-0-is) c.code-in-Some-Serve.ensures c.serve_command.ensures)
+returns-in-Some-Serve-clause-rest g c = serve_rest (serve_run (sym c.in-Some-Serve.ensures ∙ ap (λ (s : _). Some (plain_shape s)) c.in-Some-Serve.field-0-is) c.code-in-Some-Serve.ensures c.serve_command.ensures)
 
 pub returns-in-Some-Serve-clause-within : goal.returns-in-Some-Serve-clause-within
 returns-in-Some-Serve-clause-within g c = serve_within (serve_run (sym c.in-Some-Serve.ensures ∙ ap (λ (s : _). Some (plain_shape s)) c.in-Some-Serve.field-0-is) c.code-in-Some-Serve.ensures c.serve_command.ensures)

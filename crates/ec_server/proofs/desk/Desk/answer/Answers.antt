@@ -65,4 +65,4 @@ returns-in-Begin g c =
     (⊎_elim (λ is. let told = ask_why (ground_of is.0) (rank is.1) in same told (ap (plain_command rank) is.2) (settled told tt))
     (λ is. same ask_last (ap (plain_command rank) is) (settled ask_last tt)))))))))))
     c.in-Begin.is in
-    record { theory = refl; step = step; silent = λ none. cc }
+    record { theory = refl; step = step }

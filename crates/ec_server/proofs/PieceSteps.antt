@@ -7,8 +7,8 @@ use Rattle.ec_lines.specs.FeedState.{FeedState, IsPart, IsReady, Advances}
 use Rattle.ec_server.specs.declared.handled.Handled.{Handled}
 use Rattle.ec_server.specs.declared.handled.Handled.TheVariants.{Go, Bye, WriteFault}
 use Rattle.ec_server.specs.Handling.{Language, IsHandled, IsServing}
-use Rattle.ec_server.specs.Serving.{IsAt, IsServed}
-use Rattle.ec_server.proofs.Parts.{AnswersPart-line}
+use Rattle.ec_server.specs.Serving.{IsAt, IsPieceHandled}
+use Rattle.ec_server.proofs.PartialReplies.{AnswersPart-line}
 use Rattle.ec_server.proofs.Serving.{IsServing-piece, IsServing-line, HasQuit-line}
 
 module _ {K : Type 0} (stands : K → List ℕ → Type 0) (language : Language) where
@@ -18,43 +18,43 @@ module _ {K : Type 0} (stands : K → List ℕ → Type 0) (language : Language)
   IsAt-part taken longer state feed start now serving advances = record { part = advances.0; serving = IsServing-piece advances.1 serving }
 
   -- a line is ready and was handled, and the feed begins the next one
-  pub IsServed-line : (handled : Handled) (taken longer line : List ℕ) (state after : State) (next : FeedState) (start now then_ : K)
+  pub IsPieceHandled-line : (handled : Handled) (taken longer line : List ℕ) (state after : State) (next : FeedState) (start now then_ : K)
       → IsServing stands language taken state start now → whole_lines longer ≡ whole_lines taken ++ line ∷ [] → (cut_of longer).rest ≡ []
-      → IsHandled stands language handled line state after now then_ → IsPart next [] → IsServed stands language handled longer after next start then_
-  IsServed-line Go taken longer line state after next start now then_ serving same none answered part = record {
+      → IsHandled stands language handled line state after now then_ → IsPart next [] → IsPieceHandled stands language handled longer after next start then_
+  IsPieceHandled-line Go taken longer line state after next start now then_ serving same none answered part = record {
     part = subst (λ (rest : List ℕ). IsPart next rest) (sym none) part;
     serving = IsServing-line same serving answered;
   }
-  IsServed-line Bye taken longer line state after next start now then_ serving same none answered part = HasQuit-line longer [] same (sym (append-nil longer)) serving answered
-  IsServed-line WriteFault taken longer line state after next start now then_ serving same none answered part =
+  IsPieceHandled-line Bye taken longer line state after next start now then_ serving same none answered part = HasQuit-line longer [] same (sym (append-nil longer)) serving answered
+  IsPieceHandled-line WriteFault taken longer line state after next start now then_ serving same none answered part =
       record { done = longer; rest = []; split = sym (append-nil longer); part = AnswersPart-line same serving answered }
 
   -- what the handling of the line that is ready leaves
-  pub IsServed-ready : (handled : Handled) (is_ready : Bool) (taken longer : List ℕ) (state after : State) (feed next : FeedState) (start now then_ : K) → is_ready ≡ true
+  pub IsPieceHandled-ready : (handled : Handled) (is_ready : Bool) (taken longer : List ℕ) (state after : State) (feed next : FeedState) (start now then_ : K) → is_ready ≡ true
       → Advances is_ready feed taken longer → ((line : List ℕ) → IsReady feed line → IsHandled stands language handled line state after now then_) → IsPart next []
-      → IsServing stands language taken state start now → IsServed stands language handled longer after next start then_
-  IsServed-ready handled true taken longer state after feed next start now then_ ready advances says part serving =
-      IsServed-line handled taken longer advances.0 state after next start now then_ serving advances.2 advances.3 (says advances.0 advances.1) part
-  IsServed-ready handled false taken longer state after feed next start now then_ ready advances says part serving = cc
+      → IsServing stands language taken state start now → IsPieceHandled stands language handled longer after next start then_
+  IsPieceHandled-ready handled true taken longer state after feed next start now then_ ready advances says part serving =
+      IsPieceHandled-line handled taken longer advances.0 state after next start now then_ serving advances.2 advances.3 (says advances.0 advances.1) part
+  IsPieceHandled-ready handled false taken longer state after feed next start now then_ ready advances says part serving = cc
 
   -- what stands where no line is ready
-  pub IsServed-part : (is_ready : Bool) (taken longer : List ℕ) (state : State) (feed : FeedState) (start now : K) → is_ready ≡ false
+  pub IsPieceHandled-part : (is_ready : Bool) (taken longer : List ℕ) (state : State) (feed : FeedState) (start now : K) → is_ready ≡ false
       → Advances is_ready feed taken longer → IsServing stands language taken state start now → IsAt stands language longer state feed start now
-  IsServed-part false taken longer state feed start now none advances serving = IsAt-part taken longer state feed start now serving advances
-  IsServed-part true taken longer state feed start now none advances serving = cc
+  IsPieceHandled-part false taken longer state feed start now none advances serving = IsAt-part taken longer state feed start now serving advances
+  IsPieceHandled-part true taken longer state feed start now none advances serving = cc
 
   -- what was served of a first part of the bytes and ended there
-  pub IsServed-more : (handled : Handled) (taken more all : List ℕ) (state : State) (feed : FeedState) (start now : K) → (handled ≡ Go → ⊥) → all ≡ taken ++ more
-      → IsServed stands language handled taken state feed start now → IsServed stands language handled all state feed start now
-  IsServed-more Go taken more all state feed start now other split served = absurd (other refl)
-  IsServed-more Bye taken more all state feed start now other split served = record {
+  pub IsPieceHandled-more : (handled : Handled) (taken more all : List ℕ) (state : State) (feed : FeedState) (start now : K) → (handled ≡ Go → ⊥) → all ≡ taken ++ more
+      → IsPieceHandled stands language handled taken state feed start now → IsPieceHandled stands language handled all state feed start now
+  IsPieceHandled-more Go taken more all state feed start now other split served = absurd (other refl)
+  IsPieceHandled-more Bye taken more all state feed start now other split served = record {
     done = served.done;
     rest = served.rest ++ more;
     split = split ∙ ap (λ (t : List ℕ). t ++ more) served.split ∙ append_assoc served.done served.rest more;
     quit = served.quit;
     answers = served.answers;
   }
-  IsServed-more WriteFault taken more all state feed start now other split served = record {
+  IsPieceHandled-more WriteFault taken more all state feed start now other split served = record {
     done = served.done;
     rest = served.rest ++ more;
     split = split ∙ ap (λ (t : List ℕ). t ++ more) served.split ∙ append_assoc served.done served.rest more;
@@ -110,12 +110,12 @@ module _ {K : Type 0} (stands : K → List ℕ → Type 0) (faults : K → ℕ) 
       → IsUnderWay stands faults language piece rest before now feed_before feed out_before out → (handled ≡ Go → ⊥)
       → ((stream : List ℕ) → IsPart feed (cut_of stream).rest → Advances fed.is_ready fed stream (stream ++ take count rest))
       → ((taken longer : List ℕ) (start : K) → IsServing stands language taken now start out → Advances fed.is_ready fed taken longer
-      → IsServed stands language handled longer next next_feed start next_out)
+      → IsPieceHandled stands language handled longer next next_feed start next_out)
       → (taken : List ℕ) (start : K) → IsAt stands language taken before feed_before start out_before
-      → IsServed stands language handled (taken ++ piece) next next_feed start next_out
+      → IsPieceHandled stands language handled (taken ++ piece) next next_feed start next_out
   IsUnderWay-stop handled rest count now next feed fed next_feed out next_out under other stream served taken start at =
       let here = under.serves taken start at in
-      IsServed-more stands language handled ((taken ++ under.done) ++ take count rest) (drop count rest) (taken ++ piece) next next_feed start next_out other
+      IsPieceHandled-more stands language handled ((taken ++ under.done) ++ take count rest) (drop count rest) (taken ++ piece) next next_feed start next_out other
       (ap (λ (p : List ℕ). taken ++ p) (under.split ∙ ap (λ (r : List ℕ). under.done ++ r) (sym (take-append-drop count rest)) ∙ sym (append_assoc under.done (take count rest) (drop count rest)))
       ∙ sym (append_assoc taken (under.done ++ take count rest) (drop count rest))
       ∙ ap (λ (t : List ℕ). t ++ drop count rest) (sym (append_assoc taken under.done (take count rest))))

@@ -1,25 +1,13 @@
--- What a run says of its output and of its input.
+-- The limit of the input, and which inputs end before it.
 use Rattle.std.specs.Prelude.{◌≡◌, ◌≤◌, ◌<◌, ◌⊎◌, ℕ, true, false, List, length, take}
-use Rattle.ec_moment.specs.Number.{number_value}
-use Rattle.ec_terms.specs.declared.theory.Theory.{Theory}
 use Rattle.ec_axioms.specs.Lines.{whole_lines}
 use Rattle.ec_axioms.specs.Replies.{has_quit}
-use Rattle.ec_outside.specs.Counts.{Rose}
-use Rattle.ec_outside.specs.Streams.{Appended, AppendedPart}
 use Rattle.ec_server.specs.declared.commands.TheConstants.{MOST_INPUT}
 use Rattle.ec_server.specs.Handling.{Language, AnswersLines}
-
--- a theory with times that are spelt as whole numbers
-abbrev pub in_ticks : Theory → Language
-in_ticks theory = record { theory = theory; spelt = number_value }
 
 -- the most bytes of input that a run takes
 abbrev pub most_input : ℕ
 most_input = MOST_INPUT
-
--- a text was written whole, or a first part of it and then the sink failed
-abbrev pub Wrote : {K : Type 0} → (K → List ℕ → Type 0) → (K → ℕ) → K → K → List ℕ → Type 0
-Wrote stands faults old new text = Appended stands old new text ⊎ (Rose (faults old) (faults new) × AppendedPart stands old new text)
 
 -- an input that ends, or has a `quit` among its whole lines, before so many bytes are taken
 abbrev pub IsShort : Language → ℕ → List ℕ → Type 0
