@@ -177,7 +177,7 @@ pub NotLiveIsUnknown-law : NotLiveIsUnknown
 NotLiveIsUnknown-law = not_live-unknown
 
 -- a mark by its four fields
-mark_same : (m n : PlainMark) → m.instant ≡ n.instant → m.inits ≡ n.inits → m.terms ≡ n.terms → m.clashes ≡ n.clashes → m ≡ n
+pub mark_same : (m n : PlainMark) → m.instant ≡ n.instant → m.inits ≡ n.inits → m.terms ≡ n.terms → m.clashes ≡ n.clashes → m ≡ n
 mark_same m n instants inits terms clashes =
     let made : ℤ → ℕ → ℕ → ℕ → PlainMark = λ t a b c. record { instant = t; inits = a; terms = b; clashes = c } in
     ap (λ t. made t m.inits m.terms m.clashes) instants ∙ ap (λ a. made n.instant a m.terms m.clashes) inits
