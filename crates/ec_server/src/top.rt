@@ -26,7 +26,7 @@ use std::string::String;
 ///
 /// Theories are read from `files`, lines from `input`; what is to be said is written to `output`. The statuses are: 0 the input
 /// was read to its end or to `quit`, or the theory is accepted; 2 the words have no shape; 3 the theory is not accepted; 4 the input
-/// failed; 5 the output failed; 6 memory was wanting before anything was written; 7 a file could not be read; 8 as many bytes of
+/// failed; 5 the output failed; 6 memory ran out before anything was written; 7 a file could not be read; 8 as many bytes of
 /// input were taken as may be.
 pub fn run<F: Folder, S: Source, K: Sink>(
     alloc: Global,
