@@ -1,5 +1,5 @@
 -- How a store keeps its events: an event more or less leaves a store.
-use Rattle.std.proofs.Common.{◌≡◌, ℕ, ◌+◌, ◌<◌, zero, suc, Bool, true, false, cond, not, ◌||◌, ◌≤◌, All, IfSome, get_or, slice_get, List, [], ◌∷◌, ℤ, Option, Some, None, Bor, refl, sym, ap, ap₂, subst, ◌∙◌, ⊎_elim, map, is_some, length, arith}
+use Rattle.std.proofs.Common.{◌≡◌, ℕ, ◌+◌, ◌<◌, zero, suc, Bool, true, false, cond, not, ◌≤◌, All, IfSome, get_or, slice_get, List, [], ◌∷◌, ℤ, Option, Some, None, Bor, refl, sym, ap, ap₂, subst, ◌∙◌, ⊎_elim, map, is_some, length, arith}
 use Rattle.std.specs.Prelude.{option_map, bytes_eq, ◌==◌, if◌then◌else◌}
 use Rattle.std.specs.List.{cons_option, list_any}
 use Rattle.std.specs.Option.{option_copied}

@@ -11,10 +11,12 @@ use Rattle.ec_rows.specs.Times.{Entry}
 abbrev pub Kept : Type 0 → Type 0
 Kept T = Slot × Event T
 
--- the events by rank, then identity, each with its slot; and how many further events the store takes without memory
+-- the events by rank, then identity, each with its slot; how many further events the store takes without memory;
+-- and the number that all their slots are below
 pub record Store (T : Type 0) : Type 0 where
   pub events : List (Slot × Event T)
   pub spare : ℕ
+  pub places : ℕ
 
 -- an event of a store, as the calculus sees it
 abbrev pub plain_of : {T : Type 0} → (T → ℤ) → Kept T → PlainEvent

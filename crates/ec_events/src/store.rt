@@ -1,4 +1,5 @@
-ghost use Rattle.std.specs.Prelude.{◌≡◌, ◌+◌, ◌≤◌, [], List, None, Some, IsTrue, IsSome, IfSome, IfOk, OnOk, All, length, slice_get, option_map};
+ghost use Rattle.std.specs.Prelude.{◌≡◌, ◌+◌, ◌<◌, ◌≤◌, [], List, None, Some, IsTrue, IsSome, IfSome, IfOk, OnOk, All, length, slice_get, option_map};
+ghost use Rattle.ec_terms.specs.declared.ids.Slot.{Slot};
 ghost use Rattle.ec_axioms.specs.Changes.{is_history, with_event, without_event};
 ghost use Rattle.ec_axioms.specs.Events.{event_of};
 ghost use Rattle.ec_events.specs.Store.{history_of, slot_of, event_at, kept_before, with_kept, without_kept};
@@ -38,6 +39,7 @@ impl<T: Moment, X: TimeRow<T>> Model for EventStore<T, X> {
     ghost view = { λ s. record {
       events = kept_of (record_at s.records) (X.times s.times);
       spare = min (s.records.capacity - slab_len s.records) (min (map_spare s.slots) (X.spare s.times));
+      places = s.records.capacity;
     } };
 
     ghost invariant = { λ s. IsStore T.rank (record_at s.records) (slot_at (pointwise nat_eq) s.slots) (X.times s.times) };
@@ -65,11 +67,21 @@ impl<T: Moment, X: TimeRow<T>> EventStore<T, X> {
         self.times.len()
     }
 
+    /// How many places there are for slots: each slot that an event has, or that an insertion gives, is below this
+    /// number. Only `reserve` makes more. So a list of this length has a place for each slot.
+    pub fn places(&self) -> usize
+        ensures places { result ≡ self.now.places }
+        ensures slots { (slot : Slot) → IsSome (event_at slot self.now.events) → slot.0 < result }
+    {
+        self.records.capacity()
+    }
+
     /// Makes room for `n` further events. A refusal leaves all as it was.
     pub fn reserve(&mut self, n: usize) -> Result<(), NoMemory>
         ensures same { self.new.events ≡ self.old.events }
         ensures ok { OnOk result (n ≤ self.new.spare) }
         ensures kept { self.old.spare ≤ self.new.spare }
+        ensures places { self.old.places ≤ self.new.places }
     {
         self.records.reserve(n)?;
         self.slots.reserve(n)?;
@@ -101,6 +113,8 @@ impl<T: Moment, X: TimeRow<T>> EventStore<T, X> {
         requires room { 1 ≤ self.old.spare }
         ensures free { event_at result self.old.events ≡ None }
         ensures slot { event_at result self.new.events ≡ Some event }
+        ensures place { result.0 < self.new.places }
+        ensures places { self.new.places ≡ self.old.places }
         ensures events { self.new.events ≡ with_kept T.rank (result, event) self.old.events }
         ensures history { history_of T.rank self.new.events ≡ with_event (event_of T.rank event) (history_of T.rank self.old.events) }
         ensures spare { self.old.spare ≤ self.new.spare + 1 }
@@ -124,6 +138,7 @@ impl<T: Moment, X: TimeRow<T>> EventStore<T, X> {
         ensures events { self.new.events ≡ without_kept result.id self.old.events }
         ensures history { history_of T.rank self.new.events ≡ without_event result.id (history_of T.rank self.old.events) }
         ensures spare { self.old.spare ≤ self.new.spare }
+        ensures places { self.new.places ≡ self.old.places }
         ensures steps { steps.new ≡ steps.old + 1 }
     {
         steps.tick(); // the record is taken out
