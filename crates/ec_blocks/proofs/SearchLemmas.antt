@@ -1,5 +1,5 @@
 -- A search over blocks: first among their last members, then within one of them.
-use Rattle.std.proofs.Common.{◌≡◌, ℕ, ◌+◌, ◌-◌, ◌<◌, ◌≤◌, zero, suc, Bool, true, false, List, [], ◌∷◌, length, map, get_or, Some, None, refl, sym, ap, ◌∙◌, ⊎_elim, true≢false, arith}
+use Rattle.std.proofs.Common.{◌≡◌, ℕ, ◌+◌, ◌-◌, ◌<◌, ◌≤◌, zero, suc, Bool, true, false, List, [], ◌∷◌, length, map, get_or, Some, None, refl, sym, ap, ◌∙◌, ◌⊎◌, ⊎_elim, true≢false, add-one, arith}
 use Rattle.std.specs.List.{list_all}
 use Rattle.std.specs.List.Sorted.{IsPartitionedBy, IsPartitionPoint}
 use Rattle.std.proofs.lemmas.Bool.{cases_Bool, cases_lt}
@@ -39,6 +39,30 @@ module _ {X : Type 0} (p : X → Bool) (blocks : List (List X)) (all : list_all 
   block-parted k within i j d le inside passes =
       ap p (sym (stands k i d within (omega arith)))
       ∙ parted (start_of k blocks + i) (start_of k blocks + j) d (omega arith) (omega (arith, end-le k within)) (ap p (stands k j d within inside) ∙ passes)
+
+  -- the end of what passes, found within a block that has members on both sides of it, or else an end of the list
+  pub found-enclosed : (k c : ℕ) → k < length blocks → (k ≡ 0) ⊎ (1 ≤ c) → (k + 1 ≡ length blocks) ⊎ (c < length (block_at k blocks)) →
+      c ≤ length (block_at k blocks) → IsPartitionPoint (λ x. p x ≡ true) (λ x. p x ≡ false) (block_at k blocks) c →
+      IsPartitionPoint (λ x. p x ≡ true) (λ x. p x ≡ false) (joined blocks) (start_of k blocks + c)
+  found-enclosed k c within front behind upto point =
+      IsPartitionPoint-from_edges p (joined blocks) (start_of k blocks + c) parted front_passes behind_fails (omega (arith, end-le k within))
+    where
+      at_first : k ≡ 0 → 1 ≤ start_of k blocks + c → 1 ≤ c
+      at_first first some = omega (arith, ap (λ n. start_of n blocks) first)
+
+      at_last : k + 1 ≡ length blocks → start_of k blocks + c < length (joined blocks) → c < length (block_at k blocks)
+      at_last last inside =
+          omega (arith, start_of-suc blocks k within, ap (λ n. start_of n blocks) (sym (add-one k) ∙ last), start_of-all blocks)
+
+      front_passes : (d : X) → 1 ≤ start_of k blocks + c → p (get_or (joined blocks) (start_of k blocks + c - 1) d) ≡ true
+      front_passes d some =
+          let more : 1 ≤ c = ⊎_elim (λ first. at_first first some) (λ more. more) front in
+          ap (λ n. p (get_or (joined blocks) n d)) (omega arith) ∙ ap p (stands k (c - 1) d within (omega arith)) ∙ point.0 (c - 1) d (omega arith) (omega arith)
+
+      behind_fails : (d : X) → start_of k blocks + c < length (joined blocks) → p (get_or (joined blocks) (start_of k blocks + c) d) ≡ false
+      behind_fails d inside =
+          let before : c < length (block_at k blocks) = ⊎_elim (λ last. at_last last inside) (λ more. more) behind in
+          ap p (stands k c d within before) ∙ point.1 c d (omega arith) before
 
   module _ (lasts : List X) (are : map Some lasts ≡ map last_of blocks) where
     lasts-length : length lasts ≡ length blocks

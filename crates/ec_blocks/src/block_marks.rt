@@ -3,7 +3,7 @@ ghost use Rattle.std.specs.List.{remove};
 ghost use Rattle.ec_rows.specs.Marks.{IsMarkRow, is_counted, are_before, has_mark, with_mark, marks_before, mark_at};
 
 use crate::blocks::Blocks;
-use crate::search::{count_before, count_up_to, place_of};
+use crate::search::{ANYWHERE, count_before, count_up_to, place_of};
 use ec_moment::Moment;
 use ec_rows::{Mark, MarkRow};
 use ec_terms::NoMemory;
@@ -64,7 +64,7 @@ impl<T: Moment> MarkRow<T> for BlockMarks<T> {
     }
 
     fn last_before(&self, at: T) -> Option<usize> {
-        count_before(&self.marks, at, 0).checked_sub(1)
+        count_before(&self.marks, at, ANYWHERE).checked_sub(1)
     }
 
     fn next_after(&self, at: T) -> Option<usize> {

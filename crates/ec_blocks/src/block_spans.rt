@@ -3,7 +3,7 @@ ghost use Rattle.std.specs.List.{splice, HoldsAt, list_any};
 ghost use Rattle.ec_rows.specs.Spans.{IsSpanRow, is_covering, spans_before, reaches};
 
 use crate::blocks::Blocks;
-use crate::search::count_before;
+use crate::search::{ANYWHERE, count_before};
 use ec_moment::Moment;
 use ec_rows::{End, Span, SpanRow};
 use ec_terms::NoMemory;
@@ -80,7 +80,7 @@ fn count_spans_before<T: Moment>(spans: &Blocks<Span<T>>, at: T) -> usize
     requires { IsSpanRow T.rank spans.now.items }
     ensures { result ≡ length (spans_before T.rank (T.rank at) spans.now.items) }
 {
-    count_before(spans, at, 0)
+    count_before(spans, at, ANYWHERE)
 }
 
 /// Whether a time lies up to the end of a span.
@@ -101,7 +101,7 @@ fn place_covering<T: Moment>(spans: &Blocks<Span<T>>, at: T) -> Option<usize>
     ensures covering { IfSome result (λ i. HoldsAt (λ span. IsTrue (is_covering T.rank (T.rank at) span)) spans.now.items i) }
     ensures none { IfNone result (list_any (is_covering T.rank (T.rank at)) spans.now.items ≡ false) }
 {
-    let count = count_before(spans, at, 0);
+    let count = count_before(spans, at, ANYWHERE);
     if count == 0 {
         return None;
     }

@@ -102,15 +102,18 @@ impl<X: Copied + Drop> Blocks<X> {
         }
     }
 
-    /// The same, where the place is likely to be `near`, which may be any number: a hint for the search, which
-    /// this list does not take yet.
+    /// The same, where the place is likely to be close to `near`, which may be any number: the search begins in the
+    /// block of this place, and goes over all blocks only if the place is not in it. A number that is no place of
+    /// a member is no hint.
     pub fn partition_near<F: Fn(&X) -> bool>(&self, near: usize, pred: F) -> usize
         requires { F.IsAlwaysCallable pred }
         ensures bound { result ≤ length self.now.items }
         ensures partitioned { (p : X → Bool) → ComputesKey F.FnMut p pred → IsPartitionedBy p self.now.items → IsPartitionPoint (λ x. p x ≡ true) (λ x. p x ≡ false) self.now.items result }
     {
-        let _ = near;
-        self.partition_point(pred)
+        match &self.body {
+            Body::Few(members) => members.partition_point(pred),
+            Body::Many(chain) => chain.partition_near(near, &pred),
+        }
     }
 
     /// Puts a member in place of the one at a place.

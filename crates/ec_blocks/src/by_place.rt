@@ -1,10 +1,12 @@
 //! The edits of a chain by places among all members.
-ghost use Rattle.std.specs.Prelude.{◌≡◌, ◌+◌, ◌<◌, ◌≤◌, ◌++◌, ◌∷◌, [], Some, true, false, ℕ, ◌-◌, ◌*◌, OnOk, OnErr, length, take, drop, slice_get, slice_set};
+ghost use Rattle.std.specs.Prelude.{◌≡◌, ◌+◌, ◌<◌, ◌≤◌, ◌++◌, ◌∷◌, [], Some, Bool, true, false, ◌⊎◌, ℕ, ◌-◌, ◌*◌, OnOk, OnErr, length, take, drop, slice_get, slice_set};
+ghost use Rattle.std.specs.Fn.{ComputesKey};
 ghost use Rattle.std.specs.List.{insert, remove};
+ghost use Rattle.std.specs.List.Sorted.{IsPartitionedBy, IsPartitionPoint};
 ghost use Rattle.std.proofs.Common.{suc};
 ghost use Rattle.ec_blocks.specs.Chain.{joined, block_at, debt, room_of};
 
-use crate::chain::{CAPACITY, Chain, HALF};
+use crate::chain::{CAPACITY, Chain, HALF, cut};
 use ec_rows::Copied;
 use ec_terms::NoMemory;
 
@@ -28,6 +30,34 @@ impl<X: Copied + Drop> Chain<X> {
         let k = self.locate(i);
         let place = i - self.start(k);
         &self.block(k)[place..]
+    }
+
+    /// Whether a place in a block has members of this block on both sides, or else an end of the list.
+    fn is_enclosed(&self, k: usize, place: usize) -> bool
+        requires { k < length self.now.blocks }
+        ensures front { result ≡ true → (k ≡ 0) ⊎ (1 ≤ place) }
+        ensures behind { result ≡ true → (k + 1 ≡ length self.now.blocks) ⊎ (place < length (block_at k self.now.blocks)) }
+    {
+        let front = k == 0 || 0 < place;
+        let behind = k == self.count() - 1 || place < self.block(k).len();
+        front && behind
+    }
+
+    /// The place where the members that pass a test end, sought first in the block of the place `near`. What is
+    /// found there is taken only where the block shows that no other member matters.
+    pub(crate) fn partition_near<F: Fn(&X) -> bool>(&self, near: usize, pred: &F) -> usize
+        requires { F.IsAlwaysCallable pred.now }
+        ensures bound { result ≤ length (joined self.now.blocks) }
+        ensures partitioned { (p : X → Bool) → ComputesKey F.FnMut p pred.now → IsPartitionedBy p (joined self.now.blocks) → IsPartitionPoint (λ x. p x ≡ true) (λ x. p x ≡ false) (joined self.now.blocks) result }
+    {
+        if near < self.total() {
+            let k = self.locate(near);
+            let place = cut(self.block(k), pred);
+            if self.is_enclosed(k, place) {
+                return self.start(k) + place;
+            }
+        }
+        self.partition_point(pred)
     }
 
     /// Puts a member in place of the one at a place.

@@ -264,7 +264,7 @@ impl<X: Copied + Drop> Chain<X> {
 }
 
 /// The place where the members that pass a test end.
-fn cut<X, F: Fn(&X) -> bool>(members: &[X], pred: &F) -> usize
+pub(crate) fn cut<X, F: Fn(&X) -> bool>(members: &[X], pred: &F) -> usize
     requires { F.IsAlwaysCallable pred.now }
     ensures bound { result ≤ length members.now }
     ensures partitioned { (p : X → Bool) → ComputesKey F.FnMut p pred.now → IsPartitionedBy p members.now → IsPartitionPoint (λ x. p x ≡ true) (λ x. p x ≡ false) members.now result }

@@ -13,7 +13,11 @@ mod chain;
 mod places;
 mod search;
 #[cfg(test)]
+mod span_tests;
+#[cfg(test)]
 mod tests;
+#[cfg(test)]
+mod time_tests;
 
 pub use block_marks::BlockMarks;
 pub use block_spans::BlockSpans;

@@ -9,6 +9,9 @@ use crate::blocks::Blocks;
 use ec_moment::Moment;
 use ec_rows::{Copied, Timed};
 
+/// In place of a place to look at first: none.
+pub(crate) const ANYWHERE: usize = usize::MAX;
+
 /// How many members of an ordered row stand before a time. `near` is a place to look at first.
 pub(crate) fn count_before<T: Moment, X: Timed<T> + Copied + Drop>(
     row: &Blocks<X>,
@@ -67,7 +70,7 @@ pub(crate) fn place_of<T: Moment, X: Timed<T> + Copied + Drop>(
     ensures in_front { IfErr result (λ i. take i row.now.items ≡ members_before T.rank X.time (T.rank at) row.now.items) }
     ensures behind { IfErr result (λ i. drop i row.now.items ≡ members_after T.rank X.time (T.rank at) row.now.items) }
 {
-    let place = count_before(row, at, 0);
+    let place = count_before(row, at, ANYWHERE);
     if place == row.len() {
         return Err(place);
     }

@@ -9,12 +9,18 @@ use std::alloc::Global;
 
 /// Numbers that look random: the high bits of a congruential generator of 64 bits.
 #[derive(Drop)]
-struct Draws {
+pub(crate) struct Draws {
     state: u64,
 }
 
 impl Draws {
-    fn draw(&mut self, n: u64) -> u64
+    /// The numbers from seed 1.
+    pub(crate) fn new() -> Draws {
+        Draws { state: 1 }
+    }
+
+    /// A number below `n`.
+    pub(crate) fn draw(&mut self, n: u64) -> u64
         requires { 0 < n }
         ensures { result < n }
     {
@@ -70,7 +76,7 @@ fn change<A: MarkRow<Tick>, B: MarkRow<Tick>>(
 
 /// Whether two rows are the same after each of 500 changes.
 fn go_the_same_way<A: MarkRow<Tick>, B: MarkRow<Tick>>(alloc: Global) -> Result<bool, NoMemory> {
-    let mut draws = Draws { state: 1 };
+    let mut draws = Draws::new();
     let mut a = A::new(alloc)?;
     let mut b = B::new(alloc)?;
     for _ in 0..500 {

@@ -1,0 +1,35 @@
+-- The block shows that what passes ends in it.
+use Rattle.std.proofs.Common.{◌≡◌, ◌+◌, ℕ, suc, List, true, false, length, sym, ap, subst, arith}
+use Rattle.std.specs.List.Sorted.{IsPartitionedBy, IsPartitionPoint}
+use Rattle.ec_blocks.specs.Chain.{joined}
+use Rattle.ec_blocks.proofs.ChainLemmas.{joined-most}
+use Rattle.ec_blocks.proofs.StartLemmas.{start_of-suc, start_of-le, start_of-all}
+use Rattle.ec_blocks.proofs.SearchLemmas.{block-parted, found-enclosed}
+use Rattle.ec_blocks.proofs.chain.Chain.partition_near.Goals as goal
+
+pub returns-then-is_enclosed-clause-bound : goal.returns-then-is_enclosed-clause-bound
+returns-then-is_enclosed-clause-bound g c =
+    omega (
+      arith,
+      c.start.ensures,
+      c.cut-place.ensures.bound,
+      ap length c.block.ensures.block,
+      c.locate-k.ensures.within,
+      start_of-suc c.args.self.now.blocks c.locate-k.result c.locate-k.ensures.within,
+      start_of-le c.args.self.now.blocks (suc c.locate-k.result) (length c.args.self.now.blocks) (omega (arith, c.locate-k.ensures.within)),
+      start_of-all c.args.self.now.blocks,
+    )
+
+pub overflow_add-result : goal.overflow_add-result
+overflow_add-result g c =
+    omega (arith, returns-then-is_enclosed-clause-bound g c, joined-most c.args.self.now.blocks c.locate-k.ensures.kept, c.locate-k.ensures.few)
+
+pub returns-then-is_enclosed-clause-partitioned : goal.returns-then-is_enclosed-clause-partitioned
+returns-then-is_enclosed-clause-partitioned g c p computes parted =
+    let block = c.block.ensures.block in
+    let point = c.cut-place.ensures.partitioned p computes
+    (subst (λ (xs : List _). IsPartitionedBy p xs) (sym block) (block-parted p c.args.self.now.blocks c.locate-k.ensures.kept parted c.locate-k.result c.locate-k.ensures.within)) in
+    subst (λ (n : ℕ). IsPartitionPoint (λ x. p x ≡ true) (λ x. p x ≡ false) (joined c.args.self.now.blocks) (n + c.cut-place.result)) (sym c.start.ensures)
+    (found-enclosed p c.args.self.now.blocks c.locate-k.ensures.kept parted c.locate-k.result c.cut-place.result c.locate-k.ensures.within
+    (c.is_enclosed.ensures.front c.if-is_enclosed.true) (c.is_enclosed.ensures.behind c.if-is_enclosed.true) (omega (arith, c.cut-place.ensures.bound, ap length block))
+    (subst (λ (xs : List _). IsPartitionPoint (λ x. p x ≡ true) (λ x. p x ≡ false) xs c.cut-place.result) block point))
