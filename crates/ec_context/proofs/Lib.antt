@@ -1,7 +1,9 @@
 pub mod Tables
 pub mod Keepings
 pub mod Shown
-pub mod Rules
+pub mod PlaceLemmas
+pub mod IndexLemmas
+pub mod RuleEntries
 pub mod Limits
 pub mod NewNumbers
 pub mod EntryLists

@@ -1,3 +1,4 @@
 pub mod Entries
 pub mod Activity
 pub mod Widened
+pub mod RulePlaces

@@ -1,5 +1,5 @@
 //! The entries of an event.
-ghost use Rattle.std.specs.Prelude.{◌≡◌, ◌≤◌, ℕ, Some, IsTrue, IsSome, IfOk, OnErr, All, length, map, option_map};
+ghost use Rattle.std.specs.Prelude.{◌≡◌, ◌<◌, ◌≤◌, ℕ, Some, IsTrue, IsSome, IfOk, OnErr, All, length, slice_get, map, option_map};
 ghost use Rattle.std.specs.List.{list_any};
 ghost use Rattle.std.specs.Option.{option_to_list};
 ghost use Rattle.ec_terms.specs.Binding.{fills, stands_in, values_of, IsSmall};
@@ -8,12 +8,13 @@ ghost use Rattle.ec_terms.specs.Matchable.{IsMatchable, IsMatchableRule};
 ghost use Rattle.ec_terms.specs.Term.{ground_of, names_are_names};
 ghost use Rattle.ec_check.specs.WellFormed.{IsWellFormed};
 ghost use Rattle.ec_context.specs.Entries.{entry_filled, shown_literal, shown_literals, shown_entry, shown_entries, IsKeptEntry, IsEntryList, NamesAllNew, is_named, is_of};
+ghost use Rattle.ec_context.specs.RulePlaces.{ArePlacesFor};
 ghost use Rattle.ec_context.specs.Widened.{AddsOnly, AreUnmentioned, HasKept, IsWidened};
 
 use crate::entry::{Entry, EntryList, EntryLiteral, EntryLiterals, MOST_LITERALS};
 use crate::keeping::{forget_each, keep};
+use crate::rules::Rules;
 use ec_axioms::Event;
-use ec_check::Checked;
 use ec_moment::Moment;
 use ec_props::PropTable;
 use ec_terms::{
@@ -121,16 +122,32 @@ fn entry_of<'a>(
     Ok(Some(entry))
 }
 
-/// The entries of an event under the rules of a theory, numbered from 1.
+/// The rule at a place, from 0.
+fn rule_at(theory: &Theory, place: usize) -> &Rule
+    requires matchable { IsMatchable theory.now }
+    requires well_formed { IsWellFormed theory.now }
+    requires within { place < length theory.now.rules }
+    ensures rule { slice_get theory.now.rules place ≡ Some result.now }
+    ensures matchable { IsMatchableRule result.now }
+    ensures few { length result.now.literals ≤ MOST_LITERALS }
+{
+    let rules = theory.rules.as_slice();
+    &rules[place]
+}
+
+/// The entries of an event under the rules of a theory at the places of those for such events. Rules are numbered
+/// from 1.
 fn gather<'a>(
     alloc: Global,
     theory: &'a Theory,
+    places: &[u16],
     event: &GroundRef<'a>,
     props: &mut PropTable,
     added: &mut Vec<PropId>,
 ) -> Result<EntryList, NoMemory>
     requires matchable { IsMatchable theory.now }
     requires well_formed { IsWellFormed theory.now }
+    requires places { ArePlacesFor (ground_of event.now) theory.now.rules places.now }
     requires named { IsTrue (names_are_names (ground_of event.now)) }
     requires unmentioned { AreUnmentioned added.old.items props.old }
     ensures kept { HasKept props.old added.old.items props.new added.new.items }
@@ -138,35 +155,41 @@ fn gather<'a>(
     ensures added { IfOk result (λ entries. AddsOnly (λ id. list_any (is_named id) entries) added.old.items added.new.items) }
 {
     let mut entries = EntryList::new(alloc);
-    for (i, rule) in theory.rules.as_slice().iter().enumerate() {
-        if let Some(entry) = entry_of(alloc, (i + 1) as u16, rule, event, props, added)? {
+    for place in places {
+        let rule = rule_at(theory, *place as usize);
+        let number = *place + 1;
+        if let Some(entry) = entry_of(alloc, number, rule, event, props, added)? {
             entries.push(entry)?;
         }
     }
     Ok(entries)
 }
 
-/// The entries of an event by a theory, in the order of the rules' numbers. The properties of their heads and their
-/// literals are kept in the table from then on, and those that are new are mentioned 0 times. `Err`: memory ran out,
-/// and the table is as it was.
+/// The entries of an event by a theory, in the order of the rules' numbers. Only the rules whose event has the name and
+/// the number of arguments of the event's term are tried. The properties of their heads and their literals are kept in
+/// the table from then on, and those that are new are mentioned 0 times. `Err`: memory ran out, and the table is as it
+/// was.
 pub fn entries_of<T: Moment>(
     alloc: Global,
-    checked: &Checked,
+    rules: &Rules,
     event: &Event<T>,
     props: &mut PropTable,
 ) -> Result<EntryList, NoMemory>
-    ensures entries { IfOk result (λ entries. shown_entries props.new entries ≡ Some (all_entries checked.now event.now.term)) }
+    ensures entries { IfOk result (λ entries. shown_entries props.new entries ≡ Some (all_entries rules.now event.now.term)) }
     ensures kept { IfOk result (λ entries. All (IsKeptEntry props.new) entries) }
     ensures list { IfOk result IsEntryList }
     ensures named { IfOk result (λ entries. NamesAllNew props.old props.new entries) }
     ensures widened { IsWidened props.old props.new }
     ensures err { OnErr result (props.new ≡ props.old) }
 {
+    let term = &event.term;
+    let places = rules.places_for(term.name.as_bytes(), term.args.len());
     let mut added = Vec::new(alloc);
     match gather(
         alloc,
-        checked.theory(),
-        &event.term.borrow(),
+        rules.theory(),
+        places,
+        &term.borrow(),
         props,
         &mut added,
     ) {

@@ -6,6 +6,7 @@ mod entries;
 mod entry;
 mod keeping;
 mod laws;
+mod rules;
 #[cfg(test)]
 mod tests;
 
@@ -13,3 +14,4 @@ pub use activity::evaluate;
 pub use entries::entries_of;
 pub use entry::{Entry, EntryList, EntryLiteral, EntryLiterals, MOST_ENTRIES, MOST_LITERALS};
 pub use laws::evaluating_is_activity_law;
+pub use rules::Rules;

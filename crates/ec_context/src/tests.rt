@@ -1,9 +1,8 @@
 //! What no clause shows: that memory is given, and the entries of worked events and when they are active.
 ghost use Rattle.std.specs.Prelude.{◌≡◌, ◌<◌};
 
-use crate::{Entry, EntryList, EntryLiteral, entries_of, evaluate};
+use crate::{Entry, EntryList, EntryLiteral, Rules, entries_of, evaluate};
 use ec_axioms::{Current, Event, Steps};
-use ec_check::Checked;
 use ec_moment::Tick;
 use ec_props::PropTable;
 use ec_terms::{Kind, Name, NoMemory, PropId, read_ground};
@@ -117,12 +116,12 @@ fn is_entry(rt: &impl Abort, props: &PropTable, entry: &Entry, wanted: &Wanted) 
 fn entries(
     rt: &impl Abort,
     alloc: Global,
-    checked: &Checked,
+    rules: &Rules,
     event: &Event<Tick>,
     props: &mut PropTable,
 ) -> Result<EntryList, NoMemory> {
     let count = props.len();
-    match entries_of(alloc, checked, event, props) {
+    match entries_of(alloc, rules, event, props) {
         Ok(entries) => Ok(entries),
         Err(NoMemory) => {
             assert!(rt; props.len() == count);
@@ -148,12 +147,12 @@ fn are_entries(rt: &impl Abort, props: &PropTable, found: &[Entry], wanted: &[Wa
 fn row_stands(
     rt: &impl Abort,
     alloc: Global,
-    checked: &Checked,
+    rules: &Rules,
     props: &mut PropTable,
     row: &Row,
 ) -> Result<bool, NoMemory> {
     let event = event(rt, alloc, row.0)?;
-    let found = entries(rt, alloc, checked, &event, props)?;
+    let found = entries(rt, alloc, rules, &event, props)?;
     Ok(are_entries(rt, props, found.as_slice(), row.1))
 }
 
@@ -161,13 +160,13 @@ fn row_stands(
 fn rows_stand(
     rt: &impl Abort,
     alloc: Global,
-    checked: &Checked,
+    rules: &Rules,
     rows: &[Row],
     count: usize,
 ) -> Result<bool, NoMemory> {
     let mut props = PropTable::new(alloc)?;
     for row in rows {
-        if !row_stands(rt, alloc, checked, &mut props, row)? {
+        if !row_stands(rt, alloc, rules, &mut props, row)? {
             return Ok(false);
         }
     }
@@ -176,9 +175,46 @@ fn rows_stand(
 
 #[test]
 fn events_have_their_entries(rt: HostRuntime) -> Result<(), Fail> {
-    let checked = accept(rt.alloc(), RULES)?;
+    let rules = Rules::new(rt.alloc(), accept(rt.alloc(), RULES)?)?;
     // lit(l1), powered(l1), at(bob,home), at(home,home), still(home), lit(l2), powered(l2), moved(l2)
-    assert!(rt; rows_stand(&rt, rt.alloc(), &checked, &ROWS, 8)?);
+    assert!(rt; rows_stand(&rt, rt.alloc(), &rules, &ROWS, 8)?);
+    Ok(())
+}
+
+/// Rules for events of two names and two numbers of arguments, mixed with one another.
+const MIXED_RULES: &[u8] = b"initiates push(L) lit(L).
+initiates push(P,L) held(P,L).
+initiates ring(L) heard(L).
+terminates push(L) dark(L).
+terminates ring(P,L) asked(P).
+";
+
+const MIXED_ROWS: [Row; 6] = [
+    (
+        b"push(l1)",
+        &[
+            (1, Kind::Initiates, b"lit(l1)", &[]),
+            (4, Kind::Terminates, b"dark(l1)", &[]),
+        ],
+    ),
+    (
+        b"push(bob,l1)",
+        &[(2, Kind::Initiates, b"held(bob,l1)", &[])],
+    ),
+    (b"ring(l1)", &[(3, Kind::Initiates, b"heard(l1)", &[])]),
+    (
+        b"ring(bob,l1)",
+        &[(5, Kind::Terminates, b"asked(bob)", &[])],
+    ),
+    (b"ring", &[]),
+    (b"plug(l1)", &[]),
+];
+
+#[test]
+fn events_have_entries_by_name_and_number_of_arguments(rt: HostRuntime) -> Result<(), Fail> {
+    let rules = Rules::new(rt.alloc(), accept(rt.alloc(), MIXED_RULES)?)?;
+    // lit(l1), dark(l1), held(bob,l1), heard(l1), asked(bob)
+    assert!(rt; rows_stand(&rt, rt.alloc(), &rules, &MIXED_ROWS, 5)?);
     Ok(())
 }
 
@@ -242,7 +278,7 @@ fn are_active<L: Ledger>(
 fn cases_stand<L: Ledger>(
     rt: &impl Abort,
     alloc: Global,
-    checked: &Checked,
+    rules: &Rules,
     cases: &[Case],
     blank: Blank,
 ) -> Result<bool, NoMemory>
@@ -253,7 +289,7 @@ fn cases_stand<L: Ledger>(
     let mut steps = Steps::<L>::new(blank);
     let mut props = PropTable::new(alloc)?;
     let push = event(rt, alloc, b"push(bob,l1)")?;
-    let found = entries(rt, alloc, checked, &push, &mut props)?;
+    let found = entries(rt, alloc, rules, &push, &mut props)?;
     for (spelt, wanted) in cases {
         let listed = numbers(rt, alloc, &props, *spelt)?;
         let current = Listed { props: &listed };
@@ -266,7 +302,7 @@ fn cases_stand<L: Ledger>(
 
 #[test]
 fn entries_are_active_where_their_literals_agree(rt: HostRuntime) -> Result<(), Fail> {
-    let checked = accept(rt.alloc(), RULES)?;
-    assert!(rt; cases_stand::<Brand>(&rt, rt.alloc(), &checked, &CASES, Blank::new(1))?);
+    let rules = Rules::new(rt.alloc(), accept(rt.alloc(), RULES)?)?;
+    assert!(rt; cases_stand::<Brand>(&rt, rt.alloc(), &rules, &CASES, Blank::new(1))?);
     Ok(())
 }

@@ -1,14 +1,22 @@
 -- From no new numbers on: what is new is unmentioned, and without it the table is as it was.
-use Rattle.std.proofs.Common.{[], sym, subst, ◌∙◌}
+use Rattle.std.proofs.Common.{[], sym, ap, subst, ◌∙◌}
 use Rattle.std.proofs.lemmas.List.{append-nil}
 use Rattle.ec_context.proofs.Keepings.{AreUnmentioned-none, HasKept-first, IsWidened-kept, IsWidened-same, forgotten}
+use Rattle.ec_terms.specs.declared.theory.Theory.{Theory}
 use Rattle.ec_terms.specs.Domain.{entries_of}
 use Rattle.ec_terms.specs.Term.{ground_of}
 use Rattle.ec_check.specs.WellFormed.{IsWellFormed}
 use Rattle.ec_context.proofs.EntryLists.{IsEntryList-shown}
+use Rattle.ec_context.proofs.PlaceLemmas.{ArePlacesFor-named}
 use Rattle.ec_context.proofs.Shown.{IsKeptEntry-shown}
 use Rattle.ec_context.proofs.NewNumbers.{names_all_new}
 use Rattle.ec_context.proofs.entries.entries_of.Goals as goal
+
+pub gather-requires-clause-places : goal.gather-requires-clause-places
+gather-requires-clause-places g c =
+    ArePlacesFor-named (ground_of c.borrow.result) c.args.event.now.term c.as_bytes.result.now c.len.result c.args.rules.now.rules c.theory.result.now.rules
+    c.places_for-places.result.now c.places_for-places.ensures c.as_bytes.ensures.bytes c.len.ensures.count c.borrow.ensures.same
+    (ap (λ (t : Theory). t.rules) c.theory.ensures.theory)
 
 pub gather-requires-clause-unmentioned : goal.gather-requires-clause-unmentioned
 gather-requires-clause-unmentioned g c = AreUnmentioned-none c.new-added.result.items c.args.props.now c.new-added.ensures.items

@@ -4,7 +4,7 @@ use Rattle.ec_terms.specs.Binding.{values_of}
 use Rattle.ec_terms.specs.Term.{ground_of}
 use Rattle.ec_terms.proofs.Exclusion.{false-from_none}
 use Rattle.ec_axioms.proofs.Givens.{are_ready-given, is_some-fits}
-use Rattle.ec_context.proofs.Rules.{entry_of-met, entry_of-no_fit, entry_of-no_tests}
+use Rattle.ec_context.proofs.RuleEntries.{entry_of-met, entry_of-no_fit, entry_of-no_tests}
 use Rattle.ec_context.proofs.NewNumbers.{AddsOnly-one, AddsOnly-same}
 use Rattle.ec_context.proofs.entries.entry_of.Goals as goal
 
