@@ -29,7 +29,7 @@ module _ {K : Type 0} (stands : K → List ℕ → Type 0) (faults : K → ℕ) 
   not_unread (inl rose) = fine rose
   not_unread (inr missing) = HasFile-not_missing file missing
 
-  -- of a file that was read, the line was told, or memory was wanting
+  -- of a file that was read, the line was told, or memory ran out
   told_or_memory : (s : Status) → SaysRefused stands faults told name before after old new Refuses s → (s ≡ status.BadTheory) ⊎ (s ≡ status.NoMemory)
   told_or_memory status.Done says = absurd says
   told_or_memory status.NoShape says = absurd says
@@ -40,7 +40,7 @@ module _ {K : Type 0} (stands : K → List ℕ → Type 0) (faults : K → ℕ) 
   told_or_memory status.FolderFault says = absurd (not_unread says.1)
   told_or_memory status.LimitReached says = absurd says
 
-  -- where nothing refuses it, memory was wanting
+  -- where nothing refuses it, memory ran out
   only_memory : ((text : List ℕ) → Refuses text → ⊥) → (s : Status) → SaysRefused stands faults told name before after old new Refuses s → s ≡ status.NoMemory
   only_memory never status.Done says = absurd says
   only_memory never status.NoShape says = absurd says

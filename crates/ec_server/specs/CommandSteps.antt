@@ -10,7 +10,7 @@ use Rattle.ec_outside.specs.Streams.{Appended, AppendedPart}
 use Rattle.ec_server.specs.declared.handled.Handled.{Handled}
 use Rattle.ec_server.specs.declared.handled.Handled.TheVariants.{Go, Bye, WriteFault}
 
--- the answer to an update and the list after it: `ok` and the list that the update leaves, or, where memory was wanting, that
+-- the answer to an update and the list after it: `ok` and the list that the update leaves, or, where memory ran out, that
 -- answer and the list as it was; the refusal of the update, and the list as it was
 abbrev pub IsUpdated : Result (List PlainEvent) Cut → List PlainEvent → PlainAnswer → List PlainEvent → Type 0
 IsUpdated (Ok events) before answer after = ((answer ≡ answer_ok) × (after ≡ events)) ⊎ ((answer ≡ refused_memory) × (after ≡ before))
@@ -36,13 +36,13 @@ pub record IsCommandReply (theory : Theory) (before : State) (command : PlainCom
   pub reply_is : (session : Option ℕ) → command_reply theory session before command ≡ record { text = answer_line session answer; after = after }
   pub quits : answers_quit answer ≡ command_quits command
 
--- a command is refused for want of memory, and leaves the state as it was
+-- a command is refused because memory ran out, and leaves the state as it was
 pub record IsCommandMemoryRefusal (before : State) (command : PlainCommand) (answer : Option PlainAnswer) (after : State) : Type 0 where
   pub may : IsTrue (command_may_want_memory before command)
   pub answer_is : answer ≡ Some refused_memory
   pub after_is : after ≡ before
 
--- a command is answered by its reply, or it is an update that is refused for want of memory
+-- a command is answered by its reply, or it is an update that is refused because memory ran out
 abbrev pub CommandStep : Theory → State → PlainCommand → Option PlainAnswer → State → Type 0
 CommandStep theory before command answer after = IsCommandReply theory before command answer after ⊎ IsCommandMemoryRefusal before command answer after
 

@@ -21,7 +21,7 @@ pub record IsFaulty (bytes text : List ℕ) : Type 0 where
   pub has : HasFault bytes fault
   pub said : fault_text fault ≡ Some text
 
--- why bytes are no theory; want of memory says nothing of them
+-- why bytes are no theory; that memory ran out says nothing of them
 abbrev pub IsBytesReason : List ℕ → NoTheory → Type 0
 IsBytesReason bytes FolderFault = ⊥
 IsBytesReason bytes NoMemory = Unit {0}

@@ -36,14 +36,14 @@ at_place place name = place_text place ++ codes " " ++ name
 unfoldable pub in_clause : ℕ → List ℕ → List ℕ
 in_clause clause name = decimal clause ++ codes " " ++ name
 
--- a fault of the tokens; none for want of memory
+-- a fault of the tokens; none if memory ran out
 unfoldable pub token_text : TokenFault → Option (List ℕ)
 token_text (token.BadByte place) = Some (at_place place (codes "byte"))
 token_text (token.LongName place) = Some (at_place place (codes "long-name"))
 token_text (token.BigNumber place) = Some (at_place place (codes "number"))
 token_text token.Memory = None
 
--- a fault of the syntax; none for want of memory
+-- a fault of the syntax; none if memory ran out
 unfoldable pub syntax_text : SyntaxFault → Option (List ℕ)
 syntax_text (syntax_fault.Syntax place) = Some (at_place place (codes "syntax"))
 syntax_text syntax_fault.Memory = None
@@ -66,7 +66,7 @@ wrong_text (wrong.TooMany what clause) = in_clause clause (many_text what)
 wrong_text (wrong.AnyInHead clause) = in_clause clause (codes "any")
 wrong_text (wrong.Unbound clause v) = in_clause clause (codes "unbound")
 
--- what is said of bytes with a fault; none for want of memory
+-- what is said of bytes with a fault; none if memory ran out
 unfoldable pub fault_text : Refused → Option (List ℕ)
 fault_text (refused.Tokens fault) = token_text fault
 fault_text (refused.Syntax fault) = syntax_text fault

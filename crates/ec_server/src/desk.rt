@@ -158,7 +158,7 @@ impl<T: Moment> Desk<T> {
     }
 }
 
-/// Keeps an event, whose term gets names of its own. Only want of memory refuses it, and then the list
+/// Keeps an event, whose term gets names of its own. It is refused only if memory ran out, and then the list
 /// is as it was.
 fn keep<T: Moment>(
     alloc: Global,

@@ -26,7 +26,7 @@ fn read_piece<S: Source>(
     left: u64,
 ) -> Result<usize, Failed>
     requires { 0 < left }
-    ensures within { IfOk result (λ count. (count ≤ 4096) × (count ≤ left)) }
+    ensures within { IfOk result (λ count. (count ≤ PIECE) × (count ≤ left)) }
     ensures took { IfOk result (λ count. Took (S.left input.old) (S.left input.new) (take count buffer.new)) }
     ensures end { IfOk result (λ count. count ≡ 0 → IsAtEnd (S.left input.new)) }
     ensures unchanged { OnErr result (S.left input.new ≡ S.left input.old) }

@@ -28,7 +28,7 @@ fn is_before<T: Moment>(event: &Event<T>, other: &Event<T>) -> bool
     }
 }
 
-/// Puts an event in its place. Only want of memory refuses it, and then the list is as it was.
+/// Puts an event in its place. It is refused only if memory ran out, and then the list is as it was.
 pub fn insert<T: Moment>(events: &mut Vec<Event<T>>, event: Event<T>) -> Result<(), NoMemory>
     ensures ok { OnOk result (map (event_of T.rank) events.new.items ≡ with_event (event_of T.rank event) (map (event_of T.rank) events.old.items)) }
     ensures err { OnErr result (events.new.items ≡ events.old.items) }

@@ -17,7 +17,7 @@ pub enum Status {
     ReadFault,
     /// The output failed.
     WriteFault,
-    /// Memory was wanting before anything was written.
+    /// Memory ran out before anything was written.
     NoMemory,
     /// A file could not be read.
     FolderFault,

@@ -18,7 +18,7 @@ use std::alloc::Global;
 pub(crate) enum NoTheory {
     /// The file could not be read.
     FolderFault,
-    /// Memory was wanting.
+    /// Memory ran out.
     NoMemory,
     /// The file is no theory, or one that is not served, and this is said of it.
     Said(ReplyText),

@@ -38,7 +38,7 @@ fn in_clause(clause: u32, name: &[u8]) -> ReplyText
     text
 }
 
-/// The name of a fault of the tokens; none for want of memory.
+/// The name of a fault of the tokens; none if memory ran out.
 #[tactic(auto, unfolding(crate::specs::TheoryFiles::token_text))]
 fn token_text(fault: TokenFault) -> Option<ReplyText>
     ensures text { result ≡ token_text fault }
@@ -52,7 +52,7 @@ fn token_text(fault: TokenFault) -> Option<ReplyText>
     }
 }
 
-/// The name of a fault of syntax; none for want of memory.
+/// The name of a fault of syntax; none if memory ran out.
 #[tactic(auto, unfolding(crate::specs::TheoryFiles::syntax_text))]
 fn syntax_text(fault: SyntaxFault) -> Option<ReplyText>
     ensures text { result ≡ syntax_text fault }
@@ -96,7 +96,7 @@ fn wrong_text(fault: CheckFault) -> ReplyText
     }
 }
 
-/// What is said of bytes with a fault; none for want of memory.
+/// What is said of bytes with a fault; none if memory ran out.
 #[tactic(auto, unfolding(crate::specs::TheoryFiles::fault_text))]
 pub(crate) fn fault_text(refused: Refused) -> Option<ReplyText>
     ensures text { result ≡ fault_text refused }

@@ -27,7 +27,7 @@ use std::string::String;
 /// Theories are read from `files`, lines from `input`; what is to be said is written to `output`. The statuses are: 0 the input
 /// was read to its end or to `quit`, or the theory is accepted; 2 the words have no shape; 3 the theory is not accepted; 4 the input
 /// failed; 5 the output failed; 6 memory ran out before anything was written; 7 a file could not be read; 8 as many bytes of
-/// input were taken as may be.
+/// input were taken as may be. What is said of bytes taken and left says nothing where the source does not tell what it has left.
 pub fn run<F: Folder, S: Source, K: Sink>(
     alloc: Global,
     words: &[String],
@@ -46,8 +46,8 @@ pub fn run<F: Folder, S: Source, K: Sink>(
         ¬ Rose (S.faults input.old) (S.faults input.new) → ¬ Rose (K.faults output.old) (K.faults output.new) →
         (result ≡ 0) ⊎ (result ≡ 6) }
 
-    // Then nothing is left of the input, or `quit` is among the whole lines of what was taken; and the theory was one that is
-    // accepted and served, also where the source does not tell what it has left.
+    // With 0 nothing is left of the input, or `quit` is among the whole lines of what was taken. With 0 and with 8 the theory was
+    // accepted and is one that is served, also where the source does not tell what it has left.
     ensures ended { result ≡ 0 → (name : List ℕ) → asked words.now ≡ Some (serve_theory name) →
         (taken : List ℕ) × Took (S.left input.old) (S.left input.new) taken × (IsAtEnd (S.left input.new) ⊎ (has_quit number_value (whole_lines taken) ≡ true)) }
     ensures served { (result ≡ 0) ⊎ (result ≡ 8) → (name : List ℕ) → asked words.now ≡ Some (serve_theory name) → IsSome (F.files files.old) →
@@ -63,6 +63,7 @@ pub fn run<F: Folder, S: Source, K: Sink>(
         (text : List ℕ) × IsRefused shape (F.files files.old) text × Wrote K.stands K.faults output.old output.new (theory_line text) }
     ensures refuses { (shape : PlainShape) (text : List ℕ) → asked words.now ≡ Some shape → IsRefused shape (F.files files.old) text →
         ¬ Rose (F.faults files.old) (F.faults files.new) → (result ≡ 3) ⊎ (result ≡ 6) }
+    // A file is found too long only if no call on the folder failed.
     ensures long_file { result ≡ 3 → (shape : PlainShape) → asked words.now ≡ Some shape → IsTooLong (F.files files.old) (theory_name shape) most_theory_bytes →
         ¬ Rose (F.faults files.old) (F.faults files.new) }
 
@@ -77,6 +78,7 @@ pub fn run<F: Folder, S: Source, K: Sink>(
         S.left input.old ≡ Some text → IsLong (in_ticks theory) most_input text → ¬ Rose (F.faults files.old) (F.faults files.new) →
         ¬ Rose (S.faults input.old) (S.faults input.new) → ¬ Rose (K.faults output.old) (K.faults output.new) →
         (result ≡ 8) ⊎ (result ≡ 6) }
+    // Exactly the first bytes were taken, as many as the limit allows.
     ensures rest { result ≡ 8 → (text : List ℕ) → S.left input.old ≡ Some text → S.left input.new ≡ Some (drop most_input text) }
 
     // With any status no more is taken than the limit allows, and nothing where a theory is only checked.

@@ -1,4 +1,4 @@
--- The event is refused as a duplicate, kept, or not kept for want of memory.
+-- The event is refused as a duplicate, kept, or not kept because memory ran out.
 use Rattle.std.proofs.Common.{true, false, map, List, IsTrue, refl, sym, ap, subst}
 use Rattle.ec_terms.specs.Term.{ground_of}
 use Rattle.ec_axioms.specs.Calculus.{PlainEvent}
