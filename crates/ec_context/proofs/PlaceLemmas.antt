@@ -1,5 +1,6 @@
 -- The places of the rules for some events: one rule more, that a rule stands at each, and where a rule is not for an event.
 use Rattle.std.proofs.Common.{◌≡◌, ◌<◌, ◌+◌, ℕ, zero, suc, Bool, true, false, cond, List, [], ◌∷◌, ◌++◌, length, take, get_or, refl, sym, ap, ap₂, ◌∙◌, arith}
+use Rattle.std.specs.Prelude.{filter}
 use Rattle.std.proofs.lemmas.List.{append-nil, length-take-le, take_more}
 use Rattle.ec_terms.specs.declared.ground.Ground.{Ground}
 use Rattle.ec_terms.specs.declared.theory.Rule.{Rule}
@@ -52,6 +53,20 @@ unfolding places_from
 places_for-none name arity = refl
 
 -- ---- a rule stands at each place
+
+as_many_first : (b : Bool) (place : ℕ) (places : List ℕ) (rule : Rule) (rules : List Rule) → length places ≡ length rules →
+    length (cond b (place ∷ places) places) ≡ length (cond b (rule ∷ rules) rules)
+as_many_first true place places rule rules is = ap suc is
+as_many_first false place places rule rules is = is
+
+-- there are as many places as such rules
+pub length-places_from : (place : ℕ) (name : List ℕ) (arity : ℕ) (rules : List Rule) →
+    length (places_from place name arity rules) ≡ length (filter (is_for name arity) rules)
+unfolding places_from
+length-places_from place name arity [] = refl
+length-places_from place name arity (r ∷ rules) =
+    as_many_first (is_for name arity r) place (places_from (place + 1) name arity rules) r (filter (is_for name arity) rules)
+    (length-places_from (place + 1) name arity rules)
 
 within_first : (b : Bool) (place count : ℕ) (later : List ℕ) → ((j : ℕ) → j < length later → get_or later j 0 < place + 1 + count) →
     (i : ℕ) → i < length (cond b (place ∷ later) later) → get_or (cond b (place ∷ later) later) i 0 < place + suc count

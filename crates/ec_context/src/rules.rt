@@ -5,7 +5,7 @@ ghost use Rattle.ec_props.specs.ByText.{found_at};
 ghost use Rattle.ec_context.specs.RulePlaces.{IsIndex, is_for as is_rule_for, listed, places_for};
 
 use arrayvec::ArrayVec;
-use ec_check::{Checked, MOST_RULES};
+use ec_check::{Checked, MOST_EVENT_RULES, MOST_RULES};
 use ec_terms::{LONGEST_NAME, MOST_ARGS, NoMemory, Rule, Theory};
 use indexmap::IndexMap;
 use std::alloc::Global;
@@ -27,13 +27,14 @@ pub struct Rules {
 
 impl Model for Rules {
     ghost use Rattle.ec_terms.specs.declared.theory.Theory.{Theory};
+    ghost use Rattle.ec_check.specs.WellFormed.{IsWellFormed};
     ghost use Rattle.ec_context.specs.RulePlaces.{IsIndex};
 
     ghost Value = { Theory };
 
     ghost view = { λ rules. rules.checked };
 
-    ghost invariant = { λ rules. IsIndex rules.checked.rules rules.index };
+    ghost invariant = { λ rules. IsWellFormed rules.checked × IsIndex rules.checked.rules rules.index };
 }
 
 impl Rules {
@@ -61,7 +62,8 @@ impl Rules {
     pub(crate) fn places_for(&self, name: &[u8], arity: usize) -> &[u16]
         requires short { length name.now ≤ LONGEST_NAME }
         requires few { arity ≤ MOST_ARGS }
-        ensures { result.now ≡ places_for name.now arity self.now.rules }
+        ensures places { result.now ≡ places_for name.now arity self.now.rules }
+        ensures few { length result.now ≤ MOST_EVENT_RULES }
     {
         match self.index.get(key_of(name, arity).as_slice()) {
             Some(places) => places.as_slice(),

@@ -15,7 +15,7 @@ use Rattle.ec_context.proofs.entries.entries_of.Goals as goal
 pub gather-requires-clause-places : goal.gather-requires-clause-places
 gather-requires-clause-places g c =
     ArePlacesFor-named (ground_of c.borrow.result) c.args.event.now.term c.as_bytes.result.now c.len.result c.args.rules.now.rules c.theory.result.now.rules
-    c.places_for-places.result.now c.places_for-places.ensures c.as_bytes.ensures.bytes c.len.ensures.count c.borrow.ensures.same
+    c.places_for-places.result.now c.places_for-places.ensures.places c.as_bytes.ensures.bytes c.len.ensures.count c.borrow.ensures.same
     (ap (λ (t : Theory). t.rules) c.theory.ensures.theory)
 
 pub gather-requires-clause-unmentioned : goal.gather-requires-clause-unmentioned
