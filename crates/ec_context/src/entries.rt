@@ -167,13 +167,14 @@ fn gather<'a>(
 
 /// The entries of an event by a theory, in the order of the rules' numbers. Only the rules whose event has the name and
 /// the number of arguments of the event's term are tried. The properties of their heads and their literals are kept in
-/// the table from then on, and those that are new are mentioned 0 times. `Err`: memory ran out, and the table is as it
-/// was.
+/// the table from then on, and those that are new are mentioned 0 times. `added` is a list to work with, so that its room
+/// serves again: what it holds before and afterwards has no meaning. `Err`: memory ran out, and the table is as it was.
 pub fn entries_of<T: Moment>(
     alloc: Global,
     rules: &Rules,
     event: &Event<T>,
     props: &mut PropTable,
+    added: &mut Vec<PropId>,
 ) -> Result<EntryList, NoMemory>
     ensures entries { IfOk result (λ entries. shown_entries props.new entries ≡ Some (all_entries rules.now event.now.term)) }
     ensures kept { IfOk result (λ entries. All (IsKeptEntry props.new) entries) }
@@ -184,18 +185,11 @@ pub fn entries_of<T: Moment>(
 {
     let term = &event.term;
     let places = rules.places_for(term.name.as_bytes(), term.args.len());
-    let mut added = Vec::new(alloc);
-    match gather(
-        alloc,
-        rules.theory(),
-        places,
-        &term.borrow(),
-        props,
-        &mut added,
-    ) {
+    added.clear();
+    match gather(alloc, rules.theory(), places, &term.borrow(), props, added) {
         Ok(entries) => Ok(entries),
         Err(refused) => {
-            forget_each(props, &mut added);
+            forget_each(props, added);
             Err(refused)
         }
     }

@@ -121,7 +121,8 @@ fn entries(
     props: &mut PropTable,
 ) -> Result<EntryList, NoMemory> {
     let count = props.len();
-    match entries_of(alloc, rules, event, props) {
+    let mut added = Vec::new(alloc);
+    match entries_of(alloc, rules, event, props, &mut added) {
         Ok(entries) => Ok(entries),
         Err(NoMemory) => {
             assert!(rt; props.len() == count);

@@ -19,21 +19,21 @@ gather-requires-clause-places g c =
     (ap (λ (t : Theory). t.rules) c.theory.ensures.theory)
 
 pub gather-requires-clause-unmentioned : goal.gather-requires-clause-unmentioned
-gather-requires-clause-unmentioned g c = AreUnmentioned-none c.new-added.result.items c.args.props.now c.new-added.ensures.items
+gather-requires-clause-unmentioned g c = AreUnmentioned-none c.clear.new.self.items c.args.props.now c.clear.ensures.items
 
 pub returns-in-Ok-clause-widened : goal.returns-in-Ok-clause-widened
 returns-in-Ok-clause-widened g c =
     IsWidened-kept c.args.props.now c.gather.new.props c.gather.new.added.items
-    (HasKept-first c.args.props.now c.gather.new.props c.new-added.result.items c.gather.new.added.items c.new-added.ensures.items c.gather.ensures.kept)
+    (HasKept-first c.args.props.now c.gather.new.props c.clear.new.self.items c.gather.new.added.items c.clear.ensures.items c.gather.ensures.kept)
 
-pub returns-clause-err : goal.returns-clause-err
-returns-clause-err g c =
+pub returns-in-Err-clause-err : goal.returns-in-Err-clause-err
+returns-in-Err-clause-err g c =
     c.forget_each.ensures
     ∙ forgotten c.args.props.now c.gather.new.props c.gather.new.added.items
-    (HasKept-first c.args.props.now c.gather.new.props c.new-added.result.items c.gather.new.added.items c.new-added.ensures.items c.gather.ensures.kept)
+    (HasKept-first c.args.props.now c.gather.new.props c.clear.new.self.items c.gather.new.added.items c.clear.ensures.items c.gather.ensures.kept)
 
-pub returns-clause-widened : goal.returns-clause-widened
-returns-clause-widened g c = IsWidened-same c.args.props.now c.forget_each.new.props (returns-clause-err g c)
+pub returns-in-Err-clause-widened : goal.returns-in-Err-clause-widened
+returns-in-Err-clause-widened g c = IsWidened-same c.args.props.now c.forget_each.new.props (returns-in-Err-clause-err g c)
 
 pub returns-in-Ok-clause-kept : goal.returns-in-Ok-clause-kept
 returns-in-Ok-clause-kept g c = IsKeptEntry-shown c.gather.new.props c.in-Ok.entries _ c.in-Ok.ensures.shown
@@ -45,4 +45,4 @@ returns-in-Ok-clause-list g c =
 
 pub returns-in-Ok-clause-named : goal.returns-in-Ok-clause-named
 returns-in-Ok-clause-named g c =
-    names_all_new c.args.props.now c.gather.new.props c.new-added.result.items c.gather.new.added.items c.in-Ok.entries c.new-added.ensures.items c.gather.ensures.kept c.in-Ok.ensures.added
+    names_all_new c.args.props.now c.gather.new.props c.clear.new.self.items c.gather.new.added.items c.in-Ok.entries c.clear.ensures.items c.gather.ensures.kept c.in-Ok.ensures.added
