@@ -12,3 +12,6 @@ pub mod OneMark
 mod PassOrder
 mod Written
 mod FirstBroken
+mod ChangedMark
+mod Growth
+mod Inert

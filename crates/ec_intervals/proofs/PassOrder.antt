@@ -1,9 +1,8 @@
 -- The intervals that a pass over a row of marks gives stand in order.
-use Rattle.std.proofs.Common.{◌≡◌, ℤ, Bool, true, false, cond, not, ◌&&◌, ◌||◌, List, [], ◌∷◌, ◌++◌, Option, Some, None, is_some, refl, ap, ap₂, ◌∙◌, arith}
+use Rattle.std.proofs.Common.{◌≡◌, ℤ, Bool, true, false, cond, not, ◌&&◌, ◌||◌, List, [], ◌∷◌, ◌++◌, Option, Some, None, is_some, refl, ap, ap₂, ◌∙◌}
 use Rattle.std.specs.Prelude.{int_lt, int_le}
 use Rattle.std.specs.List.{list_all}
 use Rattle.std.specs.Option.{option_map_or, option_and_then, option_to_list}
-use Rattle.std.proofs.lemmas.Int.{ints}
 use Rattle.ec_axioms.specs.Timeline.{Begin, begin_at, Interval, is_after}
 use Rattle.ec_axioms.specs.Marks.{PlainMark, mark_initiates, mark_terminates, mark_breaks}
 use Rattle.ec_rows.specs.Ordered.{is_ascending}
@@ -20,7 +19,7 @@ pub list_all-cons : {X : Type 0} (p : X → Bool) (o : Option X) (xs : List X) �
 list_all-cons p None xs first rest = rest
 list_all-cons p (Some x) xs first rest = ap (λ b. b && list_all p xs) first ∙ rest
 
-is_ascending-cons : {X : Type 0} (stands_before : X → X → Bool) (o : Option X) (xs : List X) → option_map_or (λ x. list_all (stands_before x) xs) o true ≡ true →
+pub is_ascending-cons : {X : Type 0} (stands_before : X → X → Bool) (o : Option X) (xs : List X) → option_map_or (λ x. list_all (stands_before x) xs) o true ≡ true →
     is_ascending stands_before xs ≡ true → is_ascending stands_before (option_to_list o ++ xs) ≡ true
 unfolding is_ascending
 is_ascending-cons stands_before None xs first rest = rest

@@ -1,5 +1,5 @@
 -- A row of intervals, mended where its marks changed: what is read of the old intervals, and that the new ones are spelt.
-use Rattle.std.proofs.Common.{◌≡◌, ℕ, ◌+◌, ◌-◌, ◌<◌, ◌≤◌, zero, suc, ℤ, Bool, true, false, cond, not, ◌&&◌, ◌||◌, List, [], ◌∷◌, ◌++◌, map, filter, find, take, drop, length, Option, Some, None, option_map, refl, ap, ap₂, sym, subst, ◌∙◌, inl, inr, arith}
+use Rattle.std.proofs.Common.{◌≡◌, ℕ, ◌+◌, ◌-◌, ◌<◌, ◌≤◌, zero, suc, ℤ, Bool, true, false, cond, not, ◌&&◌, ◌||◌, List, [], ◌∷◌, ◌++◌, map, filter, find, take, drop, length, Option, Some, None, option_map, refl, ap, ap₂, sym, subst, ◌∙◌, inl, arith}
 use Rattle.std.specs.Prelude.{int_lt, int_le, slice_get, IsTrue}
 use Rattle.std.specs.List.{list_all, list_any, HoldsAt, take-map, drop-map, splice}
 use Rattle.std.specs.Option.{option_map_or, option_to_list}

@@ -5,3 +5,4 @@ pub mod Steps
 pub mod Drafts
 pub mod Broken
 pub mod Laws
+pub mod ChangedRows

@@ -1,4 +1,5 @@
 //! The laws of rows of intervals, each the contract of a function that does nothing.
+ghost use Rattle.ec_intervals.specs.ChangedRows.{GrowthIsBounded, InertMarksSpellNothing};
 ghost use Rattle.ec_intervals.specs.Laws.{MarksAreReadInParts, OpenBeginsAreToldByOneMark, SpansAreFew};
 
 use ec_moment::Moment;
@@ -17,4 +18,16 @@ pub fn marks_are_read_in_parts_law<T: Moment>()
 /// Behind a mark with a count a begin is open exactly where the mark initiates, whatever was open in front of it.
 pub fn open_begins_are_told_by_one_mark_law()
     ensures { OpenBeginsAreToldByOneMark }
+{}
+
+/// A change of marks adds at most two intervals for each instant at which the row differs: one that ends there, and one
+/// that begins there. So much room is enough for `splice_from`.
+pub fn growth_is_bounded_law<T: Moment>()
+    ensures { GrowthIsBounded T.rank }
+{}
+
+/// Marks that do not initiate say nothing where no begin is open: what they end and what they break is nothing. So a
+/// change among such marks leaves the intervals as they are.
+pub fn inert_marks_spell_nothing_law<T: Moment>()
+    ensures { InertMarksSpellNothing T.rank }
 {}
