@@ -12,18 +12,14 @@ use Rattle.ec_intervals.specs.Steps.{open_behind, ended_by, interval_up_to, unen
 use Rattle.ec_intervals.proofs.Pass.{IsPlainRow, IsPlainRow-rest, pass, outcome, started, interval_by, next_mark, breaks-terminates, is_some-open_behind, pass-starts, closing-ended_by, list_all-row_starts}
 use Rattle.ec_intervals.proofs.PassOrder.{list_all-cons}
 use Rattle.ec_lists.proofs.Filters.{filter-all}
-use Rattle.ec_lists.proofs.Filters.{filter-none as filter_none}
+use Rattle.ec_lists.proofs.Filters.{filter-none}
 use Rattle.ec_lists.proofs.Tests.{list_any-none}
 use Rattle.ec_lists.proofs.Options.{cons_option-is_append}
 
 -- ---- a list that is cut where a test begins to fail
 
--- a filter that each member fails keeps none
-pub filter-no_member : {X : Type 0} (p : X → Bool) (xs : List X) → list_all (λ x. not (p x)) xs ≡ true → filter p xs ≡ []
-filter-no_member p xs fails = filter_none p xs (list_any-none p xs fails)
-
 pub filter-cut : {X : Type 0} (p : X → Bool) (xs ys : List X) → list_all p xs ≡ true → list_all (λ x. not (p x)) ys ≡ true → filter p (xs ++ ys) ≡ xs
-filter-cut p xs ys front back = filter-append p xs ys ∙ ap₂ (λ a b. a ++ b) (filter-all p xs front) (filter-no_member p ys back) ∙ append-nil xs
+filter-cut p xs ys front back = filter-append p xs ys ∙ ap₂ (λ a b. a ++ b) (filter-all p xs front) (filter-none p ys (list_any-none p ys back)) ∙ append-nil xs
 
 -- the part that passes, and the part that does not
 pub filter-front : {X : Type 0} (p : X → Bool) (xs ys zs : List X) → xs ++ ys ≡ zs → list_all p xs ≡ true → list_all (λ x. not (p x)) ys ≡ true → filter p zs ≡ xs

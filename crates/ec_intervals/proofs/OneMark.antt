@@ -8,9 +8,8 @@ use Rattle.ec_axioms.proofs.Ranks.{int_lt-same}
 use Rattle.ec_rows.specs.Marks.{marks_before, marks_after, with_mark}
 use Rattle.ec_rows.specs.declared.mark.Mark.{Mark}
 use Rattle.ec_intervals.proofs.SpanCuts.{list_all-kept}
-use Rattle.ec_lists.proofs.Filters.{filter-all}
-use Rattle.ec_lists.proofs.Tests.{list_all-weaker}
-use Rattle.ec_intervals.proofs.Cut.{filter-no_member}
+use Rattle.ec_lists.proofs.Filters.{filter-none, filter-all}
+use Rattle.ec_lists.proofs.Tests.{list_any-none, list_all-weaker}
 
 module _ {T : Type 0} (rank : T → ℤ) (mark : Mark T) (marks : List (Mark T)) where
   before : Mark T → Bool
@@ -28,7 +27,7 @@ module _ {T : Type 0} (rank : T → ℤ) (mark : Mark T) (marks : List (Mark T))
       filter-append before (filter before marks) (mark ∷ filter behind marks)
       ∙ ap₂ (λ xs ys. xs ++ ys) (filter-all before (filter before marks) (list_all-kept before marks))
       (ap (λ b. cond b (mark ∷ filter before (filter behind marks)) (filter before (filter behind marks))) (int_lt-same (rank mark.at))
-      ∙ filter-no_member before (filter behind marks) (list_all-weaker behind (λ m. not (before m)) (λ m. not_both (rank mark.at) (rank m.at)) (filter behind marks) (list_all-kept behind marks)))
+      ∙ filter-none before (filter behind marks) (list_any-none before (filter behind marks) (list_all-weaker behind (λ m. not (before m)) (λ m. not_both (rank mark.at) (rank m.at)) (filter behind marks) (list_all-kept behind marks))))
       ∙ append-nil (filter before marks)
 
   pub behind-with_mark : marks_after rank (rank mark.at) (with_mark rank mark marks) ≡ marks_after rank (rank mark.at) marks
@@ -36,6 +35,6 @@ module _ {T : Type 0} (rank : T → ℤ) (mark : Mark T) (marks : List (Mark T))
   behind-with_mark =
       filter-append behind (filter before marks) (mark ∷ filter behind marks)
       ∙ ap₂ (λ xs ys. xs ++ ys)
-      (filter-no_member behind (filter before marks) (list_all-weaker before (λ m. not (behind m)) (λ m. not_both (rank m.at) (rank mark.at)) (filter before marks) (list_all-kept before marks)))
+      (filter-none behind (filter before marks) (list_any-none behind (filter before marks) (list_all-weaker before (λ m. not (behind m)) (λ m. not_both (rank m.at) (rank mark.at)) (filter before marks) (list_all-kept before marks))))
       (ap (λ b. cond b (mark ∷ filter behind (filter behind marks)) (filter behind (filter behind marks))) (int_lt-same (rank mark.at))
       ∙ filter-all behind (filter behind marks) (list_all-kept behind marks))

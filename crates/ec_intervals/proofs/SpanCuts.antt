@@ -1,10 +1,10 @@
 -- Where a row of spans is cut by a time: which of its spans end before it, and which start up to it.
-use Rattle.std.proofs.Common.{◌≡◌, ℕ, ◌+◌, ◌<◌, ◌≤◌, zero, suc, ℤ, Bool, true, false, cond, not, ◌&&◌, ◌||◌, List, [], ◌∷◌, ◌++◌, map, filter, take, drop, length, Some, refl, ap, ap₂, sym, subst, ◌∙◌, inl, inr, ◌⊎◌, ⊎_elim, get_or, arith}
+use Rattle.std.proofs.Common.{◌≡◌, ℕ, ◌+◌, ◌<◌, ◌≤◌, zero, suc, ℤ, Bool, true, false, cond, not, ◌&&◌, List, [], ◌∷◌, ◌++◌, map, filter, take, drop, length, Some, refl, ap, ap₂, sym, subst, ◌∙◌, inl, inr, ◌⊎◌, ⊎_elim, get_or, arith}
 use Rattle.std.specs.Prelude.{int_lt, int_le, slice_get, IsTrue}
 use Rattle.std.specs.List.{list_all, list_any, HoldsAt, take-map, drop-map}
 use Rattle.std.specs.Option.{option_map_or}
 use Rattle.std.specs.Ordering.{int_eq}
-use Rattle.std.proofs.lemmas.Bool.{false≢true, cases_Bool}
+use Rattle.std.proofs.lemmas.Bool.{or_parts, false≢true, cases_Bool}
 use Rattle.std.proofs.lemmas.Int.{ints}
 use Rattle.std.proofs.lemmas.Option.{slice_get_past}
 use Rattle.std.proofs.lemmas.List.Filters.{length-filter_both}
@@ -19,8 +19,8 @@ use Rattle.ec_rows.proofs.OrderedLemmas.{and-left, and-right, ascending-first, a
 use Rattle.ec_rows.proofs.SpanLemmas.{by_time-from_row}
 use Rattle.ec_intervals.specs.Steps.{ends_before, begins_behind}
 use Rattle.ec_intervals.specs.Table.{plain_spans, plain_interval, plain_end, span_interval, spans_up_to}
-use Rattle.ec_lists.proofs.Tests.{list_all-weaker}
-use Rattle.ec_intervals.proofs.Cut.{filter-no_member}
+use Rattle.ec_lists.proofs.Tests.{list_any-none, list_all-weaker}
+use Rattle.ec_lists.proofs.Filters.{filter-none}
 
 -- ---- lists
 
@@ -30,7 +30,7 @@ pub filter-both : {X : Type 0} (stands_before : X → X → Bool) (p : X → Boo
 unfolding is_ascending
 filter-both {X} stands_before p keeps [] ascending = refl
 filter-both {X} stands_before p keeps (x ∷ xs) ascending =
-    here (p x) refl (λ failing. filter-no_member p xs (list_all-weaker (stands_before x) (λ y. not (p y)) (λ y before. fails y before failing (cases_Bool (p y))) xs (ascending-first stands_before x xs ascending)))
+    here (p x) refl (λ failing. filter-none p xs (list_any-none p xs (list_all-weaker (stands_before x) (λ y. not (p y)) (λ y before. fails y before failing (cases_Bool (p y))) xs (ascending-first stands_before x xs ascending))))
     (filter-both stands_before p keeps xs (ascending-rest stands_before x xs ascending))
   where
     fails : (y : X) → stands_before x y ≡ true → p x ≡ false → (p y ≡ true) ⊎ (p y ≡ false) → not (p y) ≡ true
@@ -63,14 +63,6 @@ length-kept p (suc n) [] within all = absurd (omega arith)
 length-kept p (suc n) (x ∷ xs) within all =
     let rest : n ≤ length (filter p xs) = length-kept p n xs (omega arith) (and-right (p x) (list_all p (take n xs)) all) in
     subst (λ b. suc n ≤ length (cond b (x ∷ filter p xs) (filter p xs))) (sym (and-left (p x) (list_all p (take n xs)) all)) (omega (arith, rest))
-
-or-left : (a b : Bool) → (a || b) ≡ false → a ≡ false
-or-left true b none = none
-or-left false b none = refl
-
-or-right : (a b : Bool) → (a || b) ≡ false → b ≡ false
-or-right true b none = absurd (false≢true (sym none))
-or-right false b none = none
 
 module _ {T : Type 0} (rank : T → ℤ) where
   IsSpanRow-rest : (s : Span T) (spans : List (Span T)) → IsSpanRow rank (s ∷ spans) → IsSpanRow rank spans
@@ -173,10 +165,10 @@ module _ {T : Type 0} (rank : T → ℤ) where
       × (list_all (λ j. not (ends_before a j)) (drop (length (spans_before rank a spans)) (plain_spans rank spans)) ≡ true)
   uncovered-cut a [] row none = (refl, refl)
   uncovered-cut a (s ∷ spans) row none =
-      let rest = uncovered-cut a spans (IsSpanRow-rest s spans row) (or-right (is_covering rank a s) (list_any (is_covering rank a) spans) none) in
+      let rest = uncovered-cut a spans (IsSpanRow-rest s spans row) (or_parts (is_covering rank a s) (list_any (is_covering rank a) spans) none).1 in
       ⊎_elim (λ earlier. subst (Is (s ∷ spans)) (sym (ap (λ b. cond b (s ∷ spans_before rank a spans) (spans_before rank a spans)) earlier))
-      (ap₂ (λ x y. x && y) (short-ends a s (short earlier (or-left (is_covering rank a s) (list_any (is_covering rank a) spans) none))) rest.0, rest.1))
-      (λ from. subst (Is (s ∷ spans)) (sym (ap (λ b. cond b (s ∷ spans_before rank a spans) (spans_before rank a spans)) from ∙ filter-no_member (λ (other : Span T). int_lt (rank other.from) a) spans (later from)))
+      (ap₂ (λ x y. x && y) (short-ends a s (short earlier (or_parts (is_covering rank a s) (list_any (is_covering rank a) spans) none).0)) rest.0, rest.1))
+      (λ from. subst (Is (s ∷ spans)) (sym (ap (λ b. cond b (s ∷ spans_before rank a spans) (spans_before rank a spans)) from ∙ filter-none (λ (other : Span T). int_lt (rank other.from) a) spans (list_any-none (λ (other : Span T). int_lt (rank other.from) a) spans (later from))))
       (refl, from-last a (s ∷ spans) row.proper (ap₂ (λ x y. not x && y) from (later from))))
       (cases_Bool (int_lt (rank s.from) a))
     where
@@ -234,11 +226,9 @@ module _ {T : Type 0} (rank : T → ℤ) where
       from at_least =
           subst (λ xs. IsCount xs (spans_up_to rank t (s ∷ spans)))
           (sym (ap (λ b. cond b (s ∷ spans_before rank t spans) (spans_before rank t spans)) at_least
-          ∙ filter-no_member (λ (other : Span T). int_lt (rank other.from) t) spans
-          (list_all-weaker (λ (other : Span T). int_lt t (rank other.from)) (λ (other : Span T). not (int_lt (rank other.from) t)) (λ other. not_before (rank other.from)) spans (later at_least))))
+          ∙ filter-none (λ (other : Span T). int_lt (rank other.from) t) spans (list_any-none (λ (other : Span T). int_lt (rank other.from) t) spans (list_all-weaker (λ (other : Span T). int_lt t (rank other.from)) (λ (other : Span T). not (int_lt (rank other.from) t)) (λ other. not_before (rank other.from)) spans (later at_least)))))
           (ap (λ xs. length (cond (int_le (rank s.from) t) (s ∷ xs) xs))
-          (filter-no_member (λ (other : Span T). int_le (rank other.from) t) spans
-          (list_all-weaker (λ (other : Span T). int_lt t (rank other.from)) (λ (other : Span T). not (int_le (rank other.from) t)) (λ other. not_up_to (rank other.from)) spans (later at_least)))
+          (filter-none (λ (other : Span T). int_le (rank other.from) t) spans (list_any-none (λ (other : Span T). int_le (rank other.from) t) spans (list_all-weaker (λ (other : Span T). int_lt t (rank other.from)) (λ (other : Span T). not (int_le (rank other.from) t)) (λ other. not_up_to (rank other.from)) spans (later at_least))))
           ∙ ap (λ b. length (cond {A = List (Span T)} b (s ∷ []) [])) (equal (rank s.from) at_least) ∙ one (int_eq (rank s.from) t))
         where
           not_before : (y : ℤ) → int_lt t y ≡ true → not (int_lt y t) ≡ true

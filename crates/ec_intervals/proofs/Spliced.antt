@@ -3,7 +3,7 @@ use Rattle.std.proofs.Common.{◌≡◌, ℕ, ◌+◌, ◌-◌, ◌<◌, ◌≤�
 use Rattle.std.specs.Prelude.{int_lt, int_le, slice_get, IsTrue}
 use Rattle.std.specs.List.{list_all, list_any, HoldsAt, take-map, drop-map, splice}
 use Rattle.std.specs.Option.{option_map_or, option_to_list}
-use Rattle.std.proofs.lemmas.Bool.{false≢true}
+use Rattle.std.proofs.lemmas.Bool.{not-true, false≢true}
 use Rattle.std.proofs.lemmas.Option.{slice_get_read, slice_get_within, get_or_from_slice_get}
 use Rattle.std.proofs.lemmas.Int.{ints}
 use Rattle.std.proofs.lemmas.List.{append-nil, append_assoc, append_cancel_left, append_cancel_right, map-append, take-append-drop, drop-drop, length-map, length-append, length-drop, length-take-le, get_or-drop}
@@ -33,12 +33,12 @@ use Rattle.ec_intervals.specs.Steps.{first_open, lasting, open_through, ended_th
 use Rattle.ec_intervals.specs.Table.{front_members, span_interval, plain_begin, plain_interval, plain_intervals, plain_spans, spans_up_to}
 use Rattle.ec_intervals.proofs.Pass.{IsPlainRow, plain_before, behind_first, pass, interval_by, pass-spans_of}
 use Rattle.ec_intervals.proofs.Written.{IsPlainRow-from_row, IsIntervalRow-spans_of, IsSpanRow-members}
-use Rattle.ec_intervals.proofs.Cut.{filter-no_member, cut-front, cut-behind, IsPlainRow-behind, pass-append, pass-spelt_through, ended_through-begins, open_through-begins}
+use Rattle.ec_intervals.proofs.Cut.{cut-front, cut-behind, IsPlainRow-behind, pass-append, pass-spelt_through, ended_through-begins, open_through-begins}
 use Rattle.ec_intervals.proofs.SpanCuts.{filter-both, take-cut, drop-cut, list_all-kept, plain-take, plain-drop, reaching-lasts, taken-up_to, dropped-up_to}
-use Rattle.ec_intervals.proofs.TwoRows.{is_start, not-true, kept-taken, opened-by, kept-before_all, front-kept, new-spelt, list_all-both, IsMember-front}
+use Rattle.ec_intervals.proofs.TwoRows.{is_start, kept-taken, opened-by, kept-before_all, front-kept, new-spelt, list_all-both, IsMember-front}
 use Rattle.ec_intervals.proofs.Reading.{up_to-None, first_behind-None, up_to_all, none_behind-up_to, none_behind-find}
-use Rattle.ec_lists.proofs.Tests.{list_all-weaker, list_all-each}
-use Rattle.ec_lists.proofs.Filters.{length-filter_wider}
+use Rattle.ec_lists.proofs.Tests.{list_any-none, list_all-weaker, list_all-each}
+use Rattle.ec_lists.proofs.Filters.{filter-none, length-filter_wider}
 
 -- ---- lists
 
@@ -140,7 +140,7 @@ module _ {T : Type 0} (rank : T → ℤ) where
           ∙ ap (λ ms. within ++ ms)
           (filter_same (λ (m : PlainMark). not (not (int_lt b m.instant))) (λ (m : PlainMark). int_lt b m.instant) (λ m. twice (int_lt b m.instant)) rest
           ∙ ap (λ ms. ms ++ filter (λ (m : PlainMark). int_lt b m.instant) rest)
-          (sym (filter-no_member (λ (m : PlainMark). int_lt b m.instant) earlier (list_all-weaker (λ (m : PlainMark). int_lt m.instant a) (λ (m : PlainMark). not (int_lt b m.instant)) (λ m. early m.instant) earlier earlier-before)))
+          (sym (filter-none (λ (m : PlainMark). int_lt b m.instant) earlier (list_any-none (λ (m : PlainMark). int_lt b m.instant) earlier (list_all-weaker (λ (m : PlainMark). int_lt m.instant a) (λ (m : PlainMark). not (int_lt b m.instant)) (λ m. early m.instant) earlier earlier-before))))
           ∙ sym (filter-append (λ (m : PlainMark). int_lt b m.instant) earlier rest) ∙ ap (filter (λ (m : PlainMark). int_lt b m.instant)) (sym earlier-rest)
           ∙ filter-map (λ (m : PlainMark). int_lt b m.instant) (plain_mark rank) marks)
         where
