@@ -1,3 +1,4 @@
 pub mod Sweep
 pub mod Visit
 pub mod SweepLaws
+pub mod Tallied
