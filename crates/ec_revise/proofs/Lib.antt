@@ -6,3 +6,5 @@ pub mod Looking
 pub mod Settling
 pub mod Visiting
 pub mod Ending
+pub mod TallyRows
+pub mod TurnTallies
