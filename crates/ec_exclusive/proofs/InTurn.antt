@@ -29,7 +29,7 @@ before-at p (q ∷ ps) zero d before within = grind arith
 before-at p (q ∷ ps) (suc i) d before within = let rest : list_all (comes_before p) ps ≡ true = grind arith in before-at p ps i d rest (omega arith)
 
 -- in a list that ascends a number stands once
-not-yet : (ps : List PropId) (i : ℕ) (d : PropId) → are_ascending ps ≡ true → i < length ps → has_number (get_or ps i d).0 (take i ps) ≡ false
+pub not-yet : (ps : List PropId) (i : ℕ) (d : PropId) → are_ascending ps ≡ true → i < length ps → has_number (get_or ps i d).0 (take i ps) ≡ false
 not-yet [] i d ascending within = absurd (omega arith)
 not-yet (p ∷ ps) zero d ascending within = refl
 not-yet (p ∷ ps) (suc i) d ascending within =

@@ -8,3 +8,4 @@ pub mod Visiting
 pub mod Ending
 pub mod TallyRows
 pub mod TurnTallies
+pub mod ByTerm

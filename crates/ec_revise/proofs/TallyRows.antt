@@ -1,16 +1,14 @@
 -- What a tally has of each property after a turn is counted for one more.
-use Rattle.std.proofs.Common.{◌≡◌, ℕ, zero, suc, ◌+◌, ◌<◌, Bool, true, false, cond, ◌||◌, List, [], ◌∷◌, length, take, get_or, nat_lt, Some, refl, sym, ap, ap₂, subst, ◌∙◌, ⊎_elim, add-one, arith}
+use Rattle.std.proofs.Common.{◌≡◌, ℕ, ◌+◌, ◌<◌, Bool, true, false, cond, ◌||◌, List, [], ◌∷◌, length, take, get_or, Some, refl, sym, ap, ap₂, subst, ◌∙◌, ⊎_elim, add-one, arith}
 use Rattle.std.specs.Prelude.{◌==◌, is_some, if◌then◌else◌, unwrap_or}
-use Rattle.std.proofs.lemmas.Bool.{and_parts, cases_Bool, cond-false, cond-true, eqb-true, or_from}
-use Rattle.std.proofs.lemmas.Bool.Decides.{nat_tests}
+use Rattle.std.proofs.lemmas.Bool.{cases_Bool, cond-false, cond-true, eqb-true}
 use Rattle.std.proofs.lemmas.List.Folds.{list_any-append}
 use Rattle.std.proofs.Math.Bool.{or-false}
 use Rattle.std.proofs.Math.Seq.{take-suc}
 use Rattle.ec_lists.proofs.Booleans.{is_some-cond}
-use Rattle.ec_lists.proofs.Tests.{list_all-get_or}
 use Rattle.ec_terms.specs.declared.ids.PropId.{PropId}
-use Rattle.ec_rows.specs.Ordered.{is_ascending}
-use Rattle.ec_numbered.specs.PropSet.{are_ascending, comes_before, has_number}
+use Rattle.ec_numbered.specs.PropSet.{are_ascending, has_number}
+use Rattle.ec_exclusive.proofs.InTurn.{not-yet}
 use Rattle.ec_revise.specs.declared.settled.Tallied.{Tallied}
 use Rattle.ec_revise.specs.declared.tally.Part.{Part}
 use Rattle.ec_revise.specs.declared.tally.Part.TheVariants.{Inits, Clashes}
@@ -35,19 +33,6 @@ CountsEach-put p part up value before after put is = record {
   rows = λ q. ap is_some (put q.0) ∙ sym (is_some-cond (p.0 == q.0) value (row_at q.0 before)) ∙ ap (λ b. b || is_some (row_at q.0 before)) (sym (or-false (p.0 == q.0)));
 }
 
--- the member at a place of an ascending list is none of those before it
-pub has_number-fresh : (ps : List PropId) (i : ℕ) (d : PropId) → are_ascending ps ≡ true → i < length ps → has_number (get_or ps i d).0 (take i ps) ≡ false
-unfolding is_ascending
-has_number-fresh [] i d ascending below = absurd (omega arith)
-has_number-fresh (p ∷ ps) zero d ascending below = refl
-has_number-fresh (p ∷ ps) (suc i) d ascending below =
-    let parts = and_parts _ _ ascending in
-    let within : i < length ps = omega arith in
-    or_from _ _ (apart p.0 (get_or ps i d).0 (list_all-get_or (comes_before p) ps i d parts.0 within)) (has_number-fresh ps i d parts.1 within)
-  where
-    apart : (m n : ℕ) → nat_lt m n ≡ true → (m == n) ≡ false
-    apart m n before = grind (arith, nat_tests)
-
 -- one member more
 has_number-more : (ps : List PropId) (i : ℕ) (d : PropId) (n : ℕ) → i < length ps
     → has_number n (take (i + 1) ps) ≡ (has_number n (take i ps) || ((get_or ps i d).0 == n))
@@ -65,7 +50,7 @@ CountsEach-more ps i d part up first before after ascending below done more = re
       ∙ ⊎_elim
       (λ here.
       let n : (get_or ps i d).0 ≡ q.0 = eqb-true (get_or ps i d).0 q.0 here in
-      let unseen : has_number q.0 (take i ps) ≡ false = subst (λ m. has_number m (take i ps) ≡ false) n (has_number-fresh ps i d ascending below) in
+      let unseen : has_number q.0 (take i ps) ≡ false = subst (λ m. has_number m (take i ps) ≡ false) n (not-yet ps i d ascending below) in
       cond-true _ _ _ (or-false ((get_or ps i d).0 == q.0) ∙ here)
       ∙ ap (with_one part up) (done.counted q ∙ cond-false _ _ _ unseen)
       ∙ sym (cond-true _ _ _ (has_number-more ps i d q.0 below ∙ either_right (has_number q.0 (take i ps)) _ here)))
@@ -98,7 +83,7 @@ CountsEach-none part up rows = record { counted = λ q. refl; rows = λ q. refl 
 pub tallied_at-fresh : (ps : List PropId) (i : ℕ) (d : PropId) (part : Part) (up : Bool) (first before : List (ℕ × Tallied))
     → are_ascending ps ≡ true → i < length ps → CountsEach (take i ps) part up first before → tallied_at (get_or ps i d) before ≡ tallied_at (get_or ps i d) first
 tallied_at-fresh ps i d part up first before ascending below done =
-    done.counted (get_or ps i d) ∙ cond-false _ _ _ (has_number-fresh ps i d ascending below)
+    done.counted (get_or ps i d) ∙ cond-false _ _ _ (not-yet ps i d ascending below)
 
 -- counting initiations leaves the clashes
 pub clashes-kept : (b up way : Bool) (tallied : Tallied)

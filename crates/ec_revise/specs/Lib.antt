@@ -4,3 +4,4 @@ pub mod SweepLaws
 pub mod Tallied
 pub mod Change
 pub mod TurnCounts
+pub mod ShownTurns

@@ -1,5 +1,6 @@
 //! The induction of the sweep, each of its moves the contract of a function: how it starts, passes over quiet instants,
 //! visits an instant, and ends.
+ghost use Rattle.ec_revise.specs.ShownTurns.{TalliesGoByTerm};
 ghost use Rattle.ec_revise.specs.SweepLaws.{HitsAreSeen, MarksAreAfterTurns, SweepEnds, SweepPasses, SweepStarts, SweepVisits};
 
 /// Before the first event that stands in one list alone nothing differs, so a sweep may start there with nothing found.
@@ -35,4 +36,10 @@ pub fn sweep_visits_law()
 /// every instant, and a property that does not matter has kept its intervals.
 pub fn sweep_ends_law()
     ensures { SweepEnds }
+{}
+
+/// What is tallied for a property by the numbers in a table is what the turns are by their terms, where the table finds
+/// each of its terms and the neighbours are those of the table.
+pub fn tallies_go_by_term_law()
+    ensures { TalliesGoByTerm }
 {}

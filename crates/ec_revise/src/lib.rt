@@ -10,7 +10,7 @@ mod turn;
 pub use change::{Change, Removal};
 pub use laws::{
     hits_are_seen_law, marks_are_after_turns_law, sweep_ends_law, sweep_passes_law,
-    sweep_starts_law, sweep_visits_law,
+    sweep_starts_law, sweep_visits_law, tallies_go_by_term_law,
 };
 pub use settled::{Counts, Currencies, Settled, Tallied, settle};
 pub use tally::Tally;
