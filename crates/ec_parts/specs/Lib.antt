@@ -1,0 +1,4 @@
+pub mod Tables
+pub mod Activity
+pub mod Caches
+pub mod StandFor
