@@ -1,6 +1,6 @@
 -- What it is for the caches to be those of a list of events: the store, the entries, the marks, the initiations and the intervals.
 -- Parts go by the numbers of properties and by slots; the calculus goes by terms and events.
-use Rattle.std.specs.Prelude.{◌≡◌, ℕ, ℤ, List, [], map, filter, Option, Some, None}
+use Rattle.std.specs.Prelude.{◌≡◌, ℕ, ℤ, false, List, [], map, filter, Option, Some, None}
 use Rattle.ec_terms.specs.declared.ids.Slot.{Slot}
 use Rattle.ec_terms.specs.declared.ground.Ground.{Ground}
 use Rattle.ec_terms.specs.declared.theory.Theory.{Theory}
@@ -46,11 +46,16 @@ AreEntriesOf rank theory events table store entered =
 
 -- ---- marks
 
+-- each kept property is initial by its number exactly where its term is, and no other number is
+pub record AreInitialsOf {T : Type 0} (theory : Theory) (table : List KeptProp) (points : PointTable T) : Type 0 where
+  pub initial : (id : ℕ) (p : Ground) → term_at id table ≡ Some p → is_initial_at id points ≡ is_initial theory p
+  pub none : (id : ℕ) → prop_at id table ≡ None → is_initial_at id points ≡ false
+
 -- the marks of each kept property are its marks in the calculus, and no other number has marks
 pub record AreMarksOf {T : Type 0} (rank : T → ℤ) (theory : Theory) (events : List PlainEvent) (table : List KeptProp) (points : PointTable T) : Type 0 where
   pub marks : (id : ℕ) (p : Ground) → term_at id table ≡ Some p → plain_marks rank (marks_at id points) ≡ marks_of theory events p
-  pub initial : (id : ℕ) (p : Ground) → term_at id table ≡ Some p → is_initial_at id points ≡ is_initial theory p
   pub none : (id : ℕ) → prop_at id table ≡ None → marks_at id points ≡ []
+  pub initials : AreInitialsOf theory table points
 
 -- a mark with its initiations alone
 abbrev pub initiations_of_mark : PlainMark → PlainMark
