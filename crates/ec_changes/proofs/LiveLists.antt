@@ -51,7 +51,7 @@ FixedInitialsAreListed-law theory fixed p = each theory.initials fixed
         ap₂ (λ a b. a || b) (fits_some-fixed initial.prop p parts.0) (each initials parts.1)
 
 -- putting properties in term order changes no member
-test-in_term_order : (properties : List Ground) (p : Ground) → list_any (term_eq p) (in_term_order properties) ≡ list_any (term_eq p) properties
+pub test-in_term_order : (properties : List Ground) (p : Ground) → list_any (term_eq p) (in_term_order properties) ≡ list_any (term_eq p) properties
 test-in_term_order properties p =
     ⊎_elim
     (λ there. test-IsMember (in_term_order properties) p (IsMember-in_term_order properties p (IsMember-from_test properties p there)) ∙ sym there)

@@ -2,3 +2,4 @@ pub mod Tables
 pub mod Activity
 pub mod Caches
 pub mod StandFor
+pub mod Mentions

@@ -1,0 +1,102 @@
+-- What it is for the tables to be those of a list of mentions, and what further mentions make of them.
+use Rattle.std.specs.Prelude.{◌≡◌, ◌≤◌, ℕ, ◌+◌, ◌-◌, ◌==◌, nat_lt, Bool, ◌||◌, if◌then◌else◌, List, [], ◌∷◌, ◌++◌, length, filter, map, flat_map, filter_map, sum_by, Some, IsSome, IsTrue, unwrap_or}
+use Rattle.std.specs.List.{list_any}
+use Rattle.std.specs.List.Sorted.{IsPermutation}
+use Rattle.ec_terms.specs.declared.ids.PropId.{PropId}
+use Rattle.ec_terms.specs.declared.ground.Ground.{Ground}
+use Rattle.ec_terms.specs.declared.theory.Theory.{Theory}
+use Rattle.ec_terms.specs.Term.{term_eq}
+use Rattle.ec_terms.specs.Domain.{is_initial}
+use Rattle.ec_check.specs.declared.limits.TheConstants.{MOST_INITIALS}
+use Rattle.ec_changes.specs.LiveLaws.{ListsInitials}
+use Rattle.ec_changes.specs.LinkLaws.{links_of}
+use Rattle.ec_props.specs.Table.{KeptProp, prop_of, term_at, mentions_at}
+use Rattle.ec_exclusive.specs.Added.{Added, neighbours_of}
+use Rattle.ec_context.specs.declared.entry.Entry.{Entry}
+use Rattle.ec_context.specs.declared.entry.EntryLiteral.{EntryLiteral}
+use Rattle.ec_points.specs.Table.{PointTable, is_initial_at}
+use Rattle.ec_parts.specs.declared.tally.Tally.{Tally}
+use Rattle.ec_parts.specs.Tables.{held_mention, AreAllAdded}
+use Rattle.ec_parts.specs.Caches.{AreInitialsOf}
+
+-- ---- the tables of some mentions
+
+-- a property is live where these are the mentions
+abbrev pub is_live_by : Theory → List Ground → Ground → Bool
+is_live_by theory mentions p = is_initial theory p || list_any (term_eq p) mentions
+
+-- the table keeps what the mentions make live, and counts those of each property that it keeps, with the held one
+pub record AreKeptBy (theory : Theory) (mentions : List Ground) (table : List KeptProp) : Type 0 where
+  pub live : (p : Ground) → IsTrue (is_live_by theory mentions p) → IsSome (prop_of p table)
+  pub counts : (id : ℕ) (p : Ground) → term_at id table ≡ Some p → mentions_at id table ≡ Some (length (filter (term_eq p) mentions) + held_mention theory p)
+
+-- the tally counts the mentions and their links
+pub record IsTallyBy (theory : Theory) (mentions : List Ground) (tally : Tally) : Type 0 where
+  pub mentions_by : tally.mentions ≡ length mentions
+  pub links_by : tally.links ≡ links_of theory mentions
+
+-- the tables are those of the mentions
+pub record AreTablesBy {T : Type 0} (theory : Theory) (mentions : List Ground) (table : List KeptProp) (rows : List Added) (points : PointTable T) (tally : Tally) : Type 0 where
+  pub kept : AreKeptBy theory mentions table
+  pub added : AreAllAdded theory table rows
+  pub initials : AreInitialsOf theory table points
+  pub tally_by : IsTallyBy theory mentions tally
+
+-- the tables are those of some mentions, under a theory that lists its initial properties
+pub record AreSomeTables {T : Type 0} (table : List KeptProp) (rows : List Added) (points : PointTable T) (tally : Tally) : Type 0 where
+  pub theory : Theory
+  pub mentions : List Ground
+  pub lists : ListsInitials theory
+  pub few : length theory.initials ≤ MOST_INITIALS
+  pub tables : AreTablesBy theory mentions table rows points tally
+
+-- ---- what a mention adds to the links
+
+-- how often the table counts a property as mentioned
+abbrev pub count_at : ℕ → List KeptProp → ℕ
+count_at id table = unwrap_or (mentions_at id table) 0
+
+-- the mentions of a property by events: all but the held one
+abbrev pub told_at : {T : Type 0} → ℕ → List KeptProp → PointTable T → ℕ
+told_at id table points = count_at id table - (if is_initial_at id points then 1 else 0)
+
+-- what a mention adds to the links by one neighbour: one where the neighbour is live and, where the mention makes its
+-- property live, each mention of the neighbour
+unfoldable pub links_to : {T : Type 0} → Bool → List KeptProp → PointTable T → PropId → ℕ
+links_to fresh table points q = (if nat_lt 0 (count_at q.0 table) then 1 else 0) + (if fresh then told_at q.0 table points else 0)
+
+-- what a mention of a property adds to the links
+unfoldable pub links_with : {T : Type 0} → List KeptProp → List Added → PointTable T → PropId → ℕ
+links_with table rows points p = sum_by (links_to (count_at p.0 table == 0) table points) (unwrap_or (neighbours_of p rows) [])
+
+-- ---- the mentions of entries
+
+-- the properties that an entry mentions: its head, then those of its literals
+abbrev pub entry_props : Entry → List PropId
+entry_props entry = entry.head ∷ map (λ (literal : EntryLiteral). literal.prop) entry.literals
+
+-- the properties that the entries of an event mention
+abbrev pub list_props : List Entry → List PropId
+list_props list = flat_map entry_props list
+
+-- the terms that a table keeps under some numbers
+abbrev pub terms_of : List KeptProp → List PropId → List Ground
+terms_of table props = filter_map (λ p. term_at p.0 table) props
+
+-- these properties are mentioned once more each: the terms stay, and the tables of any mentions become those of the
+-- mentions with these
+pub record HasMentioned {T : Type 0} (rows : List Added) (points : PointTable T) (props : List PropId) (before : List KeptProp) (old : Tally) (after : List KeptProp) (new : Tally) : Type 0 where
+  pub terms : (id : ℕ) → term_at id after ≡ term_at id before
+  pub more : new.mentions ≡ old.mentions + length props
+  pub tables :
+    (theory : Theory) (mentions all : List Ground) → ListsInitials theory → IsPermutation (terms_of before props ++ mentions) all
+    → AreTablesBy theory mentions before rows points old → AreTablesBy theory all after rows points new
+
+-- these properties are mentioned once less each: the terms stay, and the tables of mentions with these become those of
+-- the others
+pub record HasReleased {T : Type 0} (rows : List Added) (points : PointTable T) (props : List PropId) (before : List KeptProp) (old : Tally) (after : List KeptProp) (new : Tally) : Type 0 where
+  pub terms : (id : ℕ) → term_at id after ≡ term_at id before
+  pub less : new.mentions + length props ≡ old.mentions
+  pub tables :
+    (theory : Theory) (mentions : List Ground) → ListsInitials theory
+    → AreTablesBy theory (terms_of before props ++ mentions) before rows points old → AreTablesBy theory mentions after rows points new
