@@ -1,1 +1,2 @@
 pub mod LinksByNumber
+pub mod OneMention

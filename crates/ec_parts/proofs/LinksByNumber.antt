@@ -36,7 +36,7 @@ use Rattle.ec_exclusive.specs.Neighbours.{both_exclusive, exclusive_at}
 use Rattle.ec_points.specs.Table.{PointTable, is_initial_at}
 use Rattle.ec_parts.specs.Tables.{held_mention, AreAllAdded}
 use Rattle.ec_parts.specs.Caches.{AreInitialsOf}
-use Rattle.ec_parts.specs.Mentions.{is_live_by, AreKeptBy, count_at, told_at, links_to, links_with}
+use Rattle.ec_parts.specs.Mentions.{is_live_by, AreKeptBy, count_at, told_at, links_to}
 
 -- ---- terms and numbers
 

@@ -1,5 +1,5 @@
 -- What it is for the tables to be those of a list of mentions, and what further mentions make of them.
-use Rattle.std.specs.Prelude.{◌≡◌, ◌≤◌, ℕ, ◌+◌, ◌-◌, ◌==◌, nat_lt, Bool, ◌||◌, if◌then◌else◌, List, [], ◌∷◌, ◌++◌, length, filter, map, flat_map, filter_map, sum_by, Some, IsSome, IsTrue, unwrap_or}
+use Rattle.std.specs.Prelude.{◌≡◌, ◌≤◌, ℕ, ◌+◌, ◌-◌, nat_lt, Bool, ◌||◌, if◌then◌else◌, List, [], ◌∷◌, ◌++◌, length, filter, map, flat_map, filter_map, Some, IsSome, IsTrue, unwrap_or}
 use Rattle.std.specs.List.{list_any}
 use Rattle.std.specs.List.Sorted.{IsPermutation}
 use Rattle.ec_terms.specs.declared.ids.PropId.{PropId}
@@ -11,7 +11,7 @@ use Rattle.ec_check.specs.declared.limits.TheConstants.{MOST_INITIALS}
 use Rattle.ec_changes.specs.LiveLaws.{ListsInitials}
 use Rattle.ec_changes.specs.LinkLaws.{links_of}
 use Rattle.ec_props.specs.Table.{KeptProp, prop_of, term_at, mentions_at}
-use Rattle.ec_exclusive.specs.Added.{Added, neighbours_of}
+use Rattle.ec_exclusive.specs.Added.{Added}
 use Rattle.ec_context.specs.declared.entry.Entry.{Entry}
 use Rattle.ec_context.specs.declared.entry.EntryLiteral.{EntryLiteral}
 use Rattle.ec_points.specs.Table.{PointTable, is_initial_at}
@@ -64,10 +64,6 @@ told_at id table points = count_at id table - (if is_initial_at id points then 1
 -- property live, each mention of the neighbour
 unfoldable pub links_to : {T : Type 0} → Bool → List KeptProp → PointTable T → PropId → ℕ
 links_to fresh table points q = (if nat_lt 0 (count_at q.0 table) then 1 else 0) + (if fresh then told_at q.0 table points else 0)
-
--- what a mention of a property adds to the links
-unfoldable pub links_with : {T : Type 0} → List KeptProp → List Added → PointTable T → PropId → ℕ
-links_with table rows points p = sum_by (links_to (count_at p.0 table == 0) table points) (unwrap_or (neighbours_of p rows) [])
 
 -- ---- the mentions of entries
 

@@ -1,0 +1,25 @@
+use ec_check::Checked;
+use ec_entries::Entries;
+use ec_events::EventStore;
+use ec_exclusive::Neighbours;
+use ec_intervals::Intervals;
+use ec_moment::Moment;
+use ec_points::Points;
+use ec_props::PropTable;
+use ec_rows::{MarkRow, SpanRow, TimeRow};
+
+/// The parts of an engine. The tables, `props` and `neighbours`, say which properties there are and how they stand to one
+/// another; the caches, all that follow but `store`, say what the calculus makes of the events in `store`.
+#[derive(Drop)]
+pub struct Parts<T: Moment, M: MarkRow<T>, I: SpanRow<T>, X: TimeRow<T>> {
+    pub checked: Checked,
+    pub store: EventStore<T, X>,
+    pub props: PropTable,
+    pub neighbours: Neighbours,
+    pub entries: Entries<T>,
+    /// The marks of each kept property.
+    pub points: Points<T, M>,
+    /// The marks of each kept property that initiate it, each with its initiations alone.
+    pub initiations: Points<T, M>,
+    pub intervals: Intervals<T, I>,
+}
