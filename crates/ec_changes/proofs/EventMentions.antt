@@ -16,7 +16,7 @@ use Rattle.ec_changes.specs.LinkLaws.{MentionsWithEvent, MentionsWithoutEvent}
 use Rattle.ec_changes.proofs.KeptEvents.{IsMember-from_has_event}
 
 -- two parts in front in the other order
-swapped_front : (xs ys zs : List Ground) → IsPermutation (xs ++ (ys ++ zs)) (ys ++ (xs ++ zs))
+pub swapped_front : (xs ys zs : List Ground) → IsPermutation (xs ++ (ys ++ zs)) (ys ++ (xs ++ zs))
 swapped_front xs ys zs =
     subst (λ us. IsPermutation us (ys ++ (xs ++ zs))) (append_assoc xs ys zs)
     (subst (λ us. IsPermutation ((xs ++ ys) ++ zs) us) (append_assoc ys xs zs)

@@ -1,2 +1,3 @@
 pub mod LinksByNumber
 pub mod OneMention
+pub mod Mentioned

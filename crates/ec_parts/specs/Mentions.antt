@@ -42,14 +42,6 @@ pub record AreTablesBy {T : Type 0} (theory : Theory) (mentions : List Ground) (
   pub initials : AreInitialsOf theory table points
   pub tally_by : IsTallyBy theory mentions tally
 
--- the tables are those of some mentions, under a theory that lists its initial properties
-pub record AreSomeTables {T : Type 0} (table : List KeptProp) (rows : List Added) (points : PointTable T) (tally : Tally) : Type 0 where
-  pub theory : Theory
-  pub mentions : List Ground
-  pub lists : ListsInitials theory
-  pub few : length theory.initials ≤ MOST_INITIALS
-  pub tables : AreTablesBy theory mentions table rows points tally
-
 -- ---- what a mention adds to the links
 
 -- how often the table counts a property as mentioned
@@ -85,8 +77,8 @@ pub record HasMentioned {T : Type 0} (rows : List Added) (points : PointTable T)
   pub terms : (id : ℕ) → term_at id after ≡ term_at id before
   pub more : new.mentions ≡ old.mentions + length props
   pub tables :
-    (theory : Theory) (mentions all : List Ground) → ListsInitials theory → IsPermutation (terms_of before props ++ mentions) all
-    → AreTablesBy theory mentions before rows points old → AreTablesBy theory all after rows points new
+      (theory : Theory) (mentions all : List Ground) → ListsInitials theory → IsPermutation (terms_of before props ++ mentions) all
+      → AreTablesBy theory mentions before rows points old → AreTablesBy theory all after rows points new
 
 -- these properties are mentioned once less each: the terms stay, and the tables of mentions with these become those of
 -- the others
@@ -94,5 +86,13 @@ pub record HasReleased {T : Type 0} (rows : List Added) (points : PointTable T) 
   pub terms : (id : ℕ) → term_at id after ≡ term_at id before
   pub less : new.mentions + length props ≡ old.mentions
   pub tables :
-    (theory : Theory) (mentions : List Ground) → ListsInitials theory
-    → AreTablesBy theory (terms_of before props ++ mentions) before rows points old → AreTablesBy theory mentions after rows points new
+      (theory : Theory) (mentions : List Ground) → ListsInitials theory
+      → AreTablesBy theory (terms_of before props ++ mentions) before rows points old → AreTablesBy theory mentions after rows points new
+
+-- the tables are those of some mentions with these properties, under a theory that lists its few initial properties
+pub record AreSomeTables {T : Type 0} (props : List PropId) (table : List KeptProp) (rows : List Added) (points : PointTable T) (tally : Tally) : Type 0 where
+  pub theory : Theory
+  pub mentions : List Ground
+  pub lists : ListsInitials theory
+  pub few : length theory.initials ≤ MOST_INITIALS
+  pub tables : AreTablesBy theory (terms_of table props ++ mentions) table rows points tally

@@ -2,6 +2,7 @@
 #![tactic(auto)]
 
 mod links;
+mod mention;
 mod parts;
 mod tally;
 

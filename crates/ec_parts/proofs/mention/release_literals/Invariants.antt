@@ -1,0 +1,8 @@
+use Rattle.std.proofs.Common.{take, map}
+use Rattle.ec_context.specs.declared.entry.EntryLiteral.{EntryLiteral}
+use Rattle.ec_parts.specs.Mentions.{HasReleased}
+use Rattle.ec_parts.proofs.mention.release_literals.Given as goal
+
+abbrev pub invariant-loop-literal : goal.invariant-loop-literal
+invariant-loop-literal g l =
+    HasReleased l.neighbours l.points (map (λ (literal : EntryLiteral). literal.prop) (take l.literal-index l.literals)) l.initial.props l.initial.tally l.props l.tally
