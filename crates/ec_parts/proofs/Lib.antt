@@ -1,3 +1,4 @@
 pub mod LinksByNumber
 pub mod OneMention
 pub mod Mentioned
+pub mod TablesOfEvents

@@ -1,9 +1,9 @@
 -- What a mention adds to the links, counted by the numbers of a table.
-use Rattle.std.proofs.Common.{◌≡◌, ℕ, ◌+◌, ◌-◌, ◌*◌, ◌<◌, ◌≤◌, Bool, true, false, not, cond, ◌&&◌, ◌||◌, List, [], ◌∷◌, ◌++◌, length, filter, filter_map, map, Option, Some, None, is_some, IsTrue, refl, sym, ap, ap₂, subst, ◌∙◌, ◌⊎◌, inl, inr, ⊎_elim, arith}
+use Rattle.std.proofs.Common.{◌≡◌, ℕ, ◌+◌, ◌-◌, Bool, true, false, not, cond, ◌&&◌, ◌||◌, List, [], ◌∷◌, ◌++◌, length, filter, Option, Some, None, is_some, IsTrue, refl, sym, ap, ap₂, subst, ◌∙◌, ⊎_elim, arith}
 use Rattle.std.specs.Prelude.{◌==◌, nat_lt, option_map, unwrap_or}
-use Rattle.std.specs.List.{list_any, list_all, sum_by, All, IsDistinct}
+use Rattle.std.specs.List.{list_any, list_all, sum_by, All}
 use Rattle.std.specs.Option.{option_map_or}
-use Rattle.std.proofs.lemmas.Bool.{cases_Bool, and_parts, false≢true, false_from_ne_true, eqb-true, eq-eqb, not_from_false, or_parts, cond-true, cond-false}
+use Rattle.std.proofs.lemmas.Bool.{cases_Bool, and_parts, false≢true, false_from_ne_true, eqb-true, eq-eqb, cond-true, cond-false}
 use Rattle.std.proofs.lemmas.List.Elements.{All-contains}
 use Rattle.std.proofs.lemmas.List.Sums.{sum_by-cons}
 use Rattle.ec_terms.specs.declared.ids.PropId.{PropId}
@@ -11,30 +11,30 @@ use Rattle.ec_terms.specs.declared.ground.Ground.{Ground}
 use Rattle.ec_terms.specs.declared.theory.Theory.{Theory}
 use Rattle.ec_terms.specs.Term.{term_eq}
 use Rattle.ec_terms.specs.Domain.{are_exclusive, is_initial}
-use Rattle.ec_terms.proofs.DomainLemmas.{term_eq-comm, term_eq-refl}
+use Rattle.ec_terms.proofs.DomainLemmas.{term_eq-refl}
 use Rattle.ec_terms.proofs.OrderLemmas.{term_eq-Decides}
-use Rattle.ec_lists.proofs.Filters.{filter-none, filter-filter_wider, length-filter_le}
+use Rattle.ec_lists.proofs.Filters.{filter-none, filter-filter_wider}
 use Rattle.ec_lists.proofs.Tests.{list_all-weaker, list_any-none, nat_lt-filter}
 use Rattle.ec_lists.proofs.Options.{Some-from_is_some, is_some-option_map}
-use Rattle.ec_axioms.specs.Links.{initial_properties, in_term_order}
-use Rattle.ec_axioms.proofs.Members.{IsMember, Contains-from_member, filter_agree, find-Some, list_any-member, member-list_any, IsMember-from_filter}
+use Rattle.ec_axioms.specs.Links.{initial_properties}
+use Rattle.ec_axioms.proofs.Members.{IsMember, Contains-from_member, filter_agree, find-Some, IsMember-from_filter}
 use Rattle.ec_changes.specs.LiveLaws.{ListsInitials}
 use Rattle.ec_changes.specs.LinkLaws.{live_by, exclusive_count, links_of}
 use Rattle.ec_changes.proofs.Tallies.{length-by_keys, length-filter_once, sum_by-agree}
-use Rattle.ec_changes.proofs.TermOrder.{IsMember-from_test, test-IsMember}
+use Rattle.ec_changes.proofs.TermOrder.{test-IsMember}
 use Rattle.ec_changes.proofs.LiveLists.{test-in_term_order}
 use Rattle.ec_changes.proofs.DistinctTerms.{IsDistinct-in_term_order}
 use Rattle.ec_changes.proofs.LinkSteps.{OneMentionMore-law}
-use Rattle.ec_props.specs.Table.{KeptProp, prop_at, prop_of, term_at, mentions_at, is_in_order}
+use Rattle.ec_props.specs.Table.{KeptProp, prop_at, prop_of, term_at, is_in_order}
 use Rattle.ec_props.proofs.KeptLemmas.{place-prop_at, same-places, prop_at-id, find-has_term}
 use Rattle.ec_rows.specs.Ordered.{is_ascending}
 use Rattle.ec_numbered.specs.PropSet.{has_number, comes_before, are_ascending}
-use Rattle.ec_numbered.proofs.Numbers.{same_prop, has_number-filter}
+use Rattle.ec_numbered.proofs.Numbers.{has_number-filter}
 use Rattle.std.proofs.lemmas.List.Folds.{list_any-append}
-use Rattle.ec_exclusive.specs.Added.{Added, added_props, is_added, neighbours_of}
+use Rattle.ec_exclusive.specs.Added.{Added, added_props, is_added}
 use Rattle.ec_exclusive.specs.Neighbours.{both_exclusive, exclusive_at}
-use Rattle.ec_points.specs.Table.{PointTable, is_initial_at}
-use Rattle.ec_parts.specs.Tables.{held_mention, AreAllAdded}
+use Rattle.ec_points.specs.Table.{PointTable}
+use Rattle.ec_parts.specs.Tables.{held_mention}
 use Rattle.ec_parts.specs.Caches.{AreInitialsOf}
 use Rattle.ec_parts.specs.Mentions.{is_live_by, AreKeptBy, count_at, told_at, links_to}
 

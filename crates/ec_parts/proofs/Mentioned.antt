@@ -1,9 +1,9 @@
 -- Several mentions more or less, one after the other.
-use Rattle.std.proofs.Common.{◌≡◌, ℕ, ◌+◌, ◌-◌, ◌*◌, ◌^◌, ◌<◌, ◌≤◌, Bool, true, false, cond, List, [], ◌∷◌, ◌++◌, get_or, length, filter, map, take, drop, Option, Some, None, is_some, IsTrue, IsSome, IfSome, refl, sym, ap, ap₂, subst, ◌∙◌, inl, inr, ⊎_elim, arith, suc, append_assoc, append-nil, length-append}
-use Rattle.std.specs.Prelude.{◌==◌, option_map, unwrap_or, flat_map, filter_map}
+use Rattle.std.proofs.Common.{◌≡◌, ℕ, ◌+◌, ◌-◌, ◌*◌, ◌^◌, ◌<◌, ◌≤◌, Bool, true, cond, List, [], ◌∷◌, ◌++◌, get_or, length, filter, map, take, drop, Option, Some, None, is_some, IsSome, IfSome, refl, sym, ap, subst, ◌∙◌, arith, suc, append_assoc, append-nil, length-append}
+use Rattle.std.specs.Prelude.{◌==◌, option_map, unwrap_or, flat_map}
 use Rattle.std.specs.List.{sum_by, All}
 use Rattle.std.specs.List.Sorted.{IsPermutation}
-use Rattle.std.proofs.lemmas.Bool.{cases_Bool, false≢true}
+use Rattle.std.proofs.lemmas.Bool.{false≢true}
 use Rattle.std.proofs.lemmas.List.{length-map, map-append, take-append-drop, take_more}
 use Rattle.std.proofs.lemmas.Grind.{flat_map-append}
 use Rattle.std.proofs.Math.Seq.{drop-cons}
@@ -13,19 +13,16 @@ use Rattle.std.proofs.lemmas.List.Sums.{sum_by-le}
 use Rattle.std.proofs.Math.Nat.{mul-le-mul}
 use Rattle.ec_terms.specs.declared.ids.PropId.{PropId}
 use Rattle.ec_terms.specs.declared.ground.Ground.{Ground}
-use Rattle.ec_terms.specs.declared.theory.Initial.{Initial}
 use Rattle.ec_terms.specs.declared.theory.Theory.{Theory}
-use Rattle.ec_terms.specs.Term.{term_eq, term_cmp}
+use Rattle.ec_terms.specs.Term.{term_eq}
 use Rattle.ec_terms.specs.Domain.{are_exclusive}
-use Rattle.ec_terms.specs.Matching.{filled}
 use Rattle.ec_lists.proofs.Filters.{length-filter_le}
 use Rattle.ec_lists.proofs.Options.{Some-from_is_some, is_some-option_map, IfSome-from}
 use Rattle.ec_check.specs.declared.limits.TheConstants.{MOST_INITIALS}
 use Rattle.ec_axioms.specs.Links.{initial_properties, with_property, in_term_order}
-use Rattle.ec_changes.specs.LiveLaws.{ListsInitials}
 use Rattle.ec_changes.specs.LinkLaws.{live_by, exclusive_count, links_of}
 use Rattle.ec_changes.proofs.EventMentions.{swapped_front}
-use Rattle.ec_props.specs.Table.{KeptProp, prop_at, prop_of, term_at, mentions_at, with_mentions}
+use Rattle.ec_props.specs.Table.{KeptProp, prop_at, term_at, mentions_at, with_mentions}
 use Rattle.ec_props.proofs.KeptLemmas.{prop_of-with_mentions, term_at-with_mentions, mentions_at-with_mentions, prop_at-with_other_mentions}
 use Rattle.ec_context.specs.declared.entry.Entry.{Entry}
 use Rattle.ec_context.specs.Entries.{IsKeptEntry}

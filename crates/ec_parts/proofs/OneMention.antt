@@ -1,38 +1,33 @@
 -- One mention more or less: what becomes of the tables.
-use Rattle.std.proofs.Common.{◌≡◌, ℕ, ◌+◌, ◌-◌, ◌*◌, ◌^◌, ◌<◌, ◌≤◌, Bool, true, false, cond, ◌||◌, List, [], ◌∷◌, ◌++◌, get_or, length, filter, map, Option, Some, None, is_some, IsTrue, IsSome, refl, sym, ap, ap₂, subst, ◌∙◌, ◌⊎◌, inl, inr, ⊎_elim, arith, suc, zero-add}
+use Rattle.std.proofs.Common.{◌≡◌, ℕ, ◌+◌, Bool, true, false, cond, ◌||◌, List, [], ◌∷◌, get_or, length, filter, Option, Some, None, is_some, IsTrue, IsSome, refl, sym, ap, subst, ◌∙◌, ◌⊎◌, inl, inr, ⊎_elim, arith, suc, zero-add}
 use Rattle.std.specs.Prelude.{◌==◌, option_map, unwrap_or}
-use Rattle.std.specs.List.{list_any, sum_by, All}
+use Rattle.std.specs.List.{sum_by, All}
 use Rattle.std.specs.List.Sorted.{IsPermutation}
 use Rattle.std.proofs.lemmas.Bool.{cases_Bool, false≢true, false_from_ne_true, eqb-true, eq-eqb}
-use Rattle.std.proofs.lemmas.List.{length-map}
-use Rattle.std.proofs.lemmas.List.Elements.{All-map, All-contains}
+use Rattle.std.proofs.lemmas.List.Elements.{All-map}
 use Rattle.std.proofs.lemmas.List.Sorted.{sum_by-IsPermutation, list_any-IsPermutation, length_permutation}
-use Rattle.std.proofs.lemmas.List.Sums.{sum_by-cons, sum_by-le}
-use Rattle.std.proofs.Math.Nat.{mul-le-mul_left}
+use Rattle.std.proofs.lemmas.List.Sums.{sum_by-cons}
 use Rattle.ec_terms.specs.declared.ids.PropId.{PropId}
 use Rattle.ec_terms.specs.declared.ground.Ground.{Ground}
 use Rattle.ec_terms.specs.declared.theory.Theory.{Theory}
-use Rattle.ec_terms.specs.Term.{term_eq, term_cmp}
+use Rattle.ec_terms.specs.Term.{term_eq}
 use Rattle.ec_terms.specs.Domain.{is_initial}
 use Rattle.ec_terms.proofs.OrderLemmas.{term_eq-Decides}
-use Rattle.ec_lists.proofs.Filters.{length-filter_le}
-use Rattle.ec_lists.proofs.Options.{Some-from_is_some, is_some-option_map, None-from_option_map}
-use Rattle.ec_check.specs.declared.limits.TheConstants.{MOST_INITIALS}
-use Rattle.ec_axioms.specs.Links.{initial_properties, with_property, in_term_order}
+use Rattle.ec_lists.proofs.Options.{Some-from_is_some, is_some-option_map}
 use Rattle.ec_changes.specs.LiveLaws.{ListsInitials}
-use Rattle.ec_changes.specs.LinkLaws.{live_by, exclusive_count, links_of}
+use Rattle.ec_changes.specs.LinkLaws.{links_of}
 use Rattle.ec_changes.proofs.LinkSteps.{LinksInAnyOrder-law}
 use Rattle.ec_props.specs.Table.{KeptProp, prop_at, prop_of, term_at, mentions_at, with_mentions, mentioned}
-use Rattle.ec_props.proofs.KeptLemmas.{place-prop_at, find-term, in_order-with_mentions, prop_at-with_mentions, prop_of-with_mentions, term_at-with_mentions, mentions_at-with_mentions, prop_at-with_other_mentions, mentioned-id}
+use Rattle.ec_props.proofs.KeptLemmas.{place-prop_at, find-term, in_order-with_mentions, prop_at-with_mentions, mentioned-id}
 use Rattle.ec_numbered.specs.PropSet.{are_ascending}
-use Rattle.ec_exclusive.specs.Added.{Added, added_props, is_added}
+use Rattle.ec_exclusive.specs.Added.{Added, added_props}
 use Rattle.ec_exclusive.specs.Neighbours.{AreNeighbours, exclusive_at}
 use Rattle.ec_exclusive.proofs.SameTerms.{read_terms_alone}
-use Rattle.ec_points.specs.Table.{PointTable, is_initial_at}
+use Rattle.ec_points.specs.Table.{PointTable}
 use Rattle.ec_parts.specs.declared.tally.Tally.{Tally}
 use Rattle.ec_parts.specs.Tables.{held_mention, AreAllAdded}
 use Rattle.ec_parts.specs.Caches.{AreInitialsOf}
-use Rattle.ec_parts.specs.Mentions.{is_live_by, AreKeptBy, IsTallyBy, AreTablesBy, AreSomeTables, count_at, links_to}
+use Rattle.ec_parts.specs.Mentions.{is_live_by, AreKeptBy, AreTablesBy, count_at, links_to}
 use Rattle.ec_parts.proofs.LinksByNumber.{IsOneToOne, same_number, AreItsNeighbours, links-one_more}
 
 -- ---- the order of mentions

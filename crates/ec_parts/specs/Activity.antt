@@ -1,5 +1,5 @@
 -- Which entries of an event are active, as the bits of a word.
-use Rattle.std.specs.Prelude.{◌≡◌, ℕ, Bool, false, ◌==◌, List, ◌<◌, ◌^◌, slice_get}
+use Rattle.std.specs.Prelude.{◌≡◌, ℕ, Bool, false, ◌==◌, slice_get}
 use Rattle.std.specs.Int.{bit_at}
 use Rattle.std.specs.Option.{option_map_or}
 use Rattle.ec_terms.specs.declared.theory.Theory.{Theory}

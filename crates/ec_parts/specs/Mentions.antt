@@ -1,12 +1,14 @@
 -- What it is for the tables to be those of a list of mentions, and what further mentions make of them.
-use Rattle.std.specs.Prelude.{◌≡◌, ◌≤◌, ℕ, ◌+◌, ◌-◌, nat_lt, Bool, ◌||◌, if◌then◌else◌, List, [], ◌∷◌, ◌++◌, length, filter, map, flat_map, filter_map, Some, IsSome, IsTrue, unwrap_or}
+use Rattle.std.specs.Prelude.{◌≡◌, ◌≤◌, ℕ, ◌+◌, ◌-◌, nat_lt, Bool, ◌||◌, if◌then◌else◌, List, ◌∷◌, ◌++◌, length, filter, map, flat_map, filter_map, Some, IsSome, IsTrue, unwrap_or}
 use Rattle.std.specs.List.{list_any}
 use Rattle.std.specs.List.Sorted.{IsPermutation}
 use Rattle.ec_terms.specs.declared.ids.PropId.{PropId}
 use Rattle.ec_terms.specs.declared.ground.Ground.{Ground}
 use Rattle.ec_terms.specs.declared.theory.Theory.{Theory}
 use Rattle.ec_terms.specs.Term.{term_eq}
-use Rattle.ec_terms.specs.Domain.{is_initial}
+use Rattle.ec_terms.specs.Domain.{is_initial, entries_of}
+use Rattle.ec_axioms.specs.Calculus.{PlainEvent}
+use Rattle.ec_axioms.specs.Changes.{is_history, has_event, with_event, without_event}
 use Rattle.ec_check.specs.declared.limits.TheConstants.{MOST_INITIALS}
 use Rattle.ec_changes.specs.LiveLaws.{ListsInitials}
 use Rattle.ec_changes.specs.LinkLaws.{links_of}
@@ -14,10 +16,12 @@ use Rattle.ec_props.specs.Table.{KeptProp, prop_of, term_at, mentions_at}
 use Rattle.ec_exclusive.specs.Added.{Added}
 use Rattle.ec_context.specs.declared.entry.Entry.{Entry}
 use Rattle.ec_context.specs.declared.entry.EntryLiteral.{EntryLiteral}
+use Rattle.ec_context.specs.Entries.{shown_entries}
 use Rattle.ec_points.specs.Table.{PointTable, is_initial_at}
 use Rattle.ec_parts.specs.declared.tally.Tally.{Tally}
 use Rattle.ec_parts.specs.Tables.{held_mention, AreAllAdded}
 use Rattle.ec_parts.specs.Caches.{AreInitialsOf}
+use Rattle.ec_parts.specs.StandFor.{AreTables}
 
 -- ---- the tables of some mentions
 
@@ -96,3 +100,16 @@ pub record AreSomeTables {T : Type 0} (props : List PropId) (table : List KeptPr
   pub lists : ListsInitials theory
   pub few : length theory.initials ≤ MOST_INITIALS
   pub tables : AreTablesBy theory (terms_of table props ++ mentions) table rows points tally
+
+-- the tables of any list of events become those of the list with the event of these entries in its place
+abbrev pub TakesEventIn : {T : Type 0} → Theory → List Entry → List Added → PointTable T → List KeptProp → Tally → List KeptProp → Tally → Type 0
+TakesEventIn theory entries rows points before old after new =
+    (events : List PlainEvent) (event : PlainEvent) → ListsInitials theory → shown_entries before entries ≡ Some (entries_of theory event.term)
+    → AreTables theory events before rows points old → AreTables theory (with_event event events) after rows points new
+
+-- the tables of any history become those of the history without its event of these entries
+abbrev pub TakesEventOut : {T : Type 0} → Theory → List Entry → List Added → PointTable T → List KeptProp → Tally → List KeptProp → Tally → Type 0
+TakesEventOut theory entries rows points before old after new =
+    (events : List PlainEvent) (event : PlainEvent) → ListsInitials theory → shown_entries before entries ≡ Some (entries_of theory event.term)
+    → IsTrue (is_history events) → IsTrue (has_event events event)
+    → AreTables theory events before rows points old → AreTables theory (without_event event.id events) after rows points new

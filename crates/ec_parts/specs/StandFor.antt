@@ -14,7 +14,7 @@ use Rattle.ec_points.specs.Table.{PointTable}
 use Rattle.ec_intervals.specs.Table.{IntervalTable}
 use Rattle.ec_parts.specs.declared.tally.Tally.{Tally}
 use Rattle.ec_parts.specs.Tables.{AreKept, KeepsOnlyLive, AreAllAdded, IsTally}
-use Rattle.ec_parts.specs.Caches.{AreEventsOf, AreEntriesOf, AreMarksOf, AreInitiationsOf, AreIntervalsOf}
+use Rattle.ec_parts.specs.Caches.{AreEventsOf, AreEntriesOf, AreInitialsOf, AreMarksOf, AreInitiationsOf, AreIntervalsOf}
 
 -- what contracts see of the parts
 pub record View (T : Type 0) : Type 0 where
@@ -27,9 +27,10 @@ pub record View (T : Type 0) : Type 0 where
   pub intervals : IntervalTable T
 
 -- the tables are those of a list of events
-pub record AreTables {T : Type 0} (theory : Theory) (events : List PlainEvent) (view : View T) (tally : Tally) : Type 0 where
-  pub kept : AreKept theory events view.table
-  pub added : AreAllAdded theory view.table view.neighbours
+pub record AreTables {T : Type 0} (theory : Theory) (events : List PlainEvent) (table : List KeptProp) (rows : List Added) (points : PointTable T) (tally : Tally) : Type 0 where
+  pub kept : AreKept theory events table
+  pub added : AreAllAdded theory table rows
+  pub initials : AreInitialsOf theory table points
   pub tally_of : IsTally theory events tally
 
 -- the caches are those of a list of events
@@ -44,7 +45,7 @@ pub record AreCaches {T : Type 0} (rank : T → ℤ) (theory : Theory) (events :
 -- The caches are those of the present list and the tables those of the list to come; what is live in the present list is
 -- kept too.
 pub record StandForBoth {T : Type 0} (rank : T → ℤ) (theory : Theory) (now soon : List PlainEvent) (view : View T) (tally : Tally) : Type 0 where
-  pub tables : AreTables theory soon view tally
+  pub tables : AreTables theory soon view.table view.neighbours view.points tally
   pub caches : AreCaches rank theory now view
   pub live : (p : Ground) → IsTrue (is_live theory now p) → IsSome (prop_of p view.table)
 

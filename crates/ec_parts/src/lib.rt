@@ -4,7 +4,9 @@
 mod links;
 mod mention;
 mod parts;
+mod tables;
 mod tally;
 
 pub use parts::Parts;
+pub use tables::{mention_all, release_all};
 pub use tally::Tally;

@@ -1,9 +1,5 @@
-use Rattle.std.proofs.Common.{◌+◌, ◌≤◌, ◌++◌, ◌∷◌, [], map, length, take, drop, get_or, refl, ap, subst, sym, ◌∙◌, arith, length-append}
-use Rattle.std.proofs.lemmas.List.{take_all, length-map}
-use Rattle.ec_context.specs.declared.entry.Entry.{Entry}
-use Rattle.ec_context.specs.declared.entry.EntryLiteral.{EntryLiteral}
-use Rattle.ec_terms.specs.declared.ids.PropId.{PropId}
-use Rattle.ec_parts.specs.Mentions.{HasMentioned, HasReleased, AreSomeTables, entry_props, list_props}
+use Rattle.std.proofs.Common.{◌++◌, [], length, take, refl, ap, subst, sym, ◌∙◌, arith}
+use Rattle.ec_parts.specs.Mentions.{entry_props, list_props}
 use Rattle.ec_context.specs.Entries.{IsKeptEntry}
 use Rattle.ec_parts.proofs.Mentioned.{IsKeptEntry-same, HasMentioned-none, HasMentioned-then, AreSomeTables-mentioned, flat_map-take_more, list_props-room}
 use Rattle.ec_parts.proofs.mention.mention_entries.Goals as goal

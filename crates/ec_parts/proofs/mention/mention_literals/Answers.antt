@@ -1,4 +1,4 @@
-use Rattle.std.proofs.Common.{◌≡◌, ◌+◌, ◌++◌, ◌∷◌, [], List, map, take, drop, get_or, refl, ap, subst, sym, ◌∙◌, arith}
+use Rattle.std.proofs.Common.{[], map, take, refl, subst}
 use Rattle.std.proofs.lemmas.List.{take_all}
 use Rattle.ec_context.specs.declared.entry.EntryLiteral.{EntryLiteral}
 use Rattle.ec_parts.specs.Mentions.{HasMentioned}

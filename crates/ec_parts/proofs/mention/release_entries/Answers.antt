@@ -1,10 +1,5 @@
-use Rattle.std.proofs.Common.{◌+◌, ◌≤◌, ◌++◌, ◌∷◌, [], map, length, take, drop, get_or, refl, ap, subst, sym, ◌∙◌, arith, length-append}
-use Rattle.std.proofs.lemmas.List.{take_all, length-map}
-use Rattle.ec_context.specs.declared.entry.Entry.{Entry}
-use Rattle.ec_context.specs.declared.entry.EntryLiteral.{EntryLiteral}
-use Rattle.ec_terms.specs.declared.ids.PropId.{PropId}
-use Rattle.ec_parts.specs.Mentions.{HasMentioned, HasReleased, AreSomeTables, entry_props, list_props}
-use Rattle.ec_context.specs.Entries.{IsKeptEntry}
+use Rattle.std.proofs.Common.{◌+◌, ◌++◌, take, drop, refl, ap, sym, ◌∙◌}
+use Rattle.ec_parts.specs.Mentions.{entry_props, list_props}
 use Rattle.ec_parts.proofs.Mentioned.{HasReleased-then, AreSomeTables-front, AreSomeTables-released, flat_map-take_more, flat_map-cut}
 use Rattle.ec_parts.proofs.mention.release_entries.Goals as goal
 

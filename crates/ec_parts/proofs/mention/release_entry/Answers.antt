@@ -1,11 +1,7 @@
-use Rattle.std.proofs.Common.{ℕ, ◌<◌, List, IsSome, ◌+◌, ◌≤◌, ◌++◌, ◌∷◌, [], map, length, take, drop, get_or, refl, ap, subst, sym, ◌∙◌, arith, length-append}
-use Rattle.std.proofs.lemmas.List.{take_all, length-map}
-use Rattle.ec_context.specs.declared.entry.Entry.{Entry}
+use Rattle.std.proofs.Common.{ℕ, ◌<◌, List, IsSome, ◌∷◌, [], map, length, get_or, refl, ap, subst, sym}
 use Rattle.ec_context.specs.declared.entry.EntryLiteral.{EntryLiteral}
-use Rattle.ec_terms.specs.declared.ids.PropId.{PropId}
-use Rattle.ec_parts.specs.Mentions.{HasMentioned, HasReleased, AreSomeTables, entry_props, list_props}
+use Rattle.ec_parts.specs.Mentions.{entry_props}
 use Rattle.ec_props.specs.Table.{prop_at}
-use Rattle.ec_context.specs.Entries.{IsKeptEntry}
 use Rattle.ec_parts.proofs.Mentioned.{kept-same, HasReleased-then, AreSomeTables-front, AreSomeTables-released}
 use Rattle.ec_parts.proofs.mention.release_entry.Goals as goal
 
