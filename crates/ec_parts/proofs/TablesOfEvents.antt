@@ -1,5 +1,5 @@
 -- The tables of a list of events, with one event more and with one less.
-use Rattle.std.proofs.Common.{◌≡◌, List, [], ◌∷◌, ◌++◌, map, Option, Some, None, IsTrue, refl, sym, ap, ap₂, subst, ◌∙◌}
+use Rattle.std.proofs.Common.{◌≡◌, ◌≤◌, length, List, [], ◌∷◌, ◌++◌, map, Option, Some, None, IsTrue, refl, sym, ap, ap₂, subst, ◌∙◌}
 use Rattle.std.specs.Prelude.{flat_map, option_map, option_and_then}
 use Rattle.std.specs.List.Sorted.{IsPermutation}
 use Rattle.std.proofs.lemmas.List.Elements.{filter_map-append}
@@ -22,7 +22,8 @@ use Rattle.ec_context.specs.Entries.{each_of, shown_literal, shown_literals, sho
 use Rattle.ec_points.specs.Table.{PointTable}
 use Rattle.ec_parts.specs.declared.tally.Tally.{Tally}
 use Rattle.ec_parts.specs.StandFor.{AreTables}
-use Rattle.ec_parts.specs.Mentions.{AreTablesBy, HasMentioned, HasReleased, entry_props, list_props, terms_of}
+use Rattle.ec_check.specs.declared.limits.TheConstants.{MOST_INITIALS}
+use Rattle.ec_parts.specs.Mentions.{AreTablesBy, AreSomeTables, HasMentioned, HasReleased, entry_props, list_props, terms_of}
 use Rattle.ec_parts.proofs.OneMention.{AreTablesBy-IsPermutation}
 
 -- ---- the terms of shown entries
@@ -132,3 +133,24 @@ module _ {T : Type 0} {theory : Theory} {before after : List KeptProp} {rows : L
       AreTables-mentions
       (step.tables theory (mentions_of theory (without_event event.id events)) lists
       (AreTablesBy-IsPermutation (mentions_of theory events) _ (IsPermutation-sym _ _ own) (AreTablesBy-events tables)))
+
+-- the mentions of an event are among those of a history that has it
+pub AreSomeTables-with_event : {T : Type 0} {theory : Theory} {table : List KeptProp} {rows : List Added} {points : PointTable T} {tally : Tally} (events : List PlainEvent) (event : PlainEvent) (entries : List Entry)
+    → ListsInitials theory → length theory.initials ≤ MOST_INITIALS → shown_entries table entries ≡ Some (entries_of theory event.term) → IsTrue (is_history events) → IsTrue (has_event events event)
+    → AreTables theory events table rows points tally → AreSomeTables (list_props entries) table rows points tally
+AreSomeTables-with_event {theory = theory} {table = table} events event entries lists few shown history there tables =
+    let own : IsPermutation (terms_of table (list_props entries) ++ mentions_of theory (without_event event.id events)) (mentions_of theory events) =
+    subst (λ ts. IsPermutation (ts ++ mentions_of theory (without_event event.id events)) (mentions_of theory events)) (sym (terms_of-entries table entries _ shown)) (MentionsWithoutEvent-law theory event events history there) in
+    record {
+      theory = theory;
+      mentions = mentions_of theory (without_event event.id events);
+      lists = lists;
+      few = few;
+      tables = AreTablesBy-IsPermutation (mentions_of theory events) _ (IsPermutation-sym _ _ own) (AreTablesBy-events tables);
+    }
+
+-- the tables of a list of events are those of some mentions
+pub AreSomeTables-events : {T : Type 0} {theory : Theory} {table : List KeptProp} {rows : List Added} {points : PointTable T} {tally : Tally} (events : List PlainEvent)
+    → ListsInitials theory → length theory.initials ≤ MOST_INITIALS → AreTables theory events table rows points tally → AreSomeTables [] table rows points tally
+AreSomeTables-events {theory = theory} events lists few tables =
+    record { theory = theory; mentions = mentions_of theory events; lists = lists; few = few; tables = AreTablesBy-events tables }

@@ -101,15 +101,31 @@ pub record AreSomeTables {T : Type 0} (props : List PropId) (table : List KeptPr
   pub few : length theory.initials ≤ MOST_INITIALS
   pub tables : AreTablesBy theory (terms_of table props ++ mentions) table rows points tally
 
+-- ---- the tables of a list of events
+
+-- the tables are those of some list of events
+pub record AreOfEvents {T : Type 0} (theory : Theory) (table : List KeptProp) (rows : List Added) (points : PointTable T) (tally : Tally) : Type 0 where
+  pub events : List PlainEvent
+  pub tables : AreTables theory events table rows points tally
+
+-- the tables are those of some history, which has an event of these entries
+pub record AreOfEventsWith {T : Type 0} (theory : Theory) (entries : List Entry) (table : List KeptProp) (rows : List Added) (points : PointTable T) (tally : Tally) : Type 0 where
+  pub events : List PlainEvent
+  pub event : PlainEvent
+  pub history : IsTrue (is_history events)
+  pub there : IsTrue (has_event events event)
+  pub shown : shown_entries table entries ≡ Some (entries_of theory event.term)
+  pub tables : AreTables theory events table rows points tally
+
 -- the tables of any list of events become those of the list with the event of these entries in its place
 abbrev pub TakesEventIn : {T : Type 0} → Theory → List Entry → List Added → PointTable T → List KeptProp → Tally → List KeptProp → Tally → Type 0
 TakesEventIn theory entries rows points before old after new =
-    (events : List PlainEvent) (event : PlainEvent) → ListsInitials theory → shown_entries before entries ≡ Some (entries_of theory event.term)
+    (events : List PlainEvent) (event : PlainEvent) → shown_entries before entries ≡ Some (entries_of theory event.term)
     → AreTables theory events before rows points old → AreTables theory (with_event event events) after rows points new
 
 -- the tables of any history become those of the history without its event of these entries
 abbrev pub TakesEventOut : {T : Type 0} → Theory → List Entry → List Added → PointTable T → List KeptProp → Tally → List KeptProp → Tally → Type 0
 TakesEventOut theory entries rows points before old after new =
-    (events : List PlainEvent) (event : PlainEvent) → ListsInitials theory → shown_entries before entries ≡ Some (entries_of theory event.term)
+    (events : List PlainEvent) (event : PlainEvent) → shown_entries before entries ≡ Some (entries_of theory event.term)
     → IsTrue (is_history events) → IsTrue (has_event events event)
     → AreTables theory events before rows points old → AreTables theory (without_event event.id events) after rows points new

@@ -1,12 +1,14 @@
 //! The parts of the engine, and what it is that they stand for a list of events.
 #![tactic(auto)]
 
+mod laws;
 mod links;
 mod mention;
 mod parts;
 mod tables;
 mod tally;
 
+pub use laws::initials_are_listed_law;
 pub use parts::Parts;
 pub use tables::{mention_all, release_all};
 pub use tally::Tally;

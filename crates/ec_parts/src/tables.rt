@@ -1,7 +1,7 @@
 //! The tables with one event more or less.
-ghost use Rattle.std.specs.Prelude.{◌≡◌, ◌+◌, ◌≤◌, ◌^◌, [], All, length};
+ghost use Rattle.std.specs.Prelude.{◌≡◌, ◌+◌, ◌≤◌, ◌^◌, All, length};
 ghost use Rattle.ec_context.specs.Entries.{IsKeptEntry};
-ghost use Rattle.ec_parts.specs.Mentions.{AreSomeTables, HasMentioned, HasReleased, TakesEventIn, TakesEventOut, list_props};
+ghost use Rattle.ec_parts.specs.Mentions.{AreOfEvents, AreOfEventsWith, HasMentioned, HasReleased, TakesEventIn, TakesEventOut, list_props};
 
 use crate::mention::{mention_entries, release_entries};
 use crate::parts::Parts;
@@ -20,12 +20,13 @@ pub fn mention_all<T: Moment, M: MarkRow<T>, I: SpanRow<T>, X: TimeRow<T>>(
     list: &EntryList,
 )
     requires kept { All (IsKeptEntry parts.old.props) list.now }
-    requires tables { AreSomeTables [] parts.old.props parts.old.neighbours parts.old.points tally.old }
+    requires tables { AreOfEvents parts.old.checked parts.old.props parts.old.neighbours parts.old.points tally.old }
     requires few { tally.old.mentions + length (list_props list.now) ≤ 2 ^ 21 }
     ensures mentioned { HasMentioned parts.old.neighbours parts.old.points (list_props list.now) parts.old.props tally.old parts.new.props tally.new }
     ensures tables { TakesEventIn parts.old.checked list.now parts.old.neighbours parts.old.points parts.old.props tally.old parts.new.props tally.new }
     ensures rest { parts.new ≡ record parts.old { props = parts.new.props } }
 {
+    let _ = parts.checked.theory();
     mention_entries(
         &mut parts.props,
         &parts.neighbours,
@@ -43,11 +44,12 @@ pub fn release_all<T: Moment, M: MarkRow<T>, I: SpanRow<T>, X: TimeRow<T>>(
     list: &EntryList,
 )
     requires kept { All (IsKeptEntry parts.old.props) list.now }
-    requires tables { AreSomeTables (list_props list.now) parts.old.props parts.old.neighbours parts.old.points tally.old }
+    requires tables { AreOfEventsWith parts.old.checked list.now parts.old.props parts.old.neighbours parts.old.points tally.old }
     ensures released { HasReleased parts.old.neighbours parts.old.points (list_props list.now) parts.old.props tally.old parts.new.props tally.new }
     ensures tables { TakesEventOut parts.old.checked list.now parts.old.neighbours parts.old.points parts.old.props tally.old parts.new.props tally.new }
     ensures rest { parts.new ≡ record parts.old { props = parts.new.props } }
 {
+    let _ = parts.checked.theory();
     release_entries(
         &mut parts.props,
         &parts.neighbours,

@@ -1,11 +1,16 @@
 use Rattle.std.proofs.Common.{subst}
 use Rattle.ec_parts.specs.Mentions.{HasMentioned, list_props}
-use Rattle.ec_parts.proofs.TablesOfEvents.{AreTables-with_event}
+use Rattle.ec_parts.proofs.ListedInitials.{lists_initials, few_initials}
+use Rattle.ec_parts.proofs.TablesOfEvents.{AreTables-with_event, AreSomeTables-events}
 use Rattle.ec_parts.proofs.tables.mention_all.Goals as goal
 
+pub mention_entries-requires-clause-tables : goal.mention_entries-requires-clause-tables
+mention_entries-requires-clause-tables g c =
+    AreSomeTables-events c.requires.tables.events (lists_initials c.args.parts.now.checked c.theory.ensures.well_formed c.theory.ensures.matchable) (few_initials c.args.parts.now.checked c.theory.ensures.well_formed) c.requires.tables.tables
+
 pub returns-clause-tables : goal.returns-clause-tables
-returns-clause-tables g c events event lists shown tables =
-    AreTables-with_event events event c.args.list.now lists shown
+returns-clause-tables g c events event shown tables =
+    AreTables-with_event events event c.args.list.now (lists_initials c.args.parts.now.checked c.theory.ensures.well_formed c.theory.ensures.matchable) shown
     (subst (λ list. HasMentioned c.args.parts.now.neighbours c.args.parts.now.points (list_props list) c.args.parts.now.props c.args.tally.now c.mention_entries.new.props c.mention_entries.new.tally)
     c.as_slice.ensures.items c.mention_entries.ensures)
     tables

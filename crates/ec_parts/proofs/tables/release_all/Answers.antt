@@ -1,11 +1,19 @@
-use Rattle.std.proofs.Common.{subst}
-use Rattle.ec_parts.specs.Mentions.{HasReleased, list_props}
-use Rattle.ec_parts.proofs.TablesOfEvents.{AreTables-without_event}
+use Rattle.std.proofs.Common.{subst, sym}
+use Rattle.ec_parts.specs.Mentions.{HasReleased, AreSomeTables, list_props}
+use Rattle.ec_parts.proofs.ListedInitials.{lists_initials, few_initials}
+use Rattle.ec_parts.proofs.TablesOfEvents.{AreTables-without_event, AreSomeTables-with_event}
 use Rattle.ec_parts.proofs.tables.release_all.Goals as goal
 
+pub release_entries-requires-clause-tables : goal.release_entries-requires-clause-tables
+release_entries-requires-clause-tables g c =
+    let r = c.requires.tables in
+    subst (λ list. AreSomeTables (list_props list) c.args.parts.now.props c.args.parts.now.neighbours c.args.parts.now.points c.args.tally.now) (sym c.as_slice.ensures.items)
+    (AreSomeTables-with_event r.events r.event c.args.list.now (lists_initials c.args.parts.now.checked c.theory.ensures.well_formed c.theory.ensures.matchable)
+    (few_initials c.args.parts.now.checked c.theory.ensures.well_formed) r.shown r.history r.there r.tables)
+
 pub returns-clause-tables : goal.returns-clause-tables
-returns-clause-tables g c events event lists shown history there tables =
-    AreTables-without_event events event c.args.list.now lists shown
+returns-clause-tables g c events event shown history there tables =
+    AreTables-without_event events event c.args.list.now (lists_initials c.args.parts.now.checked c.theory.ensures.well_formed c.theory.ensures.matchable) shown
     (subst (λ list. HasReleased c.args.parts.now.neighbours c.args.parts.now.points (list_props list) c.args.parts.now.props c.args.tally.now c.release_entries.new.props c.release_entries.new.tally)
     c.as_slice.ensures.items c.release_entries.ensures)
     history there tables
