@@ -65,7 +65,7 @@ length-kept p (suc n) (x ∷ xs) within all =
     subst (λ b. suc n ≤ length (cond b (x ∷ filter p xs) (filter p xs))) (sym (and-left (p x) (list_all p (take n xs)) all)) (omega (arith, rest))
 
 module _ {T : Type 0} (rank : T → ℤ) where
-  IsSpanRow-rest : (s : Span T) (spans : List (Span T)) → IsSpanRow rank (s ∷ spans) → IsSpanRow rank spans
+  pub IsSpanRow-rest : (s : Span T) (spans : List (Span T)) → IsSpanRow rank (s ∷ spans) → IsSpanRow rank spans
   IsSpanRow-rest s spans row = record { proper = and-right (is_proper rank s) (list_all (is_proper rank) spans) row.proper; ascending = ascending-rest (span_before rank) s spans row.ascending }
 
   pub plain-take : (n : ℕ) (spans : List (Span T)) → take n (plain_spans rank spans) ≡ plain_spans rank (take n spans)

@@ -5,6 +5,7 @@ ghost use Rattle.ec_intervals.specs.OldMarks.{AreOfOldMarks};
 ghost use Rattle.ec_intervals.specs.Table.{IsGrown, front_at, has_row, members_at, plain_intervals, room_at, row_at, spans_at};
 ghost use Rattle.ec_rows.specs.PlainMarks.{plain_marks};
 
+use crate::bounded::BoundedSpans;
 use crate::draft::Draft;
 use crate::interval::Interval;
 use crate::row::{KeptRow, clear_row, count_members, member_of, row_covers};
@@ -24,7 +25,7 @@ use std::marker::Model;
 /// `prepare` has made room, nothing takes memory.
 #[derive(Drop)]
 pub struct Intervals<T: Moment, I: SpanRow<T>> {
-    rows: ByNumber<KeptRow<T, I>>,
+    rows: ByNumber<KeptRow<T, BoundedSpans<T, I>>>,
     draft: Draft<T>,
     alloc: Global,
 }
@@ -61,7 +62,7 @@ impl<T: Moment, I: SpanRow<T>> Intervals<T, I> {
         ensures none { IfNone result (row_at p.0 self.now ≡ None) }
     {
         let kept = self.rows.get(p)?;
-        Some(&kept.spans)
+        Some(kept.spans.inner())
     }
 
     /// The end of the interval of a property from before all events. `None` exactly where it has no such interval.
@@ -93,7 +94,8 @@ impl<T: Moment, I: SpanRow<T>> Intervals<T, I> {
         }
     }
 
-    /// Whether a property holds at a time: some interval of it covers the time. It takes one search in the row.
+    /// Whether a property holds at a time: some interval of it covers the time. Up to the first start of its spans and
+    /// behind their last end it reads no span; else it takes one search in the row.
     pub fn covers(&self, p: PropId, at: T) -> bool
         ensures { result ≡ is_held_at (plain_intervals T.rank (members_at p.0 self.now)) (T.rank at) }
     {

@@ -1,6 +1,8 @@
 //! The maximal validity intervals of each property, by its number, made from its row of marks alone.
 #![tactic(auto)]
 
+mod bounded;
+mod bounds;
 mod broken;
 mod draft;
 mod interval;
