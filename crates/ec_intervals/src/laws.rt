@@ -21,7 +21,7 @@ pub fn open_begins_are_told_by_one_mark_law()
 {}
 
 /// A change of marks adds at most two intervals for each instant at which the row differs: one that ends there, and one
-/// that begins there. So much room is enough for `splice_from`.
+/// that begins there. So much room, and one more for a front, is enough for `splice_from`.
 pub fn growth_is_bounded_law<T: Moment>()
     ensures { GrowthIsBounded T.rank }
 {}
