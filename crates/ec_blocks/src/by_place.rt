@@ -186,6 +186,9 @@ impl<X: Copied + Drop> Chain<X> {
         ensures ok { OnOk result (n ≤ room_of self.new.blocks self.new.spares) }
         ensures room { room_of self.old.blocks self.old.spares ≤ room_of self.new.blocks self.new.spares }
     {
+        if n <= self.spares() {
+            return Ok(()); // each insertion takes one spare block at the most
+        }
         let debt = self.debt();
         let _count = self.count();
         for _k in 0..n {

@@ -1,5 +1,5 @@
 -- One more span stands in the list.
-use Rattle.std.proofs.Common.{◌∷◌, [], ◌++◌, take, sym, ap, ap₂, ◌∙◌, arith}
+use Rattle.std.proofs.Common.{◌∷◌, [], ◌++◌, take, sym, ap, ◌∙◌, arith}
 use Rattle.std.proofs.lemmas.List.{take_more}
 use Rattle.std.proofs.lemmas.Option.{get_or_from_slice_get}
 use Rattle.ec_blocks.proofs.span_tests.spans_of.Goals as goal
