@@ -38,10 +38,6 @@ pub either_code : {code : ℕ} {s : Status} (a b : Status) → code ≡ code_of 
 either_code a b is (inl one) = inl (is ∙ ap code_of one)
 either_code a b is (inr other) = inr (is ∙ ap code_of other)
 
-pub either_status : {code : ℕ} {s : Status} (a b : Status) → code ≡ code_of s → (code ≡ code_of a) ⊎ (code ≡ code_of b) → (s ≡ a) ⊎ (s ≡ b)
-either_status a b is (inl one) = inl (status_same a is one)
-either_status a b is (inr other) = inr (status_same b is other)
-
 -- ---- shapes
 
 pub check_name : {a b : List ℕ} {shape : Option Shape} → shape ≡ Some (check_theory a) → shape ≡ Some (check_theory b) → a ≡ b
