@@ -26,7 +26,7 @@ use Rattle.ec_rows.proofs.OrderedLemmas.{and-left, and-right}
 use Rattle.ec_props.specs.Table.{KeptProp, term_at, props_with, number_of}
 use Rattle.ec_numbered.specs.PropSet.{has_number, comes_before, are_ascending}
 use Rattle.ec_exclusive.specs.Added.{Added, added_props, is_added}
-use Rattle.ec_exclusive.specs.Neighbours.{both_exclusive, exclusive_at, has_form, of_form, joined, same_form, same_forms, is_neighbour}
+use Rattle.ec_exclusive.specs.Neighbours.{both_exclusive, exclusive_at, is_of_form, of_form, joined, same_form, same_forms, is_neighbour}
 use Rattle.ec_numbered.proofs.Numbers.{same_prop, same_members, has_number-filter}
 use Rattle.ec_exclusive.proofs.Excluding.{are_ascending-filter}
 use Rattle.ec_exclusive.proofs.RunLemmas.{exclusive-joined}
@@ -79,8 +79,8 @@ of_form-same table p q same =
     one_number : (m n : ℕ) → (m == n) ≡ true → m ≡ n
     one_number m n e = grind arith
 
-has_form-same : (term : Ground) (p q : Pattern) → same_form p q ≡ true → has_form term p ≡ has_form term q
-has_form-same term p q same =
+is_of_form-same : (term : Ground) (p q : Pattern) → same_form p q ≡ true → is_of_form term p ≡ is_of_form term q
+is_of_form-same term p q same =
     let name : p.name ≡ q.name = (bytes_eq-Decides p.name q.name).0 (and-left _ _ same) in
     let args : length p.args ≡ length q.args = one_number (length p.args) (length q.args) (and-right _ _ same) in
     ap₂ (λ n a. bytes_eq term.name n && (length term.args == a)) name args
@@ -92,8 +92,8 @@ joined-same : (term : Ground) (table : List KeptProp) (d e : Exclusive) → same
 joined-same term table d e same =
     let left = and-left (same_form d.left e.left) (same_form d.right e.right) same in
     let right = and-right (same_form d.left e.left) (same_form d.right e.right) same in
-    ap₂ (λ b ps. cond b ps (cond (has_form term d.right) (of_form table d.left) [])) (has_form-same term d.left e.left left) (of_form-same table d.right e.right right)
-    ∙ ap₂ (λ b ps. cond (has_form term e.left) (of_form table e.right) (cond b ps [])) (has_form-same term d.right e.right right) (of_form-same table d.left e.left left)
+    ap₂ (λ b ps. cond b ps (cond (is_of_form term d.right) (of_form table d.left) [])) (is_of_form-same term d.left e.left left) (of_form-same table d.right e.right right)
+    ∙ ap₂ (λ b ps. cond (is_of_form term e.left) (of_form table e.right) (cond b ps [])) (is_of_form-same term d.right e.right right) (of_form-same table d.left e.left left)
 
 -- what a repeated declaration joins, an earlier one joins
 joined-repeated : (q : PropId) (term : Ground) (table : List KeptProp) (d : Exclusive) (earlier : List Exclusive) → list_any (same_forms d) earlier ≡ true →

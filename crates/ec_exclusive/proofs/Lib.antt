@@ -3,6 +3,7 @@ pub mod Excluding
 pub mod Leaving
 pub mod FieldLists
 pub mod InTurn
+pub mod FormLemmas
 pub mod RowLemmas
 pub mod RunLemmas
 pub mod FoundLemmas

@@ -1,5 +1,5 @@
 -- A new row: its list is that of its neighbours, and they take it into theirs.
-use Rattle.std.proofs.Common.{◌≡◌, Bool, true, false, cond, ◌&&◌, All, IsTrue, IsSome, List, get_or, filter, Option, Some, None, is_some, refl, sym, ap, subst, ◌∙◌, ⊎_elim}
+use Rattle.std.proofs.Common.{◌≡◌, ◌≢◌, ℕ, map, Bool, true, false, cond, ◌&&◌, All, IsTrue, IsSome, List, get_or, filter, Option, Some, None, is_some, refl, sym, ap, subst, ◌∙◌, ⊎_elim}
 use Rattle.std.specs.Prelude.{◌==◌, option_map}
 use Rattle.std.proofs.lemmas.Bool.{cases_Bool, false≢true}
 use Rattle.ec_terms.specs.declared.ids.PropId.{PropId}
@@ -11,13 +11,17 @@ use Rattle.ec_props.specs.Table.{KeptProp, prop_at, term_at}
 use Rattle.ec_numbered.specs.PropSet.{has_number, are_ascending, with_number}
 use Rattle.ec_exclusive.specs.Added.{Added, is_added, added_props, AreMutual, added_of}
 use Rattle.ec_exclusive.specs.declared.rows.Row.{Row}
-use Rattle.ec_exclusive.specs.Kept.{list_at, lists_of, list_with}
-use Rattle.ec_exclusive.specs.Neighbours.{AreNeighbours, both_exclusive, exclusive_at}
+use Rattle.ec_exclusive.specs.Kept.{list_at, lists_of, list_with, view_of}
+use Rattle.ec_exclusive.specs.declared.forms.Form.{Form}
+use Rattle.ec_exclusive.specs.Forms.{forms_of}
+use Rattle.ec_exclusive.specs.Neighbours.{AreNeighbours, Neighbourhoods, both_exclusive, exclusive_at, form_at}
+use Rattle.ec_exclusive.proofs.FormLemmas.{forms-with}
+use Rattle.ec_numbered.specs.ByNumber.{kept_at}
 use Rattle.ec_numbered.proofs.Numbers.{same_prop, has_number-filter}
 use Rattle.ec_exclusive.proofs.KeptLists.{All-added_of, All-at}
 use Rattle.ec_exclusive.proofs.FieldLists.{get_or-list_at}
 use Rattle.ec_exclusive.proofs.Excluding.{AreListed, AreListed-more, AreMutual-more, added_props-more, are_ascending-filter}
-use Rattle.ec_exclusive.proofs.RowLemmas.{is_some-rows, are_ascending-rows}
+use Rattle.ec_exclusive.proofs.RowLemmas.{is_some-rows, are_ascending-rows, forms-shown}
 
 -- to be exclusive goes both ways
 both_exclusive-comm : (theory : Theory) (p q : Option Ground) → both_exclusive theory p q ≡ both_exclusive theory q p
@@ -41,9 +45,18 @@ none-from : (o : Option (List PropId)) → is_some o ≡ false → o ≡ None
 none-from None none = refl
 none-from (Some ps) none = absurd (false≢true (sym none))
 
-module _ (theory : Theory) (table : List KeptProp) (lists : List (Option Row)) (rows : List Added) (p : PropId) (own : List PropId)
-    (is : added_of (lists_of lists) ≡ rows) (are : AreNeighbours theory table rows) (absent : is_added p rows ≡ false)
-    (own_is : own ≡ filter (exclusive_at theory table p) (added_props rows)) where
+module _ (theory : Theory) (table : List KeptProp) (lists : List (Option Row)) (forms : List (Option Form)) (added : Neighbourhoods) (p : PropId) (own : List PropId)
+    (shown : view_of lists forms ≡ added) (are : AreNeighbours theory table added) (absent : is_added p added.rows ≡ false)
+    (own_is : own ≡ filter (exclusive_at theory table p) (added_props added.rows)) where
+  abbrev rows : List Added
+  rows = added.rows
+
+  is : added_of (lists_of lists) ≡ rows
+  is = ap (λ (v : Neighbourhoods). v.rows) shown
+
+  forms_are : forms_of forms (added_props rows) ≡ map (form_at theory table) (added_props rows)
+  forms_are = forms-shown lists forms added theory table shown are
+
   abbrev test : PropId → PropId → Bool
   test = exclusive_at theory table
 
@@ -95,8 +108,11 @@ module _ (theory : Theory) (table : List KeptProp) (lists : List (Option Row)) (
           (λ e. let rest : cond (has_number q.0 own) (option_map (with_number p) (get_or (lists_of lists) q.0 None)) (get_or (lists_of lists) q.0 None) ≡ Some ps = rw e at (sym (after q) ∙ there) in
           kept_before q ps (get_or (lists_of lists) q.0 None) (has_number q.0 own) refl rest) (cases_Bool (p.0 == q.0))
 
-      pub AreNeighbours-with : AreNeighbours theory table (added_of (lists_of new))
-      AreNeighbours-with = record {
+      pub AreNeighbours-with : (more : List (Option Form)) → kept_at p.0 more ≡ form_at theory table p → ((n : ℕ) → n ≢ p.0 → kept_at n more ≡ kept_at n forms) →
+          AreNeighbours theory table (view_of new more)
+      AreNeighbours-with more form others = record {
         kept = All-added_of IsKept (lists_of new) kept_after;
         lists = AreListed-more test (exclusive_at-comm theory table) (exclusive_at-itself theory table) p (lists_of lists) (lists_of new) own no_list listed own_before after;
+        forms = subst (λ ps. forms_of more ps ≡ map (form_at theory table) ps) (sym added_props-with)
+            (forms-with (form_at theory table) forms (added_props rows) forms_are p more form others);
       }

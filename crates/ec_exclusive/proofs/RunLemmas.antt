@@ -23,7 +23,7 @@ use Rattle.ec_terms.specs.Term.{name_cmp}
 use Rattle.ec_rows.proofs.OrderedLemmas.{and-left, and-right}
 use Rattle.ec_props.specs.Table.{KeptProp, term_at, props_below, props_with, props_above, number_of}
 use Rattle.ec_numbered.specs.PropSet.{has_number}
-use Rattle.ec_exclusive.specs.Neighbours.{has_form, of_form, joined}
+use Rattle.ec_exclusive.specs.Neighbours.{is_of_form, of_form, joined}
 
 -- ---- the run
 
@@ -101,8 +101,8 @@ record IsOfForm (term : Ground) (pattern : Pattern) : Type 0 where
   name : term.name ≡ pattern.name
   args : length term.args ≡ length pattern.args
 
-has_form-of : (term : Ground) (pattern : Pattern) → IsOfForm term pattern → has_form term pattern ≡ true
-has_form-of term pattern of =
+is_of_form-of : (term : Ground) (pattern : Pattern) → IsOfForm term pattern → is_of_form term pattern ≡ true
+is_of_form-of term pattern of =
     let name : bytes_eq term.name pattern.name ≡ true = (bytes_eq-Decides term.name pattern.name).1 of.name in
     let args : (length term.args == length pattern.args) ≡ true = grind (arith, of.args) in
     ap₂ (λ a b. a && b) name args
@@ -110,8 +110,8 @@ has_form-of term pattern of =
 same_number : (m n : ℕ) → (m == n) ≡ true → m ≡ n
 same_number m n e = grind arith
 
-of-has_form : (term : Ground) (pattern : Pattern) → has_form term pattern ≡ true → IsOfForm term pattern
-of-has_form term pattern has = record {
+of-is_of_form : (term : Ground) (pattern : Pattern) → is_of_form term pattern ≡ true → IsOfForm term pattern
+of-is_of_form term pattern has = record {
   name = (bytes_eq-Decides term.name pattern.name).0 (and-left _ _ has);
   args = same_number (length term.args) (length pattern.args) (and-right _ _ has);
 }
@@ -128,17 +128,17 @@ unfolding both_fit
 of-both_fit left right p q both = (of-fits _ left p (and-left _ _ both), of-fits _ right q (and-right _ _ both))
 
 -- a kept property is among those of its form
-of_form-has : (q : PropId) (term : Ground) (pattern : Pattern) (ks : List KeptProp) → term_at q.0 ks ≡ Some term → has_form term pattern ≡ true → has_number q.0 (of_form ks pattern) ≡ true
+of_form-has : (q : PropId) (term : Ground) (pattern : Pattern) (ks : List KeptProp) → term_at q.0 ks ≡ Some term → is_of_form term pattern ≡ true → has_number q.0 (of_form ks pattern) ≡ true
 of_form-has q term pattern [] there has = cc
 of_form-has q term pattern (k ∷ ks) there has =
     ⊎_elim
     (λ e. let some : Some k.term ≡ Some term = rw e at there in
     let same : k.term ≡ term = cc in
-    let kept : has_form k.term pattern ≡ true = ap (λ t. has_form t pattern) same ∙ has in
+    let kept : is_of_form k.term pattern ≡ true = ap (λ t. is_of_form t pattern) same ∙ has in
     rw kept (ap (λ b. b || has_number q.0 (of_form ks pattern)) e))
     (λ e. let rest : term_at q.0 ks ≡ Some term = rw e at there in
     let ih = of_form-has q term pattern ks rest has in
-    ⊎_elim (λ kept. rw kept (ap (λ b. (k.id == q.0) || b) ih ∙ or-true (k.id == q.0))) (λ kept. rw kept ih) (cases_Bool (has_form k.term pattern)))
+    ⊎_elim (λ kept. rw kept (ap (λ b. (k.id == q.0) || b) ih ∙ or-true (k.id == q.0))) (λ kept. rw kept ih) (cases_Bool (is_of_form k.term pattern)))
     (cases_Bool (k.id == q.0))
   where
     or-true : (b : Bool) → (b || true) ≡ true
@@ -151,19 +151,19 @@ unfolding excludes
 joined-has p term q ks declaration there speaks =
     ⊎_elim
     (λ e. let both = of-both_fit declaration.left declaration.right p term e in
-    rw (has_form-of p declaration.left both.0) (of_form-has q term declaration.right ks there (has_form-of term declaration.right both.1)))
+    rw (is_of_form-of p declaration.left both.0) (of_form-has q term declaration.right ks there (is_of_form-of term declaration.right both.1)))
     (λ e. let both = of-both_fit declaration.left declaration.right term p (or-second _ _ e speaks) in
     ⊎_elim
-    (λ left. let other = of-has_form p declaration.left left in
+    (λ left. let other = of-is_of_form p declaration.left left in
     let form : IsOfForm term declaration.right = record {
       name = both.0.name ∙ sym other.name ∙ both.1.name;
       args = both.0.args ∙ sym other.args ∙ both.1.args;
     } in
-    rw left (of_form-has q term declaration.right ks there (has_form-of term declaration.right form)))
-    (λ left. ap (λ b. has_number q.0 (cond b (of_form ks declaration.right) (cond (has_form p declaration.right) (of_form ks declaration.left) []))) left
-    ∙ ap (λ b. has_number q.0 (cond b (of_form ks declaration.left) [])) (has_form-of p declaration.right both.1)
-    ∙ of_form-has q term declaration.left ks there (has_form-of term declaration.left both.0))
-    (cases_Bool (has_form p declaration.left)))
+    rw left (of_form-has q term declaration.right ks there (is_of_form-of term declaration.right form)))
+    (λ left. ap (λ b. has_number q.0 (cond b (of_form ks declaration.right) (cond (is_of_form p declaration.right) (of_form ks declaration.left) []))) left
+    ∙ ap (λ b. has_number q.0 (cond b (of_form ks declaration.left) [])) (is_of_form-of p declaration.right both.1)
+    ∙ of_form-has q term declaration.left ks there (is_of_form-of term declaration.left both.0))
+    (cases_Bool (is_of_form p declaration.left)))
     (cases_Bool (both_fit declaration.left declaration.right p term))
   where
     or-second : (a b : Bool) → a ≡ false → (a || b) ≡ true → b ≡ true

@@ -3,7 +3,11 @@ use Rattle.std.specs.Prelude.{◌≤◌, ◌==◌, List, map, Option, Some, None
 use Rattle.ec_terms.specs.declared.ids.PropId.{PropId}
 use Rattle.ec_numbered.specs.ByNumber.{kept_at}
 use Rattle.ec_numbered.specs.PropSet.{has_number, with_number, without_number}
+use Rattle.ec_exclusive.specs.declared.forms.Form.{Form}
 use Rattle.ec_exclusive.specs.declared.rows.Row.{Row}
+use Rattle.ec_exclusive.specs.Added.{added_of, added_props}
+use Rattle.ec_exclusive.specs.Forms.{forms_of}
+use Rattle.ec_exclusive.specs.Neighbours.{Neighbourhoods}
 
 -- the neighbours in a row
 abbrev pub numbers_in : Option Row → Option (List PropId)
@@ -16,6 +20,10 @@ list_at p rows = numbers_in (kept_at p.0 rows)
 -- the neighbours in all rows, by number
 abbrev pub lists_of : List (Option Row) → List (Option (List PropId))
 lists_of rows = map numbers_in rows
+
+-- what rows and forms that are kept by number show
+abbrev pub view_of : List (Option Row) → List (Option Form) → Neighbourhoods
+view_of rows forms = let added = added_of (lists_of rows) in record { rows = added; forms = forms_of forms (added_props added) }
 
 -- there is a row, and its neighbours have room for one more
 abbrev pub HasRoom : Option Row → Type 0

@@ -1,5 +1,5 @@
 -- The neighbours of a theory and a table: which of the added properties are exclusive to which.
-use Rattle.std.specs.Prelude.{◌≡◌, Bool, false, ◌&&◌, ◌==◌, if◌then◌else◌, List, [], length, map, filter, Option, Some, None, IsSome, bytes_eq}
+use Rattle.std.specs.Prelude.{◌≡◌, Bool, false, ◌&&◌, ◌==◌, if◌then◌else◌, List, [], length, map, filter, Option, Some, None, IsSome, option_map, bytes_eq}
 use Rattle.std.specs.List.{All}
 use Rattle.ec_terms.specs.declared.ids.PropId.{PropId}
 use Rattle.ec_terms.specs.declared.ground.Ground.{Ground}
@@ -8,7 +8,9 @@ use Rattle.ec_terms.specs.declared.theory.Exclusive.{Exclusive}
 use Rattle.ec_terms.specs.declared.theory.Theory.{Theory}
 use Rattle.ec_terms.specs.Domain.{are_exclusive}
 use Rattle.ec_props.specs.Table.{KeptProp, prop_at, term_at, props_with, number_of}
+use Rattle.ec_exclusive.specs.declared.forms.Form.{Form}
 use Rattle.ec_exclusive.specs.Added.{Added, added_props, is_added}
+use Rattle.ec_exclusive.specs.Forms.{form_of}
 
 -- two terms are there, and they are exclusive
 abbrev pub both_exclusive : Theory → Option Ground → Option Ground → Bool
@@ -20,11 +22,21 @@ both_exclusive theory (Some p) (Some q) = are_exclusive theory p q
 abbrev pub exclusive_at : Theory → List KeptProp → PropId → PropId → Bool
 exclusive_at theory table p q = both_exclusive theory (term_at p.0 table) (term_at q.0 table)
 
--- The neighbours of a theory and a table: each added property is kept in the table, and its list is of those added
--- properties, in the order of their numbers, that are exclusive to it.
-pub record AreNeighbours (theory : Theory) (table : List KeptProp) (rows : List Added) : Type 0 where
-  pub kept : All (λ (row : Added). IsSome (prop_at row.prop.0 table)) rows
-  pub lists : All (λ (row : Added). row.neighbours ≡ filter (exclusive_at theory table row.prop) (added_props rows)) rows
+-- added properties with their neighbours, and the form of each, in the same order
+pub record Neighbourhoods : Type 0 where
+  pub rows : List Added
+  pub forms : List (Option Form)
+
+-- the form of the term that a table keeps under a number
+abbrev pub form_at : Theory → List KeptProp → PropId → Option Form
+form_at theory table p = option_map (form_of theory) (term_at p.0 table)
+
+-- The neighbours of a theory and a table: each added property is kept in the table, its list is of those added
+-- properties, in the order of their numbers, that are exclusive to it, and its form is that of its term.
+pub record AreNeighbours (theory : Theory) (table : List KeptProp) (added : Neighbourhoods) : Type 0 where
+  pub kept : All (λ (row : Added). IsSome (prop_at row.prop.0 table)) added.rows
+  pub lists : All (λ (row : Added). row.neighbours ≡ filter (exclusive_at theory table row.prop) (added_props added.rows)) added.rows
+  pub forms : added.forms ≡ map (form_at theory table) (added_props added.rows)
 
 -- a second table keeps each added property under the same number and with the same term
 abbrev pub KeepsTerms : List Added → List KeptProp → List KeptProp → Type 0
@@ -32,13 +44,14 @@ KeepsTerms rows table other = All (λ (row : Added). term_at row.prop.0 other �
 
 -- what the neighbours of one table are, they are of every table that keeps the added properties with the same terms
 abbrev pub ReadTermsAlone : Theory → Type 0
-ReadTermsAlone theory = (table other : List KeptProp) (rows : List Added) → KeepsTerms rows table other → AreNeighbours theory table rows → AreNeighbours theory other rows
+ReadTermsAlone theory =
+    (table other : List KeptProp) (added : Neighbourhoods) → KeepsTerms added.rows table other → AreNeighbours theory table added → AreNeighbours theory other added
 
 -- ---- where the neighbours of a new property are looked for
 
 -- a term has the name and the number of arguments of a pattern
-abbrev pub has_form : Ground → Pattern → Bool
-has_form term pattern = bytes_eq term.name pattern.name && (length term.args == length pattern.args)
+abbrev pub is_of_form : Ground → Pattern → Bool
+is_of_form term pattern = bytes_eq term.name pattern.name && (length term.args == length pattern.args)
 
 -- the kept properties with the name and the number of arguments of a pattern
 abbrev pub of_form : List KeptProp → Pattern → List PropId
@@ -47,8 +60,8 @@ of_form table pattern = map number_of (props_with pattern.name (length pattern.a
 -- the kept properties that a declaration can join with a term, by names and numbers of arguments alone
 abbrev pub joined : Ground → List KeptProp → Exclusive → List PropId
 joined term table declaration =
-    if has_form term declaration.left then of_form table declaration.right
-    else if has_form term declaration.right then of_form table declaration.left else []
+    if is_of_form term declaration.left then of_form table declaration.right
+    else if is_of_form term declaration.right then of_form table declaration.left else []
 
 -- two patterns have the same name and number of arguments
 abbrev pub same_form : Pattern → Pattern → Bool

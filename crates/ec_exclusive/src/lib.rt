@@ -1,6 +1,7 @@
 //! Which properties of a table are exclusive to which.
 #![tactic(auto)]
 
+mod forms;
 mod laws;
 mod neighbours;
 mod rows;

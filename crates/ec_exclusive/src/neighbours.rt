@@ -1,12 +1,15 @@
-ghost use Rattle.std.specs.Prelude.{◌≡◌, false, [], List, Some, IsTrue, IsSome, IfOk, OnOk, OnErr, All, filter};
+ghost use Rattle.std.specs.Prelude.{◌≡◌, false, [], List, Some, IsTrue, IsSome, IfOk, OnOk, OnErr, All, filter, option_map};
 ghost use Rattle.ec_terms.specs.declared.ids.PropId.{PropId};
 ghost use Rattle.ec_terms.specs.declared.theory.Theory.{Theory};
 ghost use Rattle.ec_terms.specs.Matchable.{IsMatchable};
-ghost use Rattle.ec_props.specs.Table.{KeptProp, prop_at};
+ghost use Rattle.ec_terms.specs.Domain.{is_strong as declared_strong};
+ghost use Rattle.ec_props.specs.Table.{KeptProp, prop_at, term_at};
 ghost use Rattle.ec_numbered.specs.PropSet.{are_ascending, with_number};
 ghost use Rattle.ec_exclusive.specs.Added.{added_props, is_added as added, neighbours_of, without_added};
+ghost use Rattle.ec_exclusive.specs.Forms.{has_form as of_some_form};
 ghost use Rattle.ec_exclusive.specs.Neighbours.{AreNeighbours, exclusive_at};
 
+use crate::forms::{Form, form_of};
 use crate::rows::{Row, add_row, make_room, remove_row};
 use crate::search::find_neighbours;
 use ec_numbered::ByNumber;
@@ -16,21 +19,23 @@ use std::alloc::Global;
 use std::marker::Model;
 
 /// The neighbours of each added property: the added properties that are exclusive to it, by their numbers in a
-/// table. They are kept by number, so that a list is found at once, and no term is kept here.
+/// table. They are kept by number, so that a list is found at once, and no term is kept here. Beside them stands what
+/// the theory says of each term by itself.
 #[derive(Drop)]
 pub struct Neighbours {
     rows: ByNumber<Row>,
+    forms: ByNumber<Form>,
     alloc: Global,
 }
 
 impl Model for Neighbours {
-    ghost use Rattle.std.specs.Prelude.{List};
-    ghost use Rattle.ec_exclusive.specs.Added.{Added, AreMutual, added_of};
-    ghost use Rattle.ec_exclusive.specs.Kept.{lists_of};
+    ghost use Rattle.ec_exclusive.specs.Added.{AreMutual, added_of};
+    ghost use Rattle.ec_exclusive.specs.Kept.{lists_of, view_of};
+    ghost use Rattle.ec_exclusive.specs.Neighbours.{Neighbourhoods};
 
-    ghost Value = { List Added };
+    ghost Value = { Neighbourhoods };
 
-    ghost view = { λ neighbours. added_of (lists_of neighbours.rows) };
+    ghost view = { λ neighbours. view_of neighbours.rows neighbours.forms };
 
     ghost invariant = { λ neighbours. AreMutual (added_of (lists_of neighbours.rows)) };
 }
@@ -38,33 +43,56 @@ impl Model for Neighbours {
 impl Neighbours {
     /// The neighbours of no property.
     pub fn new(alloc: Global) -> Result<Neighbours, NoMemory>
-        ensures { IfOk result (λ neighbours. neighbours ≡ []) }
+        ensures { IfOk result (λ neighbours. neighbours ≡ record { rows = []; forms = [] }) }
     {
         Ok(Neighbours {
             rows: ByNumber::new(alloc),
+            forms: ByNumber::new(alloc),
             alloc,
         })
     }
 
     /// Whether a property is added. The added properties are in the order of their numbers.
     pub fn is_added(&self, p: PropId) -> bool
-        ensures added { result ≡ added p self.now }
-        ensures order { IsTrue (are_ascending (added_props self.now)) }
+        ensures added { result ≡ added p self.now.rows }
+        ensures order { IsTrue (are_ascending (added_props self.now.rows)) }
     {
         self.rows.get(p).is_some()
     }
 
     /// The neighbours of an added property, in the order of their numbers.
     pub fn of(&self, p: PropId) -> &[PropId]
-        requires { IsTrue (added p self.now) }
-        ensures list { neighbours_of p self.now ≡ Some result.now }
+        requires { IsTrue (added p self.now.rows) }
+        ensures list { neighbours_of p self.now.rows ≡ Some result.now }
         ensures order { IsTrue (are_ascending result.now) }
-        ensures exclusive { (theory : Theory) (table : List KeptProp) → AreNeighbours theory table self.now → result.now ≡ filter (exclusive_at theory table p) (added_props self.now) }
+        ensures exclusive { (theory : Theory) (table : List KeptProp) → AreNeighbours theory table self.now → result.now ≡ filter (exclusive_at theory table p) (added_props self.now.rows) }
         ensures kept { (theory : Theory) (table : List KeptProp) → AreNeighbours theory table self.now → All (λ q. IsSome (prop_at q.0 table)) result.now }
     {
         match self.rows.get(p) {
             Some(row) => row.neighbours.as_slice(),
             None => unreachable!(),
+        }
+    }
+
+    /// Whether some side of some declaration fits an added property. One that none fits never has a neighbour.
+    pub fn has_form(&self, p: PropId) -> bool
+        requires { IsTrue (added p self.now.rows) }
+        ensures { (theory : Theory) (table : List KeptProp) → AreNeighbours theory table self.now → option_map (of_some_form theory) (term_at p.0 table) ≡ Some result }
+    {
+        match self.forms.get(p) {
+            Some(form) => form.fits,
+            None => false,
+        }
+    }
+
+    /// Whether an added property is declared strong.
+    pub fn is_strong(&self, p: PropId) -> bool
+        requires { IsTrue (added p self.now.rows) }
+        ensures { (theory : Theory) (table : List KeptProp) → AreNeighbours theory table self.now → option_map (declared_strong theory) (term_at p.0 table) ≡ Some result }
+    {
+        match self.forms.get(p) {
+            Some(form) => form.strong,
+            None => false,
         }
     }
 
@@ -74,24 +102,28 @@ impl Neighbours {
     pub fn add(&mut self, theory: &Theory, props: &PropTable, p: PropId) -> Result<(), NoMemory>
         requires matchable { IsMatchable theory.now }
         requires kept { IsSome (prop_at p.0 props.now) }
-        requires absent { added p self.old ≡ false }
+        requires absent { added p self.old.rows ≡ false }
         requires neighbours { AreNeighbours theory.now props.now self.old }
-        ensures added { OnOk result (added_props self.new ≡ with_number p (added_props self.old)) }
+        ensures added { OnOk result (added_props self.new.rows ≡ with_number p (added_props self.old.rows)) }
         ensures neighbours { OnOk result (AreNeighbours theory.now props.now self.new) }
         ensures err { OnErr result (self.new ≡ self.old) }
     {
+        let form = form_of(theory, &props.ground(p));
         let neighbours = find_neighbours(self, theory, props, p, self.alloc)?;
         make_room(&mut self.rows, p, neighbours.as_slice())?;
+        self.forms.place(p)?;
         add_row(&mut self.rows, p, Row { neighbours });
+        self.forms.set(p, form);
         Ok(())
     }
 
     /// Takes an added property away, with its list, and out of the lists of its neighbours. It takes no memory.
     pub fn drop_prop(&mut self, p: PropId)
-        requires { IsTrue (added p self.old) }
-        ensures rows { self.new ≡ without_added p self.old }
+        requires { IsTrue (added p self.old.rows) }
+        ensures rows { self.new.rows ≡ without_added p self.old.rows }
         ensures neighbours { (theory : Theory) (table : List KeptProp) → AreNeighbours theory table self.old → AreNeighbours theory table self.new }
     {
         let _ = remove_row(&mut self.rows, p);
+        let _ = self.forms.take(p);
     }
 }

@@ -7,7 +7,7 @@ ghost use Rattle.ec_terms.specs.Term.{ground_of, names_are_names};
 ghost use Rattle.ec_props.specs.Table.{prop_at};
 ghost use Rattle.ec_numbered.specs.PropSet.{are_ascending};
 ghost use Rattle.ec_exclusive.specs.Added.{added_props};
-ghost use Rattle.ec_exclusive.specs.Neighbours.{exclusive_at, has_form as of_the_form, of_form, joined, is_neighbour as neighbour, same_form as of_one_form, same_forms as of_the_same_forms};
+ghost use Rattle.ec_exclusive.specs.Neighbours.{exclusive_at, is_of_form as of_the_form, of_form, joined, is_neighbour as neighbour, same_form as of_one_form, same_forms as of_the_same_forms};
 
 use crate::neighbours::Neighbours;
 use ec_numbered::PropSet;
@@ -16,7 +16,7 @@ use ec_terms::{Exclusive, GroundRef, NoMemory, Pattern, PropId, Theory, are_excl
 use std::alloc::Global;
 
 /// Whether a term has the name and the number of arguments of a pattern.
-fn has_form(term: &GroundRef<'_>, pattern: &Pattern) -> bool
+fn is_of_form(term: &GroundRef<'_>, pattern: &Pattern) -> bool
     ensures { result ≡ of_the_form (ground_of term.now) pattern.now }
 {
     term.name == pattern.name.as_bytes() && term.args.len() == pattern.args.len()
@@ -33,7 +33,7 @@ fn is_neighbour(
     requires matchable { IsMatchable theory.now }
     requires named { IsTrue (names_are_names (ground_of term.now)) }
     requires kept { IsSome (prop_at q.0 props.now) }
-    ensures { result ≡ neighbour theory.now props.now added.now (ground_of term.now) q }
+    ensures { result ≡ neighbour theory.now props.now added.now.rows (ground_of term.now) q }
 {
     added.is_added(q) && are_exclusive(theory, term, &props.ground(q))
 }
@@ -50,7 +50,7 @@ fn gather_form(
     requires matchable { IsMatchable theory.now }
     requires named { IsTrue (names_are_names (ground_of term.now)) }
     requires small { IsSmall pattern.now }
-    ensures { OnOk result (found.new.items ≡ found.old.items ++ filter (neighbour theory.now props.now added.now (ground_of term.now)) (of_form props.now pattern.now)) }
+    ensures { OnOk result (found.new.items ≡ found.old.items ++ filter (neighbour theory.now props.now added.now.rows (ground_of term.now)) (of_form props.now pattern.now)) }
 {
     let name = pattern.name.as_bytes();
     let arity = pattern.args.len();
@@ -77,11 +77,11 @@ fn gather(
     requires matchable { IsMatchable theory.now }
     requires named { IsTrue (names_are_names (ground_of term.now)) }
     requires small { IsMatchableExclusive declaration.now }
-    ensures { OnOk result (found.new.items ≡ found.old.items ++ filter (neighbour theory.now props.now added.now (ground_of term.now)) (joined (ground_of term.now) props.now declaration.now)) }
+    ensures { OnOk result (found.new.items ≡ found.old.items ++ filter (neighbour theory.now props.now added.now.rows (ground_of term.now)) (joined (ground_of term.now) props.now declaration.now)) }
 {
-    if has_form(term, &declaration.left) {
+    if is_of_form(term, &declaration.left) {
         gather_form(added, theory, props, term, &declaration.right, found)
-    } else if has_form(term, &declaration.right) {
+    } else if is_of_form(term, &declaration.right) {
         gather_form(added, theory, props, term, &declaration.left, found)
     } else {
         Ok(())
@@ -120,8 +120,8 @@ pub(crate) fn find_neighbours(
 ) -> Result<PropSet, NoMemory>
     requires matchable { IsMatchable theory.now }
     requires kept { IsSome (prop_at p.0 props.now) }
-    requires order { IsTrue (are_ascending (added_props added.now)) }
-    ensures { IfOk result (λ found. found.items ≡ filter (exclusive_at theory.now props.now p) (added_props added.now)) }
+    requires order { IsTrue (are_ascending (added_props added.now.rows)) }
+    ensures { IfOk result (λ found. found.items ≡ filter (exclusive_at theory.now props.now p) (added_props added.now.rows)) }
 {
     let term = props.ground(p);
     let declarations = theory.exclusives.as_slice();

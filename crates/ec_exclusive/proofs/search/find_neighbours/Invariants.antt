@@ -5,4 +5,4 @@ use Rattle.ec_exclusive.proofs.FoundLemmas.{IsFoundIn}
 use Rattle.ec_exclusive.proofs.search.find_neighbours.Given as goal
 
 abbrev pub invariant-loop-i : goal.invariant-loop-i
-invariant-loop-i l = IsFoundIn l.theory l.props l.added (ground_of l.term) l.found.items (take l.i l.declarations)
+invariant-loop-i l = IsFoundIn l.theory l.props l.added.rows (ground_of l.term) l.found.items (take l.i l.declarations)

@@ -11,7 +11,7 @@ use Rattle.ec_exclusive.proofs.search.gather_form.Goals.{then-is_neighbour+in_ok
 
 pub loop-place-preserved : goal.loop-place-preserved
 loop-place-preserved c =
-    let test = is_neighbour c.args.theory.now c.args.props.now c.args.added.now (ground_of c.args.term.now) in
+    let test = is_neighbour c.args.theory.now c.args.props.now c.args.added.now.rows (ground_of c.args.term.now) in
     let q = c.nth_in_order-q.result in
     record {
       from = omega arith;
@@ -33,7 +33,7 @@ returns c =
     let more : c.first_of-start.result ≤ c.first_of-end.result =
     omega (arith, length-next name arity table, c.first_of-start.ensures.count, c.first_of-end.ensures.count) in
     c.loop-place.invariant.found
-    ∙ ap (λ ps. c.args.found.now.items ++ filter (is_neighbour c.args.theory.now table c.args.added.now (ground_of c.args.term.now)) ps)
+    ∙ ap (λ ps. c.args.found.now.items ++ filter (is_neighbour c.args.theory.now table c.args.added.now.rows (ground_of c.args.term.now)) ps)
     (run-of_form name arity c.first_of-start.result c.first_of-end.result c.loop-place.place table c.first_of-start.ensures.count c.first_of-end.ensures.count
     c.first_of-start.ensures.run c.loop-place.invariant.from (c.loop-place.auto.place-end more) c.loop-place-test.false
     ∙ ap₂ (λ n a. map number_of (props_with n a table)) c.as_bytes-name.ensures.bytes c.len-arity.ensures)

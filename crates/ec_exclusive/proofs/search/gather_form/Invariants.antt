@@ -9,5 +9,5 @@ abbrev pub invariant-loop-place : goal.invariant-loop-place
 invariant-loop-place l = record {
   from : l.start ≤ l.place;
   found : l.found.items ≡ l.initial.found.items
-      ++ filter (is_neighbour l.theory l.props l.added (ground_of l.term)) (take (l.place - l.start) (drop l.start (map number_of l.props)));
+      ++ filter (is_neighbour l.theory l.props l.added.rows (ground_of l.term)) (take (l.place - l.start) (drop l.start (map number_of l.props)));
 }

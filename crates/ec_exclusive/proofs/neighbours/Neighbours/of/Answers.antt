@@ -2,16 +2,17 @@
 use Rattle.std.proofs.Common.{Some, sym, ap, ◌∙◌, is_some}
 use Rattle.std.proofs.lemmas.Bool.{false≢true}
 use Rattle.ec_numbered.specs.PropSet.{are_ascending}
+use Rattle.ec_exclusive.specs.Neighbours.{Neighbourhoods}
 use Rattle.ec_exclusive.proofs.RowLemmas.{is_some-row, neighbours_of-row, neighbours-exclusive, neighbours-kept}
 use Rattle.ec_exclusive.proofs.neighbours.Neighbours.of.Goals as goal
 
 pub unreachable-requires : goal.unreachable-requires
 unreachable-requires c =
-    false≢true (ap is_some c.in-None.ensures ∙ is_some-row c.self.inside.rows c.args.self.now c.args.p c.self.view_is ∙ c.requires)
+    false≢true (ap is_some c.in-None.ensures ∙ is_some-row c.self.inside.rows c.args.self.now.rows c.args.p (ap (λ (v : Neighbourhoods). v.rows) c.self.view_is) ∙ c.requires)
 
 pub returns-clause-list : goal.returns-clause-list
 returns-clause-list c =
-    neighbours_of-row c.self.inside.rows c.args.self.now c.args.p c.in-Some.row.now c.self.view_is (sym c.in-Some.ensures)
+    neighbours_of-row c.self.inside.rows c.args.self.now.rows c.args.p c.in-Some.row.now (ap (λ (v : Neighbourhoods). v.rows) c.self.view_is) (sym c.in-Some.ensures)
     ∙ sym (ap Some c.as_slice.ensures.items)
 
 pub returns-clause-order : goal.returns-clause-order
