@@ -1,5 +1,5 @@
 -- The forms of added properties, when one is read and when a property comes or goes.
-use Rattle.std.proofs.Common.{◌≡◌, ◌≢◌, ℕ, Bool, true, false, not, ◌&&◌, ◌||◌, IsSome, List, [], ◌∷◌, map, Option, Some, None, is_some, refl, sym, ap, ap₂, subst, ◌∙◌, ◌⊎◌, inl, inr, ⊎_elim, arith}
+use Rattle.std.proofs.Common.{◌≡◌, ◌≢◌, ℕ, Bool, true, false, not, ◌&&◌, ◌||◌, List, [], ◌∷◌, map, length, Vec, Option, Some, None, refl, sym, ap, ap₂, subst, ◌∙◌, ⊎_elim, arith}
 use Rattle.std.specs.Prelude.{◌==◌, option_map}
 use Rattle.std.proofs.Math.Path.{fun_ext}
 use Rattle.std.proofs.lemmas.Bool.{cases_Bool, false≢true}
@@ -7,12 +7,13 @@ use Rattle.ec_terms.specs.declared.ids.PropId.{PropId}
 use Rattle.ec_terms.specs.declared.ground.Ground.{Ground}
 use Rattle.ec_terms.specs.declared.theory.Theory.{Theory}
 use Rattle.ec_terms.specs.Domain.{is_strong}
-use Rattle.ec_props.specs.Table.{KeptProp, prop_at, term_at}
+use Rattle.ec_props.specs.Table.{KeptProp, term_at}
 use Rattle.ec_numbered.specs.ByNumber.{kept_at}
 use Rattle.ec_numbered.specs.PropSet.{has_number, with_number, without_number}
 use Rattle.ec_numbered.proofs.Numbers.{same_prop, itself, has_number-filter, has_number-with_number}
 use Rattle.ec_exclusive.specs.declared.forms.Form.{Form}
-use Rattle.ec_exclusive.specs.Forms.{has_form, form_of, forms_of}
+use Rattle.ec_exclusive.specs.Forms.{TermForm, has_form, form_of, forms_of, form_in, form_kept, has_key, texts_of}
+use Rattle.ec_exclusive.proofs.KeyLemmas.{has_form-keys}
 use Rattle.ec_exclusive.specs.Neighbours.{form_at}
 
 -- ---- functions of the members of a list
@@ -46,20 +47,20 @@ module _ {Y : Type 0} where
 
 -- forms that are kept alike are the same
 pub forms_of-same : (forms other : List (Option Form)) (ps : List PropId) → ((n : ℕ) → kept_at n other ≡ kept_at n forms) → forms_of other ps ≡ forms_of forms ps
-forms_of-same forms other ps same = ap (λ (f : PropId → Option Form). map f ps) (fun_ext (λ p. same p.0))
+forms_of-same forms other ps same = ap (λ (f : PropId → Option TermForm). map f ps) (fun_ext (λ p. ap (option_map form_in) (same p.0)))
 
-module _ (test : PropId → Option Form) (forms : List (Option Form)) (ps : List PropId) (are : forms_of forms ps ≡ map test ps) where
+module _ (test : PropId → Option TermForm) (forms : List (Option Form)) (ps : List PropId) (are : forms_of forms ps ≡ map test ps) where
   -- the form of a member
-  pub form-read : (q : PropId) → has_number q.0 ps ≡ true → kept_at q.0 forms ≡ test q
-  form-read = members-on_map (λ q. kept_at q.0 forms) test ps are
+  pub form-read : (q : PropId) → has_number q.0 ps ≡ true → form_kept q.0 forms ≡ test q
+  form-read = members-on_map (λ q. form_kept q.0 forms) test ps are
 
   -- a property more
-  pub forms-with : (p : PropId) (new : List (Option Form)) → kept_at p.0 new ≡ test p → ((n : ℕ) → n ≢ p.0 → kept_at n new ≡ kept_at n forms) →
+  pub forms-with : (p : PropId) (new : List (Option Form)) → form_kept p.0 new ≡ test p → ((n : ℕ) → n ≢ p.0 → kept_at n new ≡ kept_at n forms) →
       forms_of new (with_number p ps) ≡ map test (with_number p ps)
   forms-with p new own others =
-      map-on_members (λ q. kept_at q.0 new) test (with_number p ps)
-      (λ q there. ⊎_elim (λ e. subst (λ r. kept_at r.0 new ≡ test r) (same_prop p q e) own)
-      (λ e. others q.0 (λ is. apart q e is) ∙ form-read q (further q e (sym (has_number-with_number q p ps) ∙ there)))
+      map-on_members (λ q. form_kept q.0 new) test (with_number p ps)
+      (λ q there. ⊎_elim (λ e. subst (λ r. form_kept r.0 new ≡ test r) (same_prop p q e) own)
+      (λ e. ap (option_map form_in) (others q.0 (λ is. apart q e is)) ∙ form-read q (further q e (sym (has_number-with_number q p ps) ∙ there)))
       (cases_Bool (p.0 == q.0)))
     where
       apart : (q : PropId) → (p.0 == q.0) ≡ false → q.0 ≢ p.0
@@ -72,9 +73,9 @@ module _ (test : PropId → Option Form) (forms : List (Option Form)) (ps : List
   pub forms-without : (p : PropId) (new : List (Option Form)) → ((n : ℕ) → n ≢ p.0 → kept_at n new ≡ kept_at n forms) →
       forms_of new (without_number p ps) ≡ map test (without_number p ps)
   forms-without p new others =
-      map-on_members (λ q. kept_at q.0 new) test (without_number p ps)
+      map-on_members (λ q. form_kept q.0 new) test (without_number p ps)
       (λ q there. let both : (not (q.0 == p.0) && has_number q.0 ps) ≡ true = sym (has_number-filter q (λ (s : PropId). not (s.0 == p.0)) ps) ∙ there in
-      others q.0 (λ is. apart q (left _ _ both) is) ∙ form-read q (right _ _ both))
+      ap (option_map form_in) (others q.0 (λ is. apart q (left _ _ both) is)) ∙ form-read q (right _ _ both))
     where
       left : (a b : Bool) → (a && b) ≡ true → a ≡ true
       left true b is = refl
@@ -90,27 +91,24 @@ module _ (test : PropId → Option Form) (forms : List (Option Form)) (ps : List
 -- ---- what is read off a form
 
 module _ (theory : Theory) (table : List KeptProp) (p : PropId) where
-  fits-form : (o : Option Ground) (form : Form) → option_map (form_of theory) o ≡ Some form → option_map (has_form theory) o ≡ Some form.fits
+  fits-form : (o : Option Ground) (form : TermForm) → option_map (form_of theory) o ≡ Some form → option_map (has_form theory) o ≡ Some (has_key form.keys)
   fits-form None form is = cc
-  fits-form (Some term) form is = let same : form_of theory term ≡ form = cc in ap (λ (f : Form). Some f.fits) same
+  fits-form (Some term) form is =
+      let same : form_of theory term ≡ form = cc in ap Some (has_form-keys theory term) ∙ ap (λ (f : TermForm). Some (has_key f.keys)) same
 
-  strong-form : (o : Option Ground) (form : Form) → option_map (form_of theory) o ≡ Some form → option_map (is_strong theory) o ≡ Some form.strong
+  strong-form : (o : Option Ground) (form : TermForm) → option_map (form_of theory) o ≡ Some form → option_map (is_strong theory) o ≡ Some form.strong
   strong-form None form is = cc
-  strong-form (Some term) form is = let same : form_of theory term ≡ form = cc in ap (λ (f : Form). Some f.strong) same
+  strong-form (Some term) form is = let same : form_of theory term ≡ form = cc in ap (λ (f : TermForm). Some f.strong) same
 
-  pub has_form-read : (form : Form) → form_at theory table p ≡ Some form → option_map (has_form theory) (term_at p.0 table) ≡ Some form.fits
-  has_form-read form is = fits-form (term_at p.0 table) form is
+  has_key-texts : {Z : Type 0} (keys : List (Vec ℕ Z)) → has_key (texts_of keys) ≡ not (length keys == 0)
+  has_key-texts [] = refl
+  has_key-texts (key ∷ keys) = let no : (length (key ∷ keys) == 0) ≡ false = grind arith in sym (ap not no)
 
-  pub is_strong-read : (form : Form) → form_at theory table p ≡ Some form → option_map (is_strong theory) (term_at p.0 table) ≡ Some form.strong
-  is_strong-read form is = strong-form (term_at p.0 table) form is
+  pub has_form-read : (form : Form) → form_at theory table p ≡ Some (form_in form) → option_map (has_form theory) (term_at p.0 table) ≡ Some (not (length form.keys.items == 0))
+  has_form-read form is = fits-form (term_at p.0 table) (form_in form) is ∙ ap Some (has_key-texts form.keys.items)
 
-  -- what is kept has a form
-  form-kept : (o : Option KeptProp) → is_some o ≡ true → is_some (option_map (form_of theory) (option_map (λ (kept : KeptProp). kept.term) o)) ≡ true
-  form-kept None there = absurd (false≢true there)
-  form-kept (Some kept) there = refl
-
-  pub form_at-kept : IsSome (prop_at p.0 table) → form_at theory table p ≢ None
-  form_at-kept there none = false≢true (sym (ap is_some none) ∙ form-kept (prop_at p.0 table) there)
+  pub is_strong-read : (form : Form) → form_at theory table p ≡ Some (form_in form) → option_map (is_strong theory) (term_at p.0 table) ≡ Some form.strong
+  is_strong-read form is = strong-form (term_at p.0 table) (form_in form) is
 
   pub form_at-term : (term : Ground) → term_at p.0 table ≡ Some term → form_at theory table p ≡ Some (form_of theory term)
   form_at-term term is = ap (option_map (form_of theory)) is

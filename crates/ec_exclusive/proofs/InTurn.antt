@@ -37,7 +37,7 @@ not-yet (p ∷ ps) (suc i) d ascending within =
     let less = before-at p ps i d (ascending-first comes_before p ps ascending) (omega arith) in
     grind arith
 
-has_number-more : (q : PropId) (ps : List PropId) (i : ℕ) (d : PropId) → i < length ps → has_number q.0 (take (i + 1) ps) ≡ (has_number q.0 (take i ps) || ((get_or ps i d).0 == q.0))
+pub has_number-more : (q : PropId) (ps : List PropId) (i : ℕ) (d : PropId) → i < length ps → has_number q.0 (take (i + 1) ps) ≡ (has_number q.0 (take i ps) || ((get_or ps i d).0 == q.0))
 has_number-more q ps i d within = list_any_more (λ (r : PropId). r.0 == q.0) ps i d within
 
 module _ (props : List PropId) where

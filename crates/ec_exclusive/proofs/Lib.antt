@@ -4,9 +4,10 @@ pub mod Leaving
 pub mod FieldLists
 pub mod InTurn
 pub mod FormLemmas
+pub mod GroupLemmas
+pub mod KeyLemmas
 pub mod RowLemmas
-pub mod RunLemmas
-pub mod FoundLemmas
 pub mod NewRow
 pub mod SameTerms
 pub mod NamedTerms
+pub mod Grouped

@@ -13,7 +13,7 @@ use Rattle.ec_exclusive.specs.Added.{Added, is_added, added_props, AreMutual, ad
 use Rattle.ec_exclusive.specs.declared.rows.Row.{Row}
 use Rattle.ec_exclusive.specs.Kept.{list_at, lists_of, list_with, view_of}
 use Rattle.ec_exclusive.specs.declared.forms.Form.{Form}
-use Rattle.ec_exclusive.specs.Forms.{forms_of}
+use Rattle.ec_exclusive.specs.Forms.{forms_of, form_kept}
 use Rattle.ec_exclusive.specs.Neighbours.{AreNeighbours, Neighbourhoods, both_exclusive, exclusive_at, form_at}
 use Rattle.ec_exclusive.proofs.FormLemmas.{forms-with}
 use Rattle.ec_numbered.specs.ByNumber.{kept_at}
@@ -108,7 +108,7 @@ module _ (theory : Theory) (table : List KeptProp) (lists : List (Option Row)) (
           (λ e. let rest : cond (has_number q.0 own) (option_map (with_number p) (get_or (lists_of lists) q.0 None)) (get_or (lists_of lists) q.0 None) ≡ Some ps = rw e at (sym (after q) ∙ there) in
           kept_before q ps (get_or (lists_of lists) q.0 None) (has_number q.0 own) refl rest) (cases_Bool (p.0 == q.0))
 
-      pub AreNeighbours-with : (more : List (Option Form)) → kept_at p.0 more ≡ form_at theory table p → ((n : ℕ) → n ≢ p.0 → kept_at n more ≡ kept_at n forms) →
+      pub AreNeighbours-with : (more : List (Option Form)) → form_kept p.0 more ≡ form_at theory table p → ((n : ℕ) → n ≢ p.0 → kept_at n more ≡ kept_at n forms) →
           AreNeighbours theory table (view_of new more)
       AreNeighbours-with more form others = record {
         kept = All-added_of IsKept (lists_of new) kept_after;

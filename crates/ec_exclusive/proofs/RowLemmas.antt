@@ -14,7 +14,7 @@ use Rattle.ec_numbered.specs.ByNumber.{kept_at}
 use Rattle.ec_exclusive.specs.declared.rows.Row.{Row}
 use Rattle.ec_exclusive.specs.Kept.{numbers_in, list_at, lists_of, list_left, view_of}
 use Rattle.ec_exclusive.specs.declared.forms.Form.{Form}
-use Rattle.ec_exclusive.specs.Forms.{forms_of}
+use Rattle.ec_exclusive.specs.Forms.{forms_of, form_kept}
 use Rattle.ec_exclusive.specs.Neighbours.{AreNeighbours, Neighbourhoods, exclusive_at, form_at}
 use Rattle.ec_exclusive.proofs.FormLemmas.{forms_of-same, form-read, forms-without}
 use Rattle.ec_exclusive.proofs.KeptLists.{are_ascending-added_of, neighbours_of-added_of, is_added-added_of, All-at, All-neighbours_of}
@@ -121,7 +121,7 @@ forms-shown lists forms added theory table shown are =
 
 -- the form that is kept under an added property is that of its term
 pub form-added : (lists : List (Option Row)) (forms : List (Option Form)) (added : Neighbourhoods) (p : PropId) (theory : Theory) (table : List KeptProp) → view_of lists forms ≡ added →
-    AreNeighbours theory table added → is_added p added.rows ≡ true → kept_at p.0 forms ≡ form_at theory table p
+    AreNeighbours theory table added → is_added p added.rows ≡ true → form_kept p.0 forms ≡ form_at theory table p
 form-added lists forms added p theory table shown are there =
     form-read (form_at theory table) forms (added_props added.rows) (forms-shown lists forms added theory table shown are) p there
 

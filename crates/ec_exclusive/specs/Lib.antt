@@ -1,4 +1,6 @@
 pub mod Added
 pub mod Forms
+pub mod Groups
 pub mod Kept
+pub mod Keys
 pub mod Neighbours

@@ -1,16 +1,13 @@
 -- The neighbours of a theory and a table: which of the added properties are exclusive to which.
-use Rattle.std.specs.Prelude.{◌≡◌, Bool, false, ◌&&◌, ◌==◌, if◌then◌else◌, List, [], length, map, filter, Option, Some, None, IsSome, option_map, bytes_eq}
+use Rattle.std.specs.Prelude.{◌≡◌, Bool, false, List, map, filter, Option, Some, None, IsSome, option_map}
 use Rattle.std.specs.List.{All}
 use Rattle.ec_terms.specs.declared.ids.PropId.{PropId}
 use Rattle.ec_terms.specs.declared.ground.Ground.{Ground}
-use Rattle.ec_terms.specs.declared.pattern.Pattern.{Pattern}
-use Rattle.ec_terms.specs.declared.theory.Exclusive.{Exclusive}
 use Rattle.ec_terms.specs.declared.theory.Theory.{Theory}
 use Rattle.ec_terms.specs.Domain.{are_exclusive}
-use Rattle.ec_props.specs.Table.{KeptProp, prop_at, term_at, props_with, number_of}
-use Rattle.ec_exclusive.specs.declared.forms.Form.{Form}
-use Rattle.ec_exclusive.specs.Added.{Added, added_props, is_added}
-use Rattle.ec_exclusive.specs.Forms.{form_of}
+use Rattle.ec_props.specs.Table.{KeptProp, prop_at, term_at}
+use Rattle.ec_exclusive.specs.Added.{Added, added_props}
+use Rattle.ec_exclusive.specs.Forms.{TermForm, form_of}
 
 -- two terms are there, and they are exclusive
 abbrev pub both_exclusive : Theory → Option Ground → Option Ground → Bool
@@ -25,10 +22,10 @@ exclusive_at theory table p q = both_exclusive theory (term_at p.0 table) (term_
 -- added properties with their neighbours, and the form of each, in the same order
 pub record Neighbourhoods : Type 0 where
   pub rows : List Added
-  pub forms : List (Option Form)
+  pub forms : List (Option TermForm)
 
 -- the form of the term that a table keeps under a number
-abbrev pub form_at : Theory → List KeptProp → PropId → Option Form
+abbrev pub form_at : Theory → List KeptProp → PropId → Option TermForm
 form_at theory table p = option_map (form_of theory) (term_at p.0 table)
 
 -- The neighbours of a theory and a table: each added property is kept in the table, its list is of those added
@@ -49,28 +46,6 @@ ReadTermsAlone theory =
 
 -- ---- where the neighbours of a new property are looked for
 
--- a term has the name and the number of arguments of a pattern
-abbrev pub is_of_form : Ground → Pattern → Bool
-is_of_form term pattern = bytes_eq term.name pattern.name && (length term.args == length pattern.args)
-
--- the kept properties with the name and the number of arguments of a pattern
-abbrev pub of_form : List KeptProp → Pattern → List PropId
-of_form table pattern = map number_of (props_with pattern.name (length pattern.args) table)
-
--- the kept properties that a declaration can join with a term, by names and numbers of arguments alone
-abbrev pub joined : Ground → List KeptProp → Exclusive → List PropId
-joined term table declaration =
-    if is_of_form term declaration.left then of_form table declaration.right
-    else if is_of_form term declaration.right then of_form table declaration.left else []
-
--- two patterns have the same name and number of arguments
-abbrev pub same_form : Pattern → Pattern → Bool
-same_form p q = bytes_eq p.name q.name && (length p.args == length q.args)
-
--- two declarations have patterns of the same names and numbers of arguments, so that they can join the same properties
-abbrev pub same_forms : Exclusive → Exclusive → Bool
-same_forms d e = same_form d.left e.left && same_form d.right e.right
-
--- a property is added, and exclusive to a term
-abbrev pub is_neighbour : Theory → List KeptProp → List Added → Ground → PropId → Bool
-is_neighbour theory table rows term q = is_added q rows && both_exclusive theory (Some term) (term_at q.0 table)
+-- a kept property is exclusive to a term
+abbrev pub excludes_at : Theory → List KeptProp → Ground → PropId → Bool
+excludes_at theory table term q = both_exclusive theory (Some term) (term_at q.0 table)

@@ -2,6 +2,8 @@
 #![tactic(auto)]
 
 mod forms;
+mod groups;
+mod keys;
 mod laws;
 mod neighbours;
 mod rows;

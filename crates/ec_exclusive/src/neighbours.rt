@@ -10,11 +10,13 @@ ghost use Rattle.ec_exclusive.specs.Forms.{has_form as of_some_form};
 ghost use Rattle.ec_exclusive.specs.Neighbours.{AreNeighbours, exclusive_at};
 
 use crate::forms::{Form, form_of};
+use crate::groups::{Groups, enter, leave};
 use crate::rows::{Row, add_row, make_room, remove_row};
 use crate::search::find_neighbours;
 use ec_numbered::ByNumber;
 use ec_props::PropTable;
 use ec_terms::{NoMemory, PropId, Theory};
+use indexmap::IndexMap;
 use std::alloc::Global;
 use std::marker::Model;
 
@@ -25,19 +27,19 @@ use std::marker::Model;
 pub struct Neighbours {
     rows: ByNumber<Row>,
     forms: ByNumber<Form>,
+    groups: Groups,
     alloc: Global,
 }
 
 impl Model for Neighbours {
-    ghost use Rattle.ec_exclusive.specs.Added.{AreMutual, added_of};
-    ghost use Rattle.ec_exclusive.specs.Kept.{lists_of, view_of};
+    ghost use Rattle.ec_exclusive.specs.Kept.{AreKept, view_of};
     ghost use Rattle.ec_exclusive.specs.Neighbours.{Neighbourhoods};
 
     ghost Value = { Neighbourhoods };
 
     ghost view = { λ neighbours. view_of neighbours.rows neighbours.forms };
 
-    ghost invariant = { λ neighbours. AreMutual (added_of (lists_of neighbours.rows)) };
+    ghost invariant = { λ neighbours. AreKept neighbours.rows neighbours.forms neighbours.groups };
 }
 
 impl Neighbours {
@@ -48,6 +50,7 @@ impl Neighbours {
         Ok(Neighbours {
             rows: ByNumber::new(alloc),
             forms: ByNumber::new(alloc),
+            groups: IndexMap::new(alloc),
             alloc,
         })
     }
@@ -80,8 +83,8 @@ impl Neighbours {
         ensures { (theory : Theory) (table : List KeptProp) → AreNeighbours theory table self.now → option_map (of_some_form theory) (term_at p.0 table) ≡ Some result }
     {
         match self.forms.get(p) {
-            Some(form) => form.fits,
-            None => false,
+            Some(form) => !form.keys.as_slice().is_empty(),
+            None => unreachable!(),
         }
     }
 
@@ -92,12 +95,12 @@ impl Neighbours {
     {
         match self.forms.get(p) {
             Some(form) => form.strong,
-            None => false,
+            None => unreachable!(),
         }
     }
 
     /// Adds a property that the table keeps: its neighbours are found, and it becomes a neighbour of each of them.
-    /// Only those kept properties are looked at that some declaration joins with it by name and number of arguments.
+    /// Only those added properties are looked at that have, for some declaration, the values that its two sides share.
     /// `Err` is for want of memory, and then all is as it was.
     pub fn add(&mut self, theory: &Theory, props: &PropTable, p: PropId) -> Result<(), NoMemory>
         requires matchable { IsMatchable theory.now }
@@ -108,10 +111,12 @@ impl Neighbours {
         ensures neighbours { OnOk result (AreNeighbours theory.now props.now self.new) }
         ensures err { OnErr result (self.new ≡ self.old) }
     {
-        let form = form_of(theory, &props.ground(p));
-        let neighbours = find_neighbours(self, theory, props, p, self.alloc)?;
+        let term = props.ground(p);
+        let form = form_of(self.alloc, theory, &term)?;
+        let neighbours = find_neighbours(&self.groups, theory, props, &term, self.alloc)?;
         make_room(&mut self.rows, p, neighbours.as_slice())?;
         self.forms.place(p)?;
+        enter(&mut self.groups, self.alloc, form.keys.as_slice(), p)?;
         add_row(&mut self.rows, p, Row { neighbours });
         self.forms.set(p, form);
         Ok(())
@@ -124,6 +129,8 @@ impl Neighbours {
         ensures neighbours { (theory : Theory) (table : List KeptProp) → AreNeighbours theory table self.old → AreNeighbours theory table self.new }
     {
         let _ = remove_row(&mut self.rows, p);
-        let _ = self.forms.take(p);
+        if let Some(form) = self.forms.take(p) {
+            leave(&mut self.groups, form.keys.as_slice(), p);
+        }
     }
 }

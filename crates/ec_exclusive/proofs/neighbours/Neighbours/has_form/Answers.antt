@@ -1,16 +1,19 @@
 -- The form that is kept is that of the property's term.
-use Rattle.std.proofs.Common.{sym, ◌∙◌}
-use Rattle.ec_exclusive.proofs.FormLemmas.{has_form-read, form_at-kept}
+use Rattle.std.proofs.Common.{Some, not, length, sym, ap, ◌∙◌, is_some}
+use Rattle.std.specs.Prelude.{◌==◌, option_map}
+use Rattle.std.proofs.lemmas.Bool.{false≢true}
+use Rattle.ec_exclusive.specs.Forms.{form_in}
+use Rattle.ec_exclusive.proofs.FormLemmas.{has_form-read}
 use Rattle.ec_exclusive.proofs.RowLemmas.{form-added}
-use Rattle.ec_exclusive.proofs.SameTerms.{kept-added}
+use Rattle.ec_exclusive.proofs.Grouped.{form_kept-there}
 use Rattle.ec_exclusive.proofs.neighbours.Neighbours.has_form.Goals as goal
 
-pub returns-in-Some : goal.returns-in-Some
-returns-in-Some c = λ theory table are.
+pub returns : goal.returns
+returns c = λ theory table are.
     has_form-read theory table c.args.p c.in-Some.form.now
-    (sym (form-added c.self.inside.rows c.self.inside.forms c.args.self.now c.args.p theory table c.self.view_is are c.requires) ∙ sym c.in-Some.ensures)
+    (sym (form-added c.self.inside.rows c.self.inside.forms c.args.self.now c.args.p theory table c.self.view_is are c.requires) ∙ ap (option_map form_in) (sym c.in-Some.ensures))
+    ∙ ap (λ b. Some (not b)) (ap (λ keys. length keys == 0) (sym c.as_slice.ensures.value) ∙ sym c.is_empty.ensures)
 
-pub returns-in-None : goal.returns-in-None
-returns-in-None c = λ theory table are.
-    absurd (form_at-kept theory table c.args.p (kept-added theory table c.args.self.now c.args.p are c.requires)
-    (sym (form-added c.self.inside.rows c.self.inside.forms c.args.self.now c.args.p theory table c.self.view_is are c.requires) ∙ sym c.in-None.ensures))
+pub unreachable-requires : goal.unreachable-requires
+unreachable-requires c =
+    false≢true (ap is_some c.in-None.ensures ∙ form_kept-there c.self.inside.rows c.self.inside.forms c.self.inside.groups c.self.invariant c.args.self.now c.self.view_is c.args.p ∙ c.requires)

@@ -1,7 +1,5 @@
 -- A property is added where its number has a row.
-use Rattle.std.proofs.Common.{◌≡◌, List, ap, ◌∙◌, is_some}
-use Rattle.ec_exclusive.specs.Added.{Added, added_of}
-use Rattle.ec_exclusive.specs.Kept.{lists_of}
+use Rattle.std.proofs.Common.{ap, ◌∙◌, is_some}
 use Rattle.ec_exclusive.specs.Neighbours.{Neighbourhoods}
 use Rattle.ec_exclusive.proofs.RowLemmas.{is_some-row, are_ascending-rows, is_some-copied}
 use Rattle.ec_exclusive.proofs.neighbours.Neighbours.is_added.Goals as goal

@@ -1,13 +1,10 @@
--- With no rows nothing is added.
-use Rattle.std.proofs.Common.{[], ap}
-use Rattle.ec_exclusive.specs.Added.{added_props}
-use Rattle.ec_exclusive.specs.Forms.{forms_of}
-use Rattle.ec_exclusive.specs.Neighbours.{Neighbourhoods}
-use Rattle.ec_exclusive.proofs.RowLemmas.{AreMutual-none, added_of-nil, view-nil}
+-- With no rows nothing is added, and no group has a member.
+use Rattle.ec_exclusive.proofs.Grouped.{AreKept-none}
+use Rattle.ec_exclusive.proofs.RowLemmas.{view-nil}
 use Rattle.ec_exclusive.proofs.neighbours.Neighbours.new.Goals as goal
 
 pub invariant_of-result : goal.invariant_of-result
-invariant_of-result c = AreMutual-none c.new.result c.new.ensures
+invariant_of-result c = AreKept-none c.new.result c.new-2.result c.new-3.result c.new.ensures c.new-2.ensures c.new-3.ensures.empty
 
 pub returns : goal.returns
 returns c = view-nil c.new.result c.new-2.result c.new.ensures

@@ -1,0 +1,205 @@
+-- What the groups say of the added properties, and what they are when a property comes or goes.
+use Rattle.std.proofs.Common.{◌≡◌, ◌≢◌, ℕ, Bool, true, false, not, cond, ◌&&◌, ◌||◌, IsSome, List, [], ◌∷◌, filter, Option, Some, None, Vec, is_some, refl, sym, ap, ap₂, subst, ◌∙◌, ◌⊎◌, inl, inr, ⊎_elim, arith}
+use Rattle.std.specs.Prelude.{◌==◌, option_map, bytes_eq}
+use Rattle.std.specs.List.{list_any}
+use Rattle.std.proofs.lemmas.Bool.{cases_Bool, false≢true}
+use Rattle.std.specs.Map.{lookup}
+use Rattle.std.proofs.lemmas.List.{get_or_past}
+use Rattle.indexmap.specs.IndexMap.{IndexMap}
+use Rattle.ec_lists.proofs.Options.{is_some-option_map}
+use Rattle.ec_lists.proofs.Tests.{list_any-same, list_any-map}
+use Rattle.ec_terms.specs.declared.ids.PropId.{PropId}
+use Rattle.ec_terms.specs.declared.ground.Ground.{Ground}
+use Rattle.ec_terms.specs.declared.theory.Theory.{Theory}
+use Rattle.ec_rows.specs.Ordered.{Reserved}
+use Rattle.ec_props.specs.Table.{KeptProp, prop_at, term_at}
+use Rattle.ec_numbered.specs.ByNumber.{kept_at}
+use Rattle.ec_numbered.specs.PropSet.{has_number, are_ascending, with_number, without_number}
+use Rattle.ec_numbered.proofs.Numbers.{same_members, has_number-filter}
+use Rattle.ec_exclusive.specs.declared.forms.Form.{Form}
+use Rattle.ec_exclusive.specs.declared.rows.Row.{Row}
+use Rattle.ec_exclusive.specs.Added.{added_props, is_added, added_of, AreMutual}
+use Rattle.ec_exclusive.specs.Forms.{TermForm, form_in, form_kept, stands_under}
+use Rattle.ec_exclusive.specs.Groups.{is_member, in_group, is_among}
+use Rattle.ec_exclusive.specs.Keys.{own_keys, other_keys, is_key}
+use Rattle.ec_exclusive.specs.Kept.{numbers_in, list_at, lists_of, list_with, list_left, view_of, AreKept}
+use Rattle.ec_exclusive.specs.Neighbours.{AreNeighbours, Neighbourhoods, both_exclusive, exclusive_at, excludes_at}
+use Rattle.ec_exclusive.proofs.KeptLists.{numbered}
+use Rattle.ec_exclusive.proofs.Excluding.{are_ascending-filter}
+use Rattle.ec_exclusive.proofs.KeyLemmas.{exclusive-common}
+use Rattle.ec_exclusive.proofs.FormLemmas.{form_at-term}
+use Rattle.ec_exclusive.proofs.RowLemmas.{AreMutual-none, is_some-rows, are_ascending-rows, form-added}
+use Rattle.ec_exclusive.proofs.SameTerms.{kept-added}
+
+-- a form that is not there stands under no key
+stands_under-none : (key : List ℕ) (o : Option TermForm) → is_some o ≡ false → stands_under key o ≡ false
+stands_under-none key None none = refl
+stands_under-none key (Some form) none = absurd (false≢true (sym none))
+
+-- a kept form stands under the keys that it has
+stands_under-form : (key : List ℕ) (n : ℕ) (forms : List (Option Form)) (form : Form) → kept_at n forms ≡ Some form → stands_under key (form_kept n forms) ≡ is_among form.keys.items key
+stands_under-form key n forms form is =
+    ap (λ o. stands_under key (option_map form_in o)) is ∙ list_any-map (λ (t : List ℕ). bytes_eq t key) (λ text. text.items) form.keys.items
+
+any-none : {X : Type 0} (test : X → Bool) (xs : List X) → ((x : X) → test x ≡ false) → list_any test xs ≡ false
+any-none test [] none = refl
+any-none test (x ∷ xs) none = ap₂ (λ a b. a || b) (none x) (any-none test xs none)
+
+-- nothing is kept
+pub AreKept-none : {Z S : Type 0} (lists : List (Option Row)) (forms : List (Option Form)) (groups : IndexMap (Vec ℕ Z) (Reserved PropId) S) → lists ≡ [] → forms ≡ [] → groups.entries ≡ [] →
+    AreKept lists forms groups
+AreKept-none lists forms groups no_lists no_forms no_groups = record {
+  lists = AreMutual-none lists no_lists;
+  both = λ q. ap (λ fs. is_some (kept_at q.0 fs)) no_forms ∙ none q.0 ∙ sym (ap (λ ls. is_some (list_at q ls)) no_lists ∙ no_list q.0);
+  grouped = λ key n. ap (λ es. is_member n (lookup (λ k. bytes_eq key k.items) es)) no_groups ∙ sym (ap (λ fs. stands_under key (form_kept n fs)) no_forms ∙ no_form key n);
+}
+  where
+    none : (n : ℕ) → is_some (kept_at {X = Form} n []) ≡ false
+    none n = ap (is_some {T = Form}) (get_or_past [] n None (omega arith))
+
+    no_list : (n : ℕ) → is_some (numbers_in (kept_at {X = Row} n [])) ≡ false
+    no_list n = ap (λ o. is_some (numbers_in o)) (get_or_past {X = Option Row} [] n None (omega arith))
+
+    no_form : (key : List ℕ) (n : ℕ) → stands_under key (form_kept n []) ≡ false
+    no_form key n = ap (λ o. stands_under key (option_map form_in o)) (get_or_past {X = Option Form} [] n None (omega arith))
+
+module _ {Z S : Type 0} (lists : List (Option Row)) (forms : List (Option Form)) (groups : IndexMap (Vec ℕ Z) (Reserved PropId) S) (kept : AreKept lists forms groups) where
+  module _ (added : Neighbourhoods) (shown : view_of lists forms ≡ added) where
+    rows_are : added_of (lists_of lists) ≡ added.rows
+    rows_are = ap (λ (v : Neighbourhoods). v.rows) shown
+
+    -- an added property has a form, and no other has one
+    form-there : (p : PropId) → is_some (form_kept p.0 forms) ≡ is_added p added.rows
+    form-there p = is_some-option_map form_in (kept_at p.0 forms) ∙ kept.both p ∙ is_some-rows lists added.rows p rows_are
+
+    pub form_kept-there : (p : PropId) → is_some (kept_at p.0 forms) ≡ is_added p added.rows
+    form_kept-there p = kept.both p ∙ is_some-rows lists added.rows p rows_are
+
+    -- a property that is not added stands in no group
+    pub in_group-absent : (p : PropId) → is_added p added.rows ≡ false → (key : List ℕ) → in_group groups key p.0 ≡ false
+    in_group-absent p absent key = kept.grouped key p.0 ∙ stands_under-none key (form_kept p.0 forms) (form-there p ∙ absent)
+
+    module _ (theory : Theory) (table : List KeptProp) (are : AreNeighbours theory table added) where
+      -- what stands in a group is kept
+      pub in_group-kept : (key : List ℕ) (n : ℕ) → in_group groups key n ≡ true → IsSome (prop_at n table)
+      in_group-kept key n there =
+          ⊎_elim (λ yes. kept-added theory table added (numbered n) are yes) (λ no. absurd (false≢true (sym (in_group-absent (numbered n) no key) ∙ there)))
+          (cases_Bool (is_added (numbered n) added.rows))
+
+      module _ (term : Ground) where
+        any : PropId → Bool
+        any q = list_any (λ key. in_group groups key q.0) (other_keys theory.exclusives term)
+
+        -- what is exclusive to the term is found where it is added
+        any-exclusive : (q : PropId) (o : Option Ground) → term_at q.0 table ≡ o → both_exclusive theory (Some term) o ≡ true → is_added q added.rows ≡ true → any q ≡ true
+        unfolding any
+        any-exclusive q None is exclusive there = absurd (false≢true exclusive)
+        any-exclusive q (Some other) is exclusive there =
+            list_any-same (λ key. in_group groups key q.0) (is_key (own_keys theory.exclusives other))
+            (λ key. kept.grouped key q.0
+            ∙ ap (stands_under key) (form-added lists forms added q theory table shown are there ∙ form_at-term theory table q other is)) (other_keys theory.exclusives term)
+            ∙ exclusive-common theory term other exclusive
+
+        any-absent : (q : PropId) → is_added q added.rows ≡ false → any q ≡ false
+        unfolding any
+        any-absent q absent = any-none (λ key. in_group groups key q.0) (other_keys theory.exclusives term) (λ key. in_group-absent q absent key)
+
+        -- what is found is the neighbours
+        pub own-found : (p : PropId) (found : List PropId) → term_at p.0 table ≡ Some term → are_ascending found ≡ true →
+            ((q : PropId) → has_number q.0 found ≡ (excludes_at theory table term q && list_any (λ key. in_group groups key q.0) (other_keys theory.exclusives term))) →
+            found ≡ filter (exclusive_at theory table p) (added_props added.rows)
+        unfolding any
+        own-found p found is ascending members =
+            same_members found (filter (exclusive_at theory table p) (added_props added.rows)) ascending
+            (are_ascending-filter (exclusive_at theory table p) (added_props added.rows) (are_ascending-rows lists added.rows rows_are))
+            (λ q. members q ∙ rest q (cases_Bool (excludes_at theory table term q)) (cases_Bool (is_added q added.rows))
+            ∙ ap (λ t. both_exclusive theory t (term_at q.0 table) && is_added q added.rows) (sym is)
+            ∙ sym (has_number-filter q (exclusive_at theory table p) (added_props added.rows)))
+          where
+            rest : (q : PropId) → (excludes_at theory table term q ≡ true) ⊎ (excludes_at theory table term q ≡ false) → (is_added q added.rows ≡ true) ⊎ (is_added q added.rows ≡ false) →
+                (excludes_at theory table term q && any q) ≡ (excludes_at theory table term q && is_added q added.rows)
+            rest q (inl excludes) (inl there) = ap (λ b. excludes_at theory table term q && b) (any-exclusive q (term_at q.0 table) refl excludes there ∙ sym there)
+            rest q (inl excludes) (inr absent) = ap (λ b. excludes_at theory table term q && b) (any-absent q absent ∙ sym absent)
+            rest q (inr other) here = ap (λ b. b && any q) other ∙ sym (ap (λ b. b && is_added q added.rows) other)
+
+  -- ---- a property more
+
+  is_some-with : (p q : PropId) (own : List PropId) (o : Option (List PropId)) → (p.0 == q.0) ≡ false → is_some (list_with p own q o) ≡ is_some o
+  is_some-with p q own o e = ap (λ b. is_some (cond b (Some own) (cond (has_number q.0 own) (option_map (with_number p) o) o))) e ∙ inside (has_number q.0 own) o
+    where
+      inside : (b : Bool) (o : Option (List PropId)) → is_some (cond b (option_map (with_number p) o) o) ≡ is_some o
+      inside true None = refl
+      inside true (Some ps) = refl
+      inside false o = refl
+
+  apart : (m n : ℕ) → (m == n) ≡ false → n ≢ m
+  apart m n e is = let yes : (m == n) ≡ true = grind arith in false≢true (sym e ∙ yes)
+
+  equal : (m n : ℕ) → (m == n) ≡ true → n ≡ m
+  equal m n e = grind arith
+
+  pub AreKept-with : (p : PropId) (own : List PropId) (new : List (Option Row)) (more : List (Option Form)) (form : Form) (entered : IndexMap (Vec ℕ Z) (Reserved PropId) S) →
+      AreMutual (added_of (lists_of new)) → ((key : List ℕ) → in_group groups key p.0 ≡ false) → ((q : PropId) → list_at q new ≡ list_with p own q (list_at q lists)) →
+      kept_at p.0 more ≡ Some form → ((n : ℕ) → n ≢ p.0 → kept_at n more ≡ kept_at n forms) →
+      ((key : List ℕ) (n : ℕ) → in_group entered key n ≡ (((p.0 == n) && is_among form.keys.items key) || in_group groups key n)) → AreKept new more entered
+  AreKept-with p own new more form entered are absent with_own set others enters = record {
+    lists = are;
+    both = λ q. ⊎_elim
+        (λ e. ap is_some (ap (λ n. kept_at n more) (equal p.0 q.0 e) ∙ set) ∙ sym (ap is_some (with_own q ∙ ap (λ b. cond b (Some own) (cond (has_number q.0 own) (option_map (with_number p) (list_at q lists)) (list_at q lists))) e)))
+        (λ e. ap is_some (others q.0 (apart p.0 q.0 e)) ∙ kept.both q ∙ sym (ap is_some (with_own q) ∙ is_some-with p q own (list_at q lists) e))
+        (cases_Bool (p.0 == q.0));
+    grouped = λ key n. ⊎_elim
+        (λ e. enters key n ∙ ap₂ (λ b c. (b && is_among form.keys.items key) || c) e (ap (in_group groups key) (equal p.0 n e) ∙ absent key)
+        ∙ or-false (is_among form.keys.items key)
+        ∙ sym (stands_under-form key n more form (ap (λ m. kept_at m more) (equal p.0 n e) ∙ set)))
+        (λ e. enters key n ∙ ap (λ b. (b && is_among form.keys.items key) || in_group groups key n) e ∙ kept.grouped key n
+        ∙ sym (ap (λ o. stands_under key (option_map form_in o)) (others n (apart p.0 n e))))
+        (cases_Bool (p.0 == n));
+  }
+    where
+      or-false : (b : Bool) → (b || false) ≡ b
+      or-false true = refl
+      or-false false = refl
+
+  -- ---- a property less
+
+  is_some-left : (p q : PropId) (own : List PropId) (o : Option (List PropId)) → (q.0 == p.0) ≡ false → is_some (list_left p own q o) ≡ is_some o
+  is_some-left p q own o e = ap (λ b. is_some (cond b None (cond (has_number q.0 own) (option_map (without_number p) o) o))) e ∙ inside (has_number q.0 own) o
+    where
+      inside : (b : Bool) (o : Option (List PropId)) → is_some (cond b (option_map (without_number p) o) o) ≡ is_some o
+      inside true None = refl
+      inside true (Some ps) = refl
+      inside false o = refl
+
+  pub AreKept-less : (p : PropId) (own : List PropId) (new : List (Option Row)) (less : List (Option Form)) (form : Form) (left : IndexMap (Vec ℕ Z) (Reserved PropId) S) →
+      AreMutual (added_of (lists_of new)) → ((q : PropId) → list_at q new ≡ list_left p own q (list_at q lists)) →
+      kept_at p.0 forms ≡ Some form → kept_at p.0 less ≡ None → ((n : ℕ) → n ≢ p.0 → kept_at n less ≡ kept_at n forms) →
+      ((key : List ℕ) (n : ℕ) → in_group left key n ≡ (not ((p.0 == n) && is_among form.keys.items key) && in_group groups key n)) → AreKept new less left
+  AreKept-less p own new less form left are without was gone others leaves = record {
+    lists = are;
+    both = λ q. ⊎_elim
+        (λ e. ap is_some (ap (λ n. kept_at n less) (sym (equal q.0 p.0 e)) ∙ gone)
+        ∙ sym (ap is_some (without q ∙ ap (λ b. cond b None (cond (has_number q.0 own) (option_map (without_number p) (list_at q lists)) (list_at q lists))) e)))
+        (λ e. ap is_some (others q.0 (λ is. apart q.0 p.0 e (sym is))) ∙ kept.both q ∙ sym (ap is_some (without q) ∙ is_some-left p q own (list_at q lists) e))
+        (cases_Bool (q.0 == p.0));
+    grouped = λ key n. ⊎_elim
+        (λ e. leaves key n ∙ ap₂ (λ b c. not (b && is_among form.keys.items key) && c) e
+        (kept.grouped key n ∙ stands_under-form key n forms form (ap (λ m. kept_at m forms) (equal p.0 n e) ∙ was))
+        ∙ never (is_among form.keys.items key) ∙ sym (ap (λ o. stands_under key (option_map form_in o)) (ap (λ m. kept_at m less) (equal p.0 n e) ∙ gone)))
+        (λ e. leaves key n ∙ ap (λ b. not (b && is_among form.keys.items key) && in_group groups key n) e ∙ kept.grouped key n
+        ∙ sym (ap (λ o. stands_under key (option_map form_in o)) (others n (apart p.0 n e))))
+        (cases_Bool (p.0 == n));
+  }
+    where
+      never : (b : Bool) → (not b && b) ≡ false
+      never true = refl
+      never false = refl
+
+  -- rows and groups that say the same
+  pub AreKept-same : (new : List (Option Row)) (more : List (Option Form)) (other : IndexMap (Vec ℕ Z) (Reserved PropId) S) → added_of (lists_of new) ≡ added_of (lists_of lists) →
+      ((q : PropId) → list_at q new ≡ list_at q lists) → ((n : ℕ) → kept_at n more ≡ kept_at n forms) → ((key : List ℕ) (n : ℕ) → in_group other key n ≡ in_group groups key n) → AreKept new more other
+  AreKept-same new more other rows same_lists same_forms same_groups = record {
+    lists = subst AreMutual (sym rows) kept.lists;
+    both = λ q. ap is_some (same_forms q.0) ∙ kept.both q ∙ sym (ap is_some (same_lists q));
+    grouped = λ key n. same_groups key n ∙ kept.grouped key n ∙ sym (ap (λ o. stands_under key (option_map form_in o)) (same_forms n));
+  }
