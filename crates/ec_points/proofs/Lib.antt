@@ -1,7 +1,10 @@
 mod AppliedChanges
+mod ClashLemmas
 mod LastMarks
 mod Lists
 mod MadeChanges
+mod NextClash
+mod NotedChanges
 mod PastMarks
-mod ReadyRows
+mod RowClashes
 mod SeenRowLemmas

@@ -126,7 +126,7 @@ module _ {T : Type 0} (rank : T → ℤ) (t : ℤ) where
     is_here change = change.0.0 == n && is_at change.1
 
     -- what is apart from a change at a place is not at that place
-    change_at-apart : (change : Change T) (changes : List (Change T)) → (change.0.0 == n) ≡ true → is_at change.1 ≡ true →
+    pub change_at-apart : (change : Change T) (changes : List (Change T)) → (change.0.0 == n) ≡ true → is_at change.1 ≡ true →
         list_all (are_apart rank change) changes ≡ true → change_at rank n t changes ≡ None
     change_at-apart change [] number time apart = refl
     change_at-apart change (c ∷ changes) number time apart =

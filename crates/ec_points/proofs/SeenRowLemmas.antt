@@ -18,34 +18,27 @@ use Rattle.ec_points.specs.Table.{PointRow, PointTable, row_of, marks_in, row_at
 pub IsGrown-same : {T : Type 0} (old new : Option (PointRow T)) → new ≡ old → IsGrown old new
 IsGrown-same old new same = record { marks = ap marks_in same; room = rw same (omega arith); kept = λ there. ap is_some same ∙ there }
 
-pub IsGrown-trans : {T : Type 0} (a b c : Option (PointRow T)) → IsGrown a b → IsGrown b c → IsGrown a c
-IsGrown-trans a b c first second = record {
-  marks = second.marks ∙ first.marks;
-  room = let low = first.room in let high = second.room in omega (arith, low, high);
-  kept = λ there. second.kept (first.kept there);
-}
-
 module _ {T M : Type 0} (marks : M → List (Mark T)) (spare : M → ℕ) where
   -- ---- the table that shows the rows
 
   -- a row as the table shows it
-  row_at-seen : (rows : List (Option M)) (n : ℕ) → get_or (rows_seen marks spare rows) n None ≡ seen_at marks spare n rows
+  pub row_at-seen : (rows : List (Option M)) (n : ℕ) → get_or (rows_seen marks spare rows) n None ≡ seen_at marks spare n rows
   row_at-seen [] n =
       get_or_past {X = Option (PointRow T)} [] n None (omega arith) ∙ sym (ap (option_map (row_of marks spare)) (get_or_past {X = Option M} [] n None (omega arith)))
   row_at-seen (row ∷ rows) zero = refl
   row_at-seen (row ∷ rows) (suc n) = row_at-seen rows n
 
-  pub row_at-table : (rows : List (Option M)) (initials : List PropId) (table : PointTable T) → record { rows = rows_seen marks spare rows; initials = initials } ≡ table →
+  pub row_at-table : (rows : List (Option M)) (table : PointTable T) → rows_seen marks spare rows ≡ table.rows →
       (n : ℕ) → seen_at marks spare n rows ≡ row_at n table
-  row_at-table rows initials table is n = sym (row_at-seen rows n) ∙ ap (row_at n) is
+  row_at-table rows table is n = sym (row_at-seen rows n) ∙ ap (λ rows. get_or rows n None) is
 
   -- what holds of a row before and behind a call holds of it in the tables that show both
-  pub shown : (P : Option (PointRow T) → Option (PointRow T) → Type 0) (old new : List (Option M)) (initials others : List PropId) (table : PointTable T) →
-      record { rows = rows_seen marks spare old; initials = initials } ≡ table → (n : ℕ) → P (seen_at marks spare n old) (seen_at marks spare n new) →
-      P (row_at n table) (row_at n (record { rows = rows_seen marks spare new; initials = others }))
-  shown P old new initials others table is n fact =
+  pub shown : (P : Option (PointRow T) → Option (PointRow T) → Type 0) (old new : List (Option M)) (table : PointTable T) →
+      rows_seen marks spare old ≡ table.rows → (n : ℕ) → P (seen_at marks spare n old) (seen_at marks spare n new) →
+      P (row_at n table) (get_or (rows_seen marks spare new) n None)
+  shown P old new table is n fact =
       subst (λ row. P (row_at n table) row) (sym (row_at-seen new n))
-      (subst (λ row. P row (seen_at marks spare n new)) (row_at-table old initials table is n) fact)
+      (subst (λ row. P row (seen_at marks spare n new)) (row_at-table old table is n) fact)
 
   -- rows that are there, as they are seen
   pub is_some-seen : (old new : List (Option M)) (n : ℕ) → is_some (kept_at n new) ≡ is_some (kept_at n old) →

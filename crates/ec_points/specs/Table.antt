@@ -17,10 +17,12 @@ pub record PointRow (T : Type 0) : Type 0 where
   pub marks : List (Mark T)
   pub room : ℕ
 
--- the rows by number, where there are some, and the numbers of the properties that hold from before all events
+-- the rows by number, where there are some, the numbers of the properties that hold from before all events, and how
+-- many further marks that both initiate and clash are taken without memory
 pub record PointTable (T : Type 0) : Type 0 where
   pub rows : List (Option (PointRow T))
   pub initials : List PropId
+  pub clash_room : ℕ
 
 -- ---- rows
 

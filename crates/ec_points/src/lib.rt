@@ -2,7 +2,9 @@
 #![tactic(auto)]
 
 mod change;
+mod clashes;
 mod laws;
+mod noted;
 mod points;
 mod row;
 mod rows;

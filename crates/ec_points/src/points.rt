@@ -1,15 +1,18 @@
-ghost use Rattle.std.specs.Prelude.{◌≡◌, ◌≢◌, ℕ, ◌+◌, ◌≤◌, ◌++◌, ◌∷◌, [], IsTrue, IfOk, IfSome, IfNone, OnOk, OnErr, Some, None, option_map};
+ghost use Rattle.std.specs.Prelude.{◌≡◌, ◌≢◌, ℕ, ℤ, ◌+◌, ◌≤◌, ◌++◌, ◌∷◌, [], false, IsTrue, IfOk, IfSome, IfNone, OnOk, OnErr, Some, None, int_lt, option_map};
 ghost use Rattle.ec_axioms.specs.Marks.{last_mark_before};
 ghost use Rattle.ec_numbered.specs.PropSet.{are_ascending, has_number};
 ghost use Rattle.ec_points.specs.Changes.{changed, count_of as changes_of, growth_of};
+ghost use Rattle.ec_points.specs.Clashes.{clashes_at, is_behind, is_clash, new_clashes, some_clash_at};
 ghost use Rattle.ec_points.specs.SeenRows.{IsGrown};
 ghost use Rattle.ec_points.specs.Table.{has_row, is_current_at, is_initial_at, marks_at, room_at, row_at, row_of};
 ghost use Rattle.ec_rows.specs.Marks.{are_before, is_counted, mark_at};
 ghost use Rattle.ec_rows.specs.PlainMarks.{plain_mark, plain_marks};
 
 use crate::change::MarkChange;
+use crate::clashes::Clashes;
+use crate::noted::{forget, note_changes};
 use crate::row::last_mark;
-use crate::rows::{change_rows, clear_in, empty_rows, prepare_rows, push_in, reserve_in};
+use crate::rows::{change_rows, clear_in, empty_rows, push_in, reserve_in};
 use ec_axioms::Current;
 use ec_moment::Moment;
 use ec_numbered::{ByNumber, PropSet};
@@ -21,22 +24,26 @@ use std::marker::{Model, PhantomData};
 /// The marks of each property, a row of them under the number of the property, and the numbers of the
 /// properties that hold from before all events.
 ///
-/// After `reserve` has made room for the new marks of a change, `apply` takes no memory.
+/// After `reserve` and `reserve_clashes` have made room for the new marks of a change, `apply` takes no memory.
 #[derive(Drop)]
 pub struct Points<T: Moment, M: MarkRow<T>> {
     rows: ByNumber<M>,
     initials: PropSet,
+    clashes: Clashes<T>,
     alloc: Global,
     moment: PhantomData<T>,
 }
 
 impl<T: Moment, M: MarkRow<T>> Model for Points<T, M> {
+    ghost use Rattle.ec_points.specs.Clashes.{AreClashesOf};
     ghost use Rattle.ec_points.specs.SeenRows.{rows_seen};
     ghost use Rattle.ec_points.specs.Table.{PointTable};
 
     ghost Value = { PointTable T };
 
-    ghost view = { λ points. record { rows = rows_seen M.marks M.spare points.rows; initials = points.initials.items } };
+    ghost view = { λ points. record { rows = rows_seen M.marks M.spare points.rows; initials = points.initials.items; clash_room = points.clashes.spare } };
+
+    ghost invariant = { λ points. AreClashesOf T.rank M.marks M.spare points.rows points.clashes.items };
 }
 
 impl<T: Moment, M: MarkRow<T>> Points<T, M> {
@@ -48,6 +55,7 @@ impl<T: Moment, M: MarkRow<T>> Points<T, M> {
         Ok(Points {
             rows: ByNumber::new(alloc),
             initials: PropSet::new(alloc),
+            clashes: Clashes::new(alloc),
             alloc,
             moment: PhantomData,
         })
@@ -63,6 +71,7 @@ impl<T: Moment, M: MarkRow<T>> Points<T, M> {
         Ok(Points {
             rows: empty_rows(alloc, initials)?,
             initials: PropSet::from_ascending(initials.to_vec(alloc)?),
+            clashes: Clashes::new(alloc),
             alloc,
             moment: PhantomData,
         })
@@ -90,6 +99,20 @@ impl<T: Moment, M: MarkRow<T>> Points<T, M> {
         self.row(p)?.mark_at(at)
     }
 
+    /// The next time, behind one or the first of all, at which some property has a mark that both initiates and
+    /// clashes. It is found at once, however many marks there are.
+    pub fn next_clash(&self, after: Option<T>) -> Option<T>
+        ensures some { IfSome result (λ at. IsTrue (some_clash_at T.rank (T.rank at) self.now)) }
+        ensures behind { IfSome result (λ at. IsTrue (is_behind T.rank after (T.rank at))) }
+        ensures least { IfSome result (λ at. (n : ℕ) (t : ℤ) → IsTrue (is_behind T.rank after t) → IsTrue (int_lt t (T.rank at)) → clashes_at T.rank n t self.now ≡ false) }
+        ensures none { IfNone result ((n : ℕ) (t : ℤ) → IsTrue (is_behind T.rank after t) → clashes_at T.rank n t self.now ≡ false) }
+    {
+        match self.clashes.next(after) {
+            Some(clash) => Some(clash.at),
+            None => None,
+        }
+    }
+
     /// The last mark of a property strictly before a time.
     fn last_mark(&self, p: PropId, at: T) -> Option<Mark<T>>
         ensures { option_map (plain_mark T.rank) result ≡ last_mark_before (plain_marks T.rank (marks_at p.0 self.now)) (T.rank at) }
@@ -107,50 +130,53 @@ impl<T: Moment, M: MarkRow<T>> Points<T, M> {
         ensures grown { IsGrown (row_at p.0 self.old) (row_at p.0 self.new) }
         ensures others { (m : ℕ) → m ≢ p.0 → row_at m self.new ≡ row_at m self.old }
         ensures initials { self.new.initials ≡ self.old.initials }
+        ensures clash_room { self.new.clash_room ≡ self.old.clash_room }
     {
         reserve_in(self.alloc, &mut self.rows, p, n)
     }
 
-    /// Adds a mark of a property behind all its others; the property gets a row, if it has none. `Err`: memory ran out,
-    /// and the same rows are there with the same marks.
+    /// Makes room for `n` further marks that both initiate and clash, whichever properties they are of. `Err`: memory
+    /// ran out.
+    pub fn reserve_clashes(&mut self, n: usize) -> Result<(), NoMemory>
+        ensures room { OnOk result (n ≤ self.new.clash_room) }
+        ensures grown { self.old.clash_room ≤ self.new.clash_room }
+        ensures rows { self.new.rows ≡ self.old.rows }
+        ensures initials { self.new.initials ≡ self.old.initials }
+    {
+        self.clashes.reserve(n)
+    }
+
+    /// Adds a mark of a property behind all its others, one that does not both initiate and clash; the property gets a
+    /// row, if it has none. `Err`: memory ran out, and the same rows are there with the same marks.
     pub fn push(&mut self, p: PropId, mark: Mark<T>) -> Result<(), NoMemory>
         requires counted { IsTrue (is_counted mark) }
         requires last { IsTrue (are_before T.rank (marks_at p.0 self.old) mark) }
+        requires no_clash { is_clash mark ≡ false }
         ensures ok { OnOk result (marks_at p.0 self.new ≡ marks_at p.0 self.old ++ mark ∷ []) }
         ensures err { OnErr result (marks_at p.0 self.new ≡ marks_at p.0 self.old) }
         ensures row { OnErr result (has_row p.0 self.new ≡ has_row p.0 self.old) }
         ensures room { room_at p.0 self.old ≤ room_at p.0 self.new + 1 }
         ensures others { (m : ℕ) → m ≢ p.0 → row_at m self.new ≡ row_at m self.old }
         ensures initials { self.new.initials ≡ self.old.initials }
+        ensures clash_room { self.new.clash_room ≡ self.old.clash_room }
     {
         push_in(self.alloc, &mut self.rows, p, mark)
     }
 
-    /// Makes room for a change: each property of it gets a row, if it has none, and room in its row for all its new
-    /// marks. It looks at the whole change for each of its marks: who knows how many are new calls `reserve`. `Err`:
-    /// memory ran out; then some properties of the change may have a new row of no marks.
-    pub fn prepare(&mut self, change: &MarkChange<T>) -> Result<(), NoMemory>
-        ensures room { OnOk result ((n : ℕ) → changes_of n change.now ≤ room_at n self.new) }
-        ensures growth { OnOk result ((n : ℕ) → growth_of T.rank n change.now (marks_at n self.new) ≤ room_at n self.new) }
-        ensures rows { OnOk result ((n : ℕ) → 1 ≤ changes_of n change.now → IsTrue (has_row n self.new)) }
-        ensures grown { (n : ℕ) → IsGrown (row_at n self.old) (row_at n self.new) }
-        ensures others { (n : ℕ) → changes_of n change.now ≡ 0 → row_at n self.new ≡ row_at n self.old }
-        ensures initials { self.new.initials ≡ self.old.initials }
-    {
-        prepare_rows(self.alloc, &mut self.rows, change)
-    }
-
     /// Puts each new mark of a change in place of the mark of its property at its time. Three zeros take that mark
     /// out, if it is there; a row that loses its last mark stays, empty. It takes no memory, and room only for marks
-    /// at times at which the property has none.
+    /// at times at which the property has none, and for marks that both initiate and clash where none did.
     pub fn apply(&mut self, change: &MarkChange<T>)
         requires room { (n : ℕ) → growth_of T.rank n change.now (marks_at n self.old) ≤ room_at n self.old }
+        requires clash_room { new_clashes T.rank (λ n t. clashes_at T.rank n t self.old) change.now ≤ self.old.clash_room }
         ensures marks { (n : ℕ) → marks_at n self.new ≡ changed T.rank n change.now (marks_at n self.old) }
         ensures room { (n : ℕ) → room_at n self.old ≤ room_at n self.new + growth_of T.rank n change.now (marks_at n self.old) }
         ensures rows { (n : ℕ) → has_row n self.new ≡ has_row n self.old }
         ensures others { (n : ℕ) → changes_of n change.now ≡ 0 → row_at n self.new ≡ row_at n self.old }
         ensures initials { self.new.initials ≡ self.old.initials }
+        ensures clash_room { self.old.clash_room ≤ self.new.clash_room + new_clashes T.rank (λ n t. clashes_at T.rank n t self.old) change.now }
     {
+        note_changes(&mut self.clashes, change);
         change_rows(&mut self.rows, change);
     }
 
@@ -161,7 +187,9 @@ impl<T: Moment, M: MarkRow<T>> Points<T, M> {
         ensures row { has_row p.0 self.new ≡ has_row p.0 self.old }
         ensures others { (n : ℕ) → n ≢ p.0 → row_at n self.new ≡ row_at n self.old }
         ensures initials { self.new.initials ≡ self.old.initials }
+        ensures clash_room { self.old.clash_room ≤ self.new.clash_room }
     {
+        forget(&mut self.clashes, &self.rows, p);
         clear_in(&mut self.rows, p);
     }
 }

@@ -79,25 +79,6 @@ pub(crate) fn empty_rows<T: Moment, M: MarkRow<T>>(
     Ok(rows)
 }
 
-/// Makes room for all new marks of a change, one property of it after the other.
-pub(crate) fn prepare_rows<T: Moment, M: MarkRow<T>>(
-    alloc: Global,
-    rows: &mut ByNumber<M>,
-    change: &MarkChange<T>,
-) -> Result<(), NoMemory>
-    ensures grown { (n : ℕ) → IsGrown (seen_at M.marks M.spare n rows.old) (seen_at M.marks M.spare n rows.new) }
-    ensures others { (n : ℕ) → changes_of n change.now ≡ 0 → kept_at n rows.new ≡ kept_at n rows.old }
-    ensures rows { OnOk result ((n : ℕ) → 1 ≤ changes_of n change.now → IsTrue (is_some (kept_at n rows.new))) }
-    ensures room { OnOk result ((n : ℕ) → changes_of n change.now ≤ room_in (seen_at M.marks M.spare n rows.new)) }
-    ensures growth { OnOk result ((n : ℕ) → growth_of T.rank n change.now (marks_in (seen_at M.marks M.spare n rows.new)) ≤ room_in (seen_at M.marks M.spare n rows.new)) }
-{
-    for i in 0..change.len() {
-        let p = change.get(i).0;
-        reserve_in(alloc, rows, p, change.count_of(p))?;
-    }
-    Ok(())
-}
-
 /// Puts a mark into the row of `p`, in place of the one at its time; three zeros take that one out.
 fn change_in<T: Moment, M: MarkRow<T>>(
     rows: &mut ByNumber<M>,

@@ -1,5 +1,7 @@
 //! What no clause shows: that memory is given, and the currency that whole rows of marks tell.
-ghost use Rattle.std.specs.Prelude.{◌≡◌};
+ghost use Rattle.std.specs.Prelude.{◌≡◌, ◌≤◌, ℕ, OnOk};
+ghost use Rattle.ec_points.specs.Changes.{count_of};
+ghost use Rattle.ec_points.specs.Table.{room_at};
 
 use crate::{MarkChange, Points};
 use ec_axioms::Current;
@@ -22,6 +24,24 @@ fn mark_of(given: &Given) -> Mark<Tick> {
     }
 }
 
+/// Adds a mark to a change, unless one is there for its place, and makes room for it.
+fn add<M: MarkRow<Tick>>(
+    points: &mut Points<Tick, M>,
+    change: &mut MarkChange<Tick>,
+    given: &Given,
+) -> Result<(), NoMemory>
+    requires { (n : ℕ) → count_of n change.old ≤ room_at n points.old }
+    ensures { OnOk result ((n : ℕ) → count_of n change.new ≤ room_at n points.new) }
+{
+    let p = PropId(given.0);
+    let mark = mark_of(given);
+    if change.has(p, mark.at) {
+        return Ok(());
+    }
+    change.push(p, mark, 0)?;
+    points.reserve(p, change.count_of(p))
+}
+
 /// Makes the marks of a property as they are given, all in one change. Of two at one place the first counts.
 fn put<M: MarkRow<Tick>>(
     alloc: Global,
@@ -30,13 +50,9 @@ fn put<M: MarkRow<Tick>>(
 ) -> Result<(), NoMemory> {
     let mut change = MarkChange::new(alloc);
     for one in given {
-        let p = PropId(one.0);
-        let mark = mark_of(one);
-        if !change.has(p, mark.at) {
-            change.push(p, mark, 0)?;
-        }
+        add(points, &mut change, one)?;
     }
-    points.prepare(&change)?;
+    points.reserve_clashes(change.len())?;
     points.apply(&change);
     Ok(())
 }
@@ -155,7 +171,8 @@ fn applies_changes<M: MarkRow<Tick>>(alloc: Global) -> Result<bool, NoMemory> {
 
 /// A mark that initiates once.
 fn initiation(at: Tick) -> Mark<Tick>
-    ensures { result.inits ≡ 1 }
+    ensures inits { result.inits ≡ 1 }
+    ensures clashes { result.clashes ≡ 0 }
 {
     Mark {
         at,
@@ -177,10 +194,36 @@ fn grows_behind<M: MarkRow<Tick>>(alloc: Global) -> Result<bool, NoMemory> {
     Ok(empty && has_marks(&points, 3, &[(7, 1)]) && has_marks(&points, 1, &[(9, 1)]))
 }
 
+/// Marks of two properties that both initiate and clash, at 7 and at 20, and others that do one of the two.
+const CLASHES: [Given; 5] = [
+    (1, 20, 1, 0, 1),
+    (2, 7, 2, 1, 3),
+    (1, 7, 1, 0, 1),
+    (2, 9, 1, 0, 0),
+    (1, 30, 0, 0, 4),
+];
+
+/// Whether clashes are found in the order of their times, while a property has one there.
+fn finds_clashes<M: MarkRow<Tick>>(alloc: Global) -> Result<bool, NoMemory> {
+    let mut points = Points::<Tick, M>::new(alloc)?;
+    let none = points.next_clash(None).is_none();
+    put(alloc, &mut points, &CLASHES)?;
+    let both = points.next_clash(None) == Some(Tick(7))
+        && points.next_clash(Some(Tick(6))) == Some(Tick(7))
+        && points.next_clash(Some(Tick(7))) == Some(Tick(20))
+        && points.next_clash(Some(Tick(20))).is_none();
+    put(alloc, &mut points, &[(1, 7, 0, 0, 1), (1, 20, 0, 0, 0)])?;
+    let one = points.next_clash(None) == Some(Tick(7))
+        && points.next_clash(Some(Tick(7))).is_none();
+    points.clear(PropId(2));
+    Ok(none && both && one && points.next_clash(None).is_none())
+}
+
 #[test]
 fn points_answer_through_their_bounds(rt: HostRuntime) {
     assert!(rt; tells_currency::<VecMarks<Tick>>(rt.alloc()) == Ok(true));
     assert!(rt; begins_with_initials::<VecMarks<Tick>>(rt.alloc()) == Ok(true));
     assert!(rt; applies_changes::<VecMarks<Tick>>(rt.alloc()) == Ok(true));
+    assert!(rt; finds_clashes::<VecMarks<Tick>>(rt.alloc()) == Ok(true));
     assert!(rt; grows_behind::<VecMarks<Tick>>(rt.alloc()) == Ok(true));
 }

@@ -1,11 +1,19 @@
--- The rows of other numbers are kept as they were.
+-- The rows of other numbers are kept as they were, and none clashes that did not.
 use Rattle.std.proofs.Common.{◌≡◌, ap}
 use Rattle.std.specs.Prelude.{option_map}
-use Rattle.ec_points.specs.Table.{row_of}
+use Rattle.ec_points.specs.Table.{PointTable, marks_in, row_of}
+use Rattle.ec_points.specs.SeenRows.{seen_at}
+use Rattle.ec_points.proofs.RowClashes.{AreClashesOf-each, clashes_in-pushed}
 use Rattle.ec_points.proofs.SeenRowLemmas.{shown}
 use Rattle.ec_points.proofs.points.Points.push.Goals as goal
 
 pub returns-clause-others : goal.returns-clause-others
 returns-clause-others g c = λ n other.
-    shown g.M.MarkRow.marks g.M.MarkRow.spare (λ old new. new ≡ old) c.self.inside.rows c.push_in.new.rows c.self.inside.initials.items c.self.inside.initials.items c.args.self.now
-    c.self.view_is n (ap (option_map (row_of g.M.MarkRow.marks g.M.MarkRow.spare)) (c.push_in.ensures.others n other))
+    shown g.M.MarkRow.marks g.M.MarkRow.spare (λ old new. new ≡ old) c.self.inside.rows c.push_in.new.rows c.args.self.now (ap (λ (table : PointTable _). table.rows) c.self.view_is) n (ap (option_map (row_of g.M.MarkRow.marks g.M.MarkRow.spare)) (c.push_in.ensures.others n other))
+
+pub invariant_of-self : goal.invariant_of-self
+invariant_of-self g c =
+    AreClashesOf-each g.M.MarkRow.marks g.M.MarkRow.spare g.T.Moment.rank c.self.inside.rows c.push_in.new.rows c.self.inside.clashes.items c.self.invariant c.args.p.0
+    c.push_in.ensures.others
+    (λ t. clashes_in-pushed g.T.Moment.rank t c.push_in.result (marks_in (seen_at g.M.MarkRow.marks g.M.MarkRow.spare c.args.p.0 c.self.inside.rows))
+    (marks_in (seen_at g.M.MarkRow.marks g.M.MarkRow.spare c.args.p.0 c.push_in.new.rows)) c.args.mark c.push_in.ensures.ok c.push_in.ensures.err c.requires.no_clash)

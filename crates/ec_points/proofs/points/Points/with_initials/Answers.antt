@@ -1,10 +1,10 @@
--- The table shows rows of no marks.
-use Rattle.std.proofs.Common.{sym, refl, ap, ◌∙◌}
+-- The table shows rows of no marks, and no clashes.
+use Rattle.std.proofs.Common.{ap, ◌∙◌}
 use Rattle.ec_points.specs.Table.{marks_in}
-use Rattle.ec_points.proofs.SeenRowLemmas.{row_at-table}
+use Rattle.ec_points.proofs.RowClashes.{AreClashesOf-none}
+use Rattle.ec_points.proofs.SeenRowLemmas.{row_at-seen}
 use Rattle.ec_points.proofs.points.Points.with_initials.Goals as goal
 
 pub returns-clause-marks : goal.returns-clause-marks
 returns-clause-marks g c = λ n.
-    ap marks_in (sym (row_at-table g.M.MarkRow.marks g.M.MarkRow.spare c.in_ok-empty_rows.field-0 c.from_ascending.result.items _ refl n))
-    ∙ c.in_ok-empty_rows.ensures.marks n
+    ap marks_in (row_at-seen g.M.MarkRow.marks g.M.MarkRow.spare c.in_ok-empty_rows.field-0 n) ∙ c.in_ok-empty_rows.ensures.marks n
