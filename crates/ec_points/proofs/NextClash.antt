@@ -1,9 +1,9 @@
 -- The first clash behind a time is the one at the place where those behind it begin.
-use Rattle.std.proofs.Common.{◌≡◌, ℕ, ℤ, ◌≤◌, suc, Bool, true, false, not, ◌&&◌, ◌||◌, List, [], ◌∷◌, length, filter, drop, Option, Some, refl, sym, ap, subst, ◌∙◌, arith}
-use Rattle.std.specs.Prelude.{◌==◌, int_lt, nat_lt, slice_get}
+use Rattle.std.proofs.Common.{◌≡◌, ℕ, ℤ, ◌≤◌, suc, Bool, true, false, not, ◌&&◌, ◌||◌, List, ◌∷◌, length, filter, drop, Option, Some, refl, sym, ap, subst, ◌∙◌, arith}
+use Rattle.std.specs.Prelude.{◌==◌, int_lt, slice_get}
 use Rattle.std.specs.declared.cmp.Ordering.{Ordering}
 use Rattle.std.specs.Ordering.{int_cmp, nat_cmp, int_eq, is_lt, ordering_then}
-use Rattle.std.specs.List.{list_all, list_any}
+use Rattle.std.specs.List.{list_all}
 use Rattle.std.proofs.lemmas.Bool.{and_parts}
 use Rattle.std.proofs.lemmas.Int.{ints}
 use Rattle.std.proofs.lemmas.List.Elements.{filter_passes}

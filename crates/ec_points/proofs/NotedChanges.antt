@@ -1,5 +1,5 @@
 -- What changes do to the list of clashes, one after the other, and the room that is left for the rest of them.
-use Rattle.std.proofs.Common.{◌≡◌, ℕ, ℤ, ◌+◌, ◌≤◌, suc, true, false, cond, not, ◌&&◌, Bool, List, [], ◌∷◌, length, drop, filter, Option, Some, None, refl, sym, ap, ap₂, subst, ◌∙◌, ⊎_elim, add-one, arith}
+use Rattle.std.proofs.Common.{◌≡◌, ℕ, ℤ, ◌+◌, ◌≤◌, suc, true, false, cond, not, ◌&&◌, Bool, List, [], ◌∷◌, length, drop, filter, Some, refl, sym, ap, ap₂, subst, ◌∙◌, ⊎_elim, add-one, arith}
 use Rattle.std.specs.Prelude.{◌==◌, slice_get}
 use Rattle.std.specs.List.{list_all}
 use Rattle.std.specs.Ordering.{int_eq}

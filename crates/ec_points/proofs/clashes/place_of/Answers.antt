@@ -1,5 +1,5 @@
 -- The clash stands at the cut, or it would go in there.
-use Rattle.std.proofs.Common.{◌≡◌, ◌<◌, ◌≤◌, true, false, length, sym, ap, ◌∙◌, arith}
+use Rattle.std.proofs.Common.{◌≡◌, ◌<◌, true, false, length, sym, ap, ◌∙◌, arith}
 use Rattle.std.specs.Ordering.{is_eq}
 use Rattle.ec_points.specs.Clashes.{clash_cmp, has_clash}
 use Rattle.ec_points.proofs.ClashLemmas.{are_clashes-insert, has_clash-end, has_clash-here, has_clash-other, remove-here}

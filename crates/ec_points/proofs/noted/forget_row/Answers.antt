@@ -1,5 +1,5 @@
 -- The clash at the time of the next mark goes out.
-use Rattle.std.proofs.Common.{◌&&◌, not, take, ap, ◌∙◌, arith}
+use Rattle.std.proofs.Common.{◌&&◌, not, ap, ◌∙◌, arith}
 use Rattle.std.specs.Prelude.{◌==◌}
 use Rattle.std.specs.Ordering.{int_eq}
 use Rattle.std.proofs.lemmas.List.{take_all}

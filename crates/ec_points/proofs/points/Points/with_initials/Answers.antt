@@ -1,7 +1,6 @@
 -- The table shows rows of no marks, and no clashes.
 use Rattle.std.proofs.Common.{ap, ◌∙◌}
 use Rattle.ec_points.specs.Table.{marks_in}
-use Rattle.ec_points.proofs.RowClashes.{AreClashesOf-none}
 use Rattle.ec_points.proofs.SeenRowLemmas.{row_at-seen}
 use Rattle.ec_points.proofs.points.Points.with_initials.Goals as goal
 
