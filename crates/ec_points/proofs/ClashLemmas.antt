@@ -44,11 +44,8 @@ key_cmp-total = then_total (on_total (λ (k : Key). k.0) int_cmp_total) (on_tota
 is_same-is_eq : (a b : ℤ) (m n : ℕ) → ((m == n) && int_eq a b) ≡ is_eq (ordering_then (int_cmp a b) (nat_cmp m n))
 is_same-is_eq a b m n = grind (arith, ints)
 
-no_later : (a b : ℤ) (o : Ordering) → is_lt (ordering_then (int_cmp a b) o) ≡ true → int_le a b ≡ true
-no_later a b o = grind (arith, ints)
-
-no_later-trans : (a b c : ℤ) → int_le a b ≡ true → int_le b c ≡ true → int_le a c ≡ true
-no_later-trans a b c = grind (arith, ints)
+up_to-before : (a b t : ℤ) (o : Ordering) → is_lt (ordering_then (int_cmp a b) o) ≡ true → int_le b t ≡ true → int_le a t ≡ true
+up_to-before a b t o = grind (arith, ints)
 
 later-not_up_to : (a t : ℤ) → int_lt t a ≡ not (int_le a t)
 later-not_up_to a t = grind (arith, ints)
@@ -64,7 +61,7 @@ module _ {T : Type 0} (rank : T → ℤ) where
   pub IsPartitionedBy-up_to : (t : ℤ) (cs : List (Clash T)) → are_clashes rank cs ≡ true → IsPartitionedBy (λ c. int_le (rank c.at) t) cs
   IsPartitionedBy-up_to t cs order =
       IsPartitionedBy-ascending stands_before (λ c. int_le (rank c.at) t)
-      (λ x y before. no_later-trans (rank x.at) (rank y.at) t (no_later (rank x.at) (rank y.at) (nat_cmp x.p.0 y.p.0) before)) cs order
+      (λ x y. up_to-before (rank x.at) (rank y.at) t (nat_cmp x.p.0 y.p.0)) cs order
 
   -- and what follows them is after it
   pub drop-up_to : (t : ℤ) (cs : List (Clash T)) (i : ℕ) → IsCut (λ c. int_le (rank c.at) t) cs i → drop i cs ≡ filter (λ c. int_lt t (rank c.at)) cs
