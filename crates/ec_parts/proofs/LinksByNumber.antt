@@ -31,8 +31,8 @@ use Rattle.ec_rows.specs.Ordered.{is_ascending}
 use Rattle.ec_numbered.specs.PropSet.{has_number, comes_before, are_ascending}
 use Rattle.ec_numbered.proofs.Numbers.{has_number-filter}
 use Rattle.std.proofs.lemmas.List.Folds.{list_any-append}
-use Rattle.ec_exclusive.specs.Added.{Added, added_props, is_added}
-use Rattle.ec_exclusive.specs.Neighbours.{both_exclusive, exclusive_at}
+use Rattle.ec_exclusive.specs.Added.{added_props, is_added}
+use Rattle.ec_exclusive.specs.Neighbours.{Neighbourhoods, both_exclusive, exclusive_at}
 use Rattle.ec_points.specs.Table.{PointTable}
 use Rattle.ec_parts.specs.Tables.{held_mention}
 use Rattle.ec_parts.specs.Caches.{AreInitialsOf}
@@ -109,21 +109,21 @@ abbrev pub AreAllKept : List KeptProp → List Ground → Type 0
 AreAllKept table ms = (m : Ground) → IsMember ms m → (id : ℕ) × (term_at id table ≡ Some m)
 
 -- the neighbours of a term are these numbers
-pub record AreItsNeighbours (theory : Theory) (table : List KeptProp) (rows : List Added) (p : PropId) (term : Ground) (list : List PropId) : Type 0 where
+pub record AreItsNeighbours (theory : Theory) (table : List KeptProp) (around : Neighbourhoods) (p : PropId) (term : Ground) (list : List PropId) : Type 0 where
   pub one : IsOneToOne table
   pub own : term_at p.0 table ≡ Some term
-  pub added : (q : PropId) → is_added q rows ≡ is_some (prop_at q.0 table)
+  pub added : (q : PropId) → is_added q around.rows ≡ is_some (prop_at q.0 table)
   pub ascend : are_ascending list ≡ true
-  pub exclusive : list ≡ filter (exclusive_at theory table p) (added_props rows)
+  pub exclusive : list ≡ filter (exclusive_at theory table p) (added_props around.rows)
 
-module _ (theory : Theory) (table : List KeptProp) (rows : List Added) (p : PropId) (term : Ground) (list : List PropId) (its : AreItsNeighbours theory table rows p term list) where
+module _ (theory : Theory) (table : List KeptProp) (around : Neighbourhoods) (p : PropId) (term : Ground) (list : List PropId) (its : AreItsNeighbours theory table around p term list) where
   -- a kept term that is exclusive stands among the neighbours
   listed : (id : ℕ) (m : Ground) → term_at id table ≡ Some m → are_exclusive theory term m ≡ true → has_number id list ≡ true
   listed id m is exclusive =
       let q : PropId = record { 0 = id } in
       let test : exclusive_at theory table p q ≡ true = ap₂ (both_exclusive theory) its.own is ∙ exclusive in
-      let there : has_number id (added_props rows) ≡ true = its.added q ∙ sym (is_some-option_map (λ (k : KeptProp). k.term) (prop_at id table)) ∙ ap is_some is in
-      ap (has_number id) its.exclusive ∙ has_number-filter q (exclusive_at theory table p) (added_props rows) ∙ ap₂ (λ a b. a && b) test there
+      let there : has_number id (added_props around.rows) ≡ true = its.added q ∙ sym (is_some-option_map (λ (k : KeptProp). k.term) (prop_at id table)) ∙ ap is_some is in
+      ap (has_number id) its.exclusive ∙ has_number-filter q (exclusive_at theory table p) (added_props around.rows) ∙ ap₂ (λ a b. a && b) test there
 
   -- under one number alone
   under_one : (id : ℕ) (m : Ground) → term_at id table ≡ Some m → are_exclusive theory term m ≡ true → length (filter (λ q. is_term table q m) list) ≡ 1
@@ -143,7 +143,7 @@ module _ (theory : Theory) (table : List KeptProp) (rows : List Added) (p : Prop
   -- a neighbour is kept, with a term that is exclusive
   neighbour_term : (q : PropId) → IsMember list q → (t : Ground) × ((term_at q.0 table ≡ Some t) × (are_exclusive theory term t ≡ true))
   neighbour_term q member =
-      let test : exclusive_at theory table p q ≡ true = (IsMember-from_filter (exclusive_at theory table p) (added_props rows) q (subst (λ l. IsMember l q) its.exclusive member)).1 in
+      let test : exclusive_at theory table p q ≡ true = (IsMember-from_filter (exclusive_at theory table p) (added_props around.rows) q (subst (λ l. IsMember l q) its.exclusive member)).1 in
       each (term_at q.0 table) refl (sym (ap (λ o. both_exclusive theory o (term_at q.0 table)) its.own) ∙ test)
     where
       each : (o : Option Ground) → term_at q.0 table ≡ o → both_exclusive theory (Some term) o ≡ true → (t : Ground) × ((term_at q.0 table ≡ Some t) × (are_exclusive theory term t ≡ true))

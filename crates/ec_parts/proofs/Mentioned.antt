@@ -26,8 +26,8 @@ use Rattle.ec_props.specs.Table.{KeptProp, prop_at, term_at, mentions_at, with_m
 use Rattle.ec_props.proofs.KeptLemmas.{prop_of-with_mentions, term_at-with_mentions, mentions_at-with_mentions, prop_at-with_other_mentions}
 use Rattle.ec_context.specs.declared.entry.Entry.{Entry}
 use Rattle.ec_context.specs.Entries.{IsKeptEntry}
-use Rattle.ec_exclusive.specs.Added.{Added, is_added}
-use Rattle.ec_exclusive.specs.Neighbours.{AreNeighbours}
+use Rattle.ec_exclusive.specs.Added.{is_added}
+use Rattle.ec_exclusive.specs.Neighbours.{Neighbourhoods, AreNeighbours}
 use Rattle.ec_terms.proofs.DomainLemmas.{term_eq-refl}
 use Rattle.ec_points.specs.Table.{PointTable}
 use Rattle.ec_parts.specs.declared.tally.Tally.{Tally}
@@ -136,10 +136,10 @@ kept_count table p there = filled_in (mentions_at p.0 table) (is_some-option_map
     filled_in None there = absurd (false≢true there)
     filled_in (Some n) there = refl
 
-module _ {T : Type 0} (table : List KeptProp) (rows : List Added) (points : PointTable T) (old : Tally) (p : PropId) (list : List PropId)
-    (one : IsOneToOne table) (there : IsSome (prop_at p.0 table)) (listed : AreListed rows p list) (some : AreSomeTables [] table rows points old) (few : old.mentions < 2 ^ 21) where
+module _ {T : Type 0} (table : List KeptProp) (around : Neighbourhoods) (points : PointTable T) (old : Tally) (p : PropId) (list : List PropId)
+    (one : IsOneToOne table) (there : IsSome (prop_at p.0 table)) (listed : AreListed around p list) (some : AreSomeTables [] table around points old) (few : old.mentions < 2 ^ 21) where
   -- the property is added
-  pub is_added-some : is_added p rows ≡ true
+  pub is_added-some : is_added p around.rows ≡ true
   is_added-some = some.tables.added.added p ∙ there
 
   -- its count is small
@@ -166,7 +166,7 @@ module _ {T : Type 0} (table : List KeptProp) (rows : List Added) (points : Poin
       let count = count_at p.0 table in
       let more = with_mentions p.0 (count + 1) table in
       let next = one_more table p count (kept_count table p there) in
-      let equation = links_of-more some.theory some.mentions p term.0 table more one next term.1 rows points list old old some.lists listed tables.kept tables.added tables.initials in
+      let equation = links_of-more some.theory some.mentions p term.0 table more one next term.1 around points list old old some.lists listed tables.kept tables.added tables.initials in
       let linked = tables.tally_by.links_by in
       let counted = tables.tally_by.mentions_by in
       let bound = links_few some.theory (term.0 ∷ some.mentions) some.few (omega (arith, counted)) in
@@ -179,13 +179,13 @@ module _ {T : Type 0} (table : List KeptProp) (rows : List Added) (points : Poin
   pub HasMentioned-one : (after : List KeptProp) (new : Tally) (count : ℕ) → mentions_at p.0 table ≡ Some count
       → IfSome (mentions_at p.0 table) (λ n. after ≡ with_mentions p.0 (n + 1) table)
       → new.mentions ≡ old.mentions + 1 → new.links ≡ old.links + sum_by (links_to (count == 0) table points) list
-      → HasMentioned rows points (p ∷ []) table old after new
+      → HasMentioned around points (p ∷ []) table old after new
   HasMentioned-one after new count told is counted more_links = record {
     terms = next.terms;
     more = counted;
     tables = λ theory mentions all lists moved tables.
         AreTablesBy-IsPermutation (term.0 ∷ mentions) all (subst (λ ts. IsPermutation (ts ++ mentions) all) (terms_of-one table p term.0 term.1) moved)
-        (AreTablesBy-more theory mentions p term.0 table after one next term.1 rows points list old new lists listed tables counted linked);
+        (AreTablesBy-more theory mentions p term.0 table after one next term.1 around points list old new lists listed tables counted linked);
   }
     where
       linked : new.links ≡ old.links + sum_by (links_to (count_at p.0 table == 0) table points) list
@@ -231,8 +231,8 @@ flat_map-take_more f xs i d below =
 
 -- ---- one after the other
 
-module _ {T : Type 0} {rows : List Added} {points : PointTable T} where
-  pub HasMentioned-none : (table : List KeptProp) (tally : Tally) (props : List PropId) → props ≡ [] → HasMentioned rows points props table tally table tally
+module _ {T : Type 0} {around : Neighbourhoods} {points : PointTable T} where
+  pub HasMentioned-none : (table : List KeptProp) (tally : Tally) (props : List PropId) → props ≡ [] → HasMentioned around points props table tally table tally
   HasMentioned-none table tally props none = record {
     terms = λ id. refl;
     more = no_more tally.mentions (ap length none);
@@ -243,7 +243,7 @@ module _ {T : Type 0} {rows : List Added} {points : PointTable T} where
       no_more n e = omega arith
 
   pub HasMentioned-then : {first second third : List KeptProp} {one two three : Tally} (ps qs all : List PropId) → all ≡ ps ++ qs
-      → HasMentioned rows points ps first one second two → HasMentioned rows points qs second two third three → HasMentioned rows points all first one third three
+      → HasMentioned around points ps first one second two → HasMentioned around points qs second two third three → HasMentioned around points all first one third three
   HasMentioned-then {first} {second} {third} {one} {two} {three} ps qs all joined left right = record {
     terms = λ id. right.terms id ∙ left.terms id;
     more = omega (arith, left.more, right.more, ap length joined, length-append ps qs);
@@ -255,8 +255,8 @@ module _ {T : Type 0} {rows : List Added} {points : PointTable T} where
   }
 
   -- tables stay tables
-  pub AreSomeTables-mentioned : {before after : List KeptProp} {old new : Tally} (props : List PropId) → HasMentioned rows points props before old after new
-      → AreSomeTables [] before rows points old → AreSomeTables [] after rows points new
+  pub AreSomeTables-mentioned : {before after : List KeptProp} {old new : Tally} (props : List PropId) → HasMentioned around points props before old after new
+      → AreSomeTables [] before around points old → AreSomeTables [] after around points new
   AreSomeTables-mentioned {before} props step some = record {
     theory = some.theory;
     mentions = terms_of before props ++ some.mentions;
@@ -265,56 +265,56 @@ module _ {T : Type 0} {rows : List Added} {points : PointTable T} where
     tables = step.tables some.theory some.mentions (terms_of before props ++ some.mentions) some.lists (IsPermutation-refl (terms_of before props ++ some.mentions)) some.tables;
   }
 
-  pub HasReleased-none : (table : List KeptProp) (tally : Tally) (props : List PropId) → props ≡ [] → HasReleased rows points props table tally table tally
+  pub HasReleased-none : (table : List KeptProp) (tally : Tally) (props : List PropId) → props ≡ [] → HasReleased around points props table tally table tally
   HasReleased-none table tally props none = record {
     terms = λ id. refl;
     less = no_less tally.mentions (ap length none);
-    tables = λ theory mentions lists tables. subst (λ ps. AreTablesBy theory (terms_of table ps ++ mentions) table rows points tally) none tables;
+    tables = λ theory mentions lists tables. subst (λ ps. AreTablesBy theory (terms_of table ps ++ mentions) table around points tally) none tables;
   }
     where
       no_less : (n : ℕ) → length props ≡ 0 → n + length props ≡ n
       no_less n e = omega arith
 
   pub HasReleased-then : {first second third : List KeptProp} {one two three : Tally} (ps qs all : List PropId) → all ≡ ps ++ qs
-      → HasReleased rows points ps first one second two → HasReleased rows points qs second two third three → HasReleased rows points all first one third three
+      → HasReleased around points ps first one second two → HasReleased around points qs second two third three → HasReleased around points all first one third three
   HasReleased-then {first} {second} {third} {one} {two} {three} ps qs all joined left right = record {
     terms = λ id. right.terms id ∙ left.terms id;
     less = omega (arith, left.less, right.less, ap length joined, length-append ps qs);
     tables = λ theory mentions lists tables.
         right.tables theory mentions lists
         (left.tables theory (terms_of second qs ++ mentions) lists
-        (subst (λ ts. AreTablesBy theory ts first rows points one) (terms_of-cut first second left.terms ps qs all joined mentions) tables));
+        (subst (λ ts. AreTablesBy theory ts first around points one) (terms_of-cut first second left.terms ps qs all joined mentions) tables));
   }
 
   -- tables of mentions with these are tables of mentions with those in front alone
-  pub AreSomeTables-front : {table : List KeptProp} {tally : Tally} (ps qs all : List PropId) → all ≡ ps ++ qs → AreSomeTables all table rows points tally → AreSomeTables ps table rows points tally
+  pub AreSomeTables-front : {table : List KeptProp} {tally : Tally} (ps qs all : List PropId) → all ≡ ps ++ qs → AreSomeTables all table around points tally → AreSomeTables ps table around points tally
   AreSomeTables-front {table} {tally} ps qs all joined some = record {
     theory = some.theory;
     mentions = terms_of table qs ++ some.mentions;
     lists = some.lists;
     few = some.few;
-    tables = subst (λ ts. AreTablesBy some.theory ts table rows points tally) (terms_of-cut table table (λ id. refl) ps qs all joined some.mentions) some.tables;
+    tables = subst (λ ts. AreTablesBy some.theory ts table around points tally) (terms_of-cut table table (λ id. refl) ps qs all joined some.mentions) some.tables;
   }
 
   -- those in front are released: the others are left
-  pub AreSomeTables-released : {before after : List KeptProp} {old new : Tally} (ps qs all : List PropId) → all ≡ ps ++ qs → HasReleased rows points ps before old after new
-      → AreSomeTables all before rows points old → AreSomeTables qs after rows points new
+  pub AreSomeTables-released : {before after : List KeptProp} {old new : Tally} (ps qs all : List PropId) → all ≡ ps ++ qs → HasReleased around points ps before old after new
+      → AreSomeTables all before around points old → AreSomeTables qs after around points new
   AreSomeTables-released {before} {after} {old} {new} ps qs all joined step some = record {
     theory = some.theory;
     mentions = some.mentions;
     lists = some.lists;
     few = some.few;
     tables = step.tables some.theory (terms_of after qs ++ some.mentions) some.lists
-        (subst (λ ts. AreTablesBy some.theory ts before rows points old) (terms_of-cut before after step.terms ps qs all joined some.mentions) some.tables);
+        (subst (λ ts. AreTablesBy some.theory ts before around points old) (terms_of-cut before after step.terms ps qs all joined some.mentions) some.tables);
   }
 
 -- ---- one less
 
-module _ {T : Type 0} (table : List KeptProp) (rows : List Added) (points : PointTable T) (old : Tally) (p : PropId) (there : IsSome (prop_at p.0 table))
-    (some : AreSomeTables (p ∷ []) table rows points old) where
+module _ {T : Type 0} (table : List KeptProp) (around : Neighbourhoods) (points : PointTable T) (old : Tally) (p : PropId) (there : IsSome (prop_at p.0 table))
+    (some : AreSomeTables (p ∷ []) table around points old) where
   -- the mentions, with the released one in front
-  in_front : (term : Ground) → term_at p.0 table ≡ Some term → AreTablesBy some.theory (term ∷ some.mentions) table rows points old
-  in_front term is = subst (λ ts. AreTablesBy some.theory (ts ++ some.mentions) table rows points old) (terms_of-one table p term is) some.tables
+  in_front : (term : Ground) → term_at p.0 table ≡ Some term → AreTablesBy some.theory (term ∷ some.mentions) table around points old
+  in_front term is = subst (λ ts. AreTablesBy some.theory (ts ++ some.mentions) table around points old) (terms_of-one table p term is) some.tables
 
   -- the property is mentioned
   pub count-some : IfSome (mentions_at p.0 table) (λ count. 1 ≤ count)
@@ -330,10 +330,10 @@ module _ {T : Type 0} (table : List KeptProp) (rows : List Added) (points : Poin
   pub mentions-some : 1 ≤ old.mentions
   mentions-some = let term = kept_term table p there in let counted = (in_front term.0 term.1).tally_by.mentions_by in omega (arith, counted)
 
-  pub is_added-released : is_added p rows ≡ true
+  pub is_added-released : is_added p around.rows ≡ true
   is_added-released = some.tables.added.added p ∙ there
 
-  module _ (list : List PropId) (one : IsOneToOne table) (listed : AreListed rows p list) (after : List KeptProp)
+  module _ (list : List PropId) (one : IsOneToOne table) (listed : AreListed around p list) (after : List KeptProp)
       (is : IfSome (mentions_at p.0 table) (λ count. after ≡ with_mentions p.0 (count - 1) table)) where
     -- the table afterwards
     now : after ≡ with_mentions p.0 (count_at p.0 table - 1) table
@@ -352,8 +352,8 @@ module _ {T : Type 0} (table : List KeptProp) (rows : List Added) (points : Poin
     pub there-released : IsSome (prop_at p.0 after)
     there-released = kept-same table after (λ id. sym (next.terms id)) p.0 there
 
-    pub AreNeighbours-released : AreNeighbours some.theory after rows
-    AreNeighbours-released = (AreAllAdded-same some.theory table after (λ id. sym (next.terms id)) rows some.tables.added).neighbours
+    pub AreNeighbours-released : AreNeighbours some.theory after around
+    AreNeighbours-released = (AreAllAdded-same some.theory table after (λ id. sym (next.terms id)) around some.tables.added).neighbours
 
     -- its links are among the links
     links_within_here : sum_by (links_to (count_at p.0 after == 0) after points) list ≤ old.links
@@ -362,9 +362,9 @@ module _ {T : Type 0} (table : List KeptProp) (rows : List Added) (points : Poin
         let tables = in_front term.0 term.1 in
         let own = sym (next.terms p.0) ∙ term.1 in
         let kept = AreKeptBy-less some.theory some.mentions p term.0 after table one_after next own tables.kept in
-        let added = AreAllAdded-same some.theory table after (λ id. sym (next.terms id)) rows tables.added in
+        let added = AreAllAdded-same some.theory table after (λ id. sym (next.terms id)) around tables.added in
         let initials = AreInitialsOf-same some.theory table after (λ id. sym (next.terms id)) points tables.initials in
-        let equation = links_of-more some.theory some.mentions p term.0 after table one_after next own rows points list old old some.lists listed kept added initials in
+        let equation = links_of-more some.theory some.mentions p term.0 after table one_after next own around points list old old some.lists listed kept added initials in
         omega (arith, equation, tables.tally_by.links_by)
 
     pub links-within : (count : ℕ) → mentions_at p.0 after ≡ Some count → sum_by (links_to (count == 0) after points) list ≤ old.links
@@ -372,7 +372,7 @@ module _ {T : Type 0} (table : List KeptProp) (rows : List Added) (points : Poin
 
     -- so the property is mentioned once less
     pub HasReleased-one : (new : Tally) (count : ℕ) → mentions_at p.0 after ≡ Some count → new.mentions + 1 ≡ old.mentions
-        → new.links + sum_by (links_to (count == 0) after points) list ≡ old.links → HasReleased rows points (p ∷ []) table old after new
+        → new.links + sum_by (links_to (count == 0) after points) list ≡ old.links → HasReleased around points (p ∷ []) table old after new
     HasReleased-one new count told counted more_links =
         let linked = ap (λ n. new.links + sum_by (links_to (n == 0) after points) list) (ap (λ o. unwrap_or o 0) told) ∙ more_links in
         let term = kept_term table p there in
@@ -380,8 +380,8 @@ module _ {T : Type 0} (table : List KeptProp) (rows : List Added) (points : Poin
           terms = λ id. sym (next.terms id);
           less = counted;
           tables = λ theory mentions lists tables.
-              AreTablesBy-less theory mentions p term.0 after table one_after next (sym (next.terms p.0) ∙ term.1) rows points list old new lists listed
-              (subst (λ ts. AreTablesBy theory (ts ++ mentions) table rows points old) (terms_of-one table p term.0 term.1) tables) counted linked;
+              AreTablesBy-less theory mentions p term.0 after table one_after next (sym (next.terms p.0) ∙ term.1) around points list old new lists listed
+              (subst (λ ts. AreTablesBy theory (ts ++ mentions) table around points old) (terms_of-one table p term.0 term.1) tables) counted linked;
         }
 
 -- ---- how many

@@ -20,8 +20,8 @@ use Rattle.ec_changes.proofs.LinkSteps.{LinksInAnyOrder-law}
 use Rattle.ec_props.specs.Table.{KeptProp, prop_at, prop_of, term_at, mentions_at, with_mentions, mentioned}
 use Rattle.ec_props.proofs.KeptLemmas.{place-prop_at, find-term, in_order-with_mentions, prop_at-with_mentions, mentioned-id}
 use Rattle.ec_numbered.specs.PropSet.{are_ascending}
-use Rattle.ec_exclusive.specs.Added.{Added, added_props}
-use Rattle.ec_exclusive.specs.Neighbours.{AreNeighbours, exclusive_at}
+use Rattle.ec_exclusive.specs.Added.{added_props}
+use Rattle.ec_exclusive.specs.Neighbours.{Neighbourhoods, AreNeighbours, exclusive_at}
 use Rattle.ec_exclusive.proofs.SameTerms.{read_terms_alone}
 use Rattle.ec_points.specs.Table.{PointTable}
 use Rattle.ec_parts.specs.declared.tally.Tally.{Tally}
@@ -41,8 +41,8 @@ length-filter-IsPermutation : {X : Type 0} (p : X → Bool) (xs ys : List X) →
 length-filter-IsPermutation p xs ys moved = length-filter-sum p ys ∙ sum_by-IsPermutation (λ x. cond (p x) 1 0) xs ys moved ∙ sym (length-filter-sum p xs)
 
 -- the tables of some mentions are those of the mentions in any order
-pub AreTablesBy-IsPermutation : {T : Type 0} {theory : Theory} {table : List KeptProp} {rows : List Added} {points : PointTable T} {tally : Tally} (mentions all : List Ground)
-    → IsPermutation mentions all → AreTablesBy theory mentions table rows points tally → AreTablesBy theory all table rows points tally
+pub AreTablesBy-IsPermutation : {T : Type 0} {theory : Theory} {table : List KeptProp} {around : Neighbourhoods} {points : PointTable T} {tally : Tally} (mentions all : List Ground)
+    → IsPermutation mentions all → AreTablesBy theory mentions table around points tally → AreTablesBy theory all table around points tally
 AreTablesBy-IsPermutation {theory = theory} mentions all moved tables = record {
   kept = record {
     live = λ q live. tables.kept.live q (ap (λ b. is_initial theory q || b) (list_any-IsPermutation (term_eq q) mentions all moved) ∙ live);
@@ -90,9 +90,9 @@ module _ (theory : Theory) (before after : List KeptProp) (same : (id : ℕ) →
       sym (is_some-option_map (λ (kept : KeptProp). kept.term) (prop_at id after)) ∙ ap is_some (same id) ∙ is_some-option_map (λ (kept : KeptProp). kept.term) (prop_at id before)
 
   -- so the neighbours stay
-  pub AreAllAdded-same : (rows : List Added) → AreAllAdded theory before rows → AreAllAdded theory after rows
-  AreAllAdded-same rows added = record {
-    neighbours = read_terms_alone theory before after rows (λ k d below. same (get_or rows k d).prop.0) added.neighbours;
+  pub AreAllAdded-same : (around : Neighbourhoods) → AreAllAdded theory before around → AreAllAdded theory after around
+  AreAllAdded-same around added = record {
+    neighbours = read_terms_alone theory before after around (λ k d below. same (get_or around.rows k d).prop.0) added.neighbours;
     added = λ q. added.added q ∙ sym (same_kept q.0);
   }
 
@@ -110,14 +110,14 @@ module _ (theory : Theory) (before after : List KeptProp) (same : (id : ℕ) →
 -- ---- one property counted once more
 
 -- the numbers of a list are those of the neighbours of a property, in order
-pub record AreListed (rows : List Added) (p : PropId) (list : List PropId) : Type 0 where
+pub record AreListed (around : Neighbourhoods) (p : PropId) (list : List PropId) : Type 0 where
   pub ascend : are_ascending list ≡ true
-  pub exclusive : (theory : Theory) (table : List KeptProp) → AreNeighbours theory table rows → list ≡ filter (exclusive_at theory table p) (added_props rows)
+  pub exclusive : (theory : Theory) (table : List KeptProp) → AreNeighbours theory table around → list ≡ filter (exclusive_at theory table p) (added_props around.rows)
 
 -- so they are the neighbours of its term
-its_neighbours : (theory : Theory) (table : List KeptProp) (rows : List Added) (p : PropId) (term : Ground) (list : List PropId)
-    → IsOneToOne table → AreAllAdded theory table rows → AreListed rows p list → term_at p.0 table ≡ Some term → AreItsNeighbours theory table rows p term list
-its_neighbours theory table rows p term list one added listed is = record {
+its_neighbours : (theory : Theory) (table : List KeptProp) (around : Neighbourhoods) (p : PropId) (term : Ground) (list : List PropId)
+    → IsOneToOne table → AreAllAdded theory table around → AreListed around p list → term_at p.0 table ≡ Some term → AreItsNeighbours theory table around p term list
+its_neighbours theory table around p term list one added listed is = record {
   one = one;
   own = is;
   added = added.added;
@@ -210,19 +210,19 @@ module _ (theory : Theory) (mentions : List Ground) (p : PropId) (term : Ground)
           sym (next.others id apart) ∙ kept.counts id t (next.terms id ∙ is)
           ∙ ap (λ n. Some (n + held_mention theory t)) (count_more t term mentions ∙ ap (λ b. cond b 1 0 + length (filter (term_eq t) mentions)) (other_term id t is apart) ∙ zero-add _)
 
-  module _ {T : Type 0} (rows : List Added) (points : PointTable T) (list : List PropId) (old new : Tally) (lists : ListsInitials theory) (listed : AreListed rows p list) where
+  module _ {T : Type 0} (around : Neighbourhoods) (points : PointTable T) (list : List PropId) (old new : Tally) (lists : ListsInitials theory) (listed : AreListed around p list) where
     -- the links of one mention more, as the table counts them
-    pub links_of-more : AreKeptBy theory mentions less → AreAllAdded theory less rows → AreInitialsOf theory less points
+    pub links_of-more : AreKeptBy theory mentions less → AreAllAdded theory less around → AreInitialsOf theory less points
         → links_of theory (term ∷ mentions) ≡ links_of theory mentions + sum_by (links_to (count_at p.0 less == 0) less points) list
     links_of-more kept added initials =
-        links-one_more theory less rows p term list (its_neighbours theory less rows p term list one added listed own) mentions points kept initials lists (count_at p.0 less == 0) refl
+        links-one_more theory less around p term list (its_neighbours theory less around p term list one added listed own) mentions points kept initials lists (count_at p.0 less == 0) refl
 
     -- the tables of one mention more
-    pub AreTablesBy-more : AreTablesBy theory mentions less rows points old → new.mentions ≡ old.mentions + 1
-        → new.links ≡ old.links + sum_by (links_to (count_at p.0 less == 0) less points) list → AreTablesBy theory (term ∷ mentions) more rows points new
+    pub AreTablesBy-more : AreTablesBy theory mentions less around points old → new.mentions ≡ old.mentions + 1
+        → new.links ≡ old.links + sum_by (links_to (count_at p.0 less == 0) less points) list → AreTablesBy theory (term ∷ mentions) more around points new
     AreTablesBy-more tables counted linked = record {
       kept = AreKeptBy-more tables.kept;
-      added = AreAllAdded-same theory less more next.terms rows tables.added;
+      added = AreAllAdded-same theory less more next.terms around tables.added;
       initials = AreInitialsOf-same theory less more next.terms points tables.initials;
       tally_by = record {
         mentions_by = counted ∙ ap (λ n. n + 1) tables.tally_by.mentions_by ∙ sym (one_longer (length mentions));
@@ -234,11 +234,11 @@ module _ (theory : Theory) (mentions : List Ground) (p : PropId) (term : Ground)
         one_longer n = omega arith
 
     -- the tables of one mention less
-    pub AreTablesBy-less : AreTablesBy theory (term ∷ mentions) more rows points old → new.mentions + 1 ≡ old.mentions
-        → new.links + sum_by (links_to (count_at p.0 less == 0) less points) list ≡ old.links → AreTablesBy theory mentions less rows points new
+    pub AreTablesBy-less : AreTablesBy theory (term ∷ mentions) more around points old → new.mentions + 1 ≡ old.mentions
+        → new.links + sum_by (links_to (count_at p.0 less == 0) less points) list ≡ old.links → AreTablesBy theory mentions less around points new
     AreTablesBy-less tables counted linked =
         let kept = AreKeptBy-less tables.kept in
-        let added = AreAllAdded-same theory more less (λ id. sym (next.terms id)) rows tables.added in
+        let added = AreAllAdded-same theory more less (λ id. sym (next.terms id)) around tables.added in
         let initials = AreInitialsOf-same theory more less (λ id. sym (next.terms id)) points tables.initials in
         record {
           kept = kept;

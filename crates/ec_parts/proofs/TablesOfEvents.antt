@@ -15,7 +15,7 @@ use Rattle.ec_changes.specs.LiveLaws.{ListsInitials}
 use Rattle.ec_changes.proofs.EventMentions.{MentionsWithEvent-law, MentionsWithoutEvent-law}
 use Rattle.ec_changes.proofs.LinkSteps.{LinksAreOfMentions-law}
 use Rattle.ec_props.specs.Table.{KeptProp, term_at}
-use Rattle.ec_exclusive.specs.Added.{Added}
+use Rattle.ec_exclusive.specs.Neighbours.{Neighbourhoods}
 use Rattle.ec_context.specs.declared.entry.Entry.{Entry}
 use Rattle.ec_context.specs.declared.entry.EntryLiteral.{EntryLiteral}
 use Rattle.ec_context.specs.Entries.{each_of, shown_literal, shown_literals, shown_entry, shown_entries}
@@ -93,8 +93,8 @@ terms_of-entries table (entry ∷ entries) shown is =
 
 -- ---- the tables of events are those of their mentions
 
-module _ {T : Type 0} {theory : Theory} {events : List PlainEvent} {table : List KeptProp} {rows : List Added} {points : PointTable T} {tally : Tally} where
-  pub AreTablesBy-events : AreTables theory events table rows points tally → AreTablesBy theory (mentions_of theory events) table rows points tally
+module _ {T : Type 0} {theory : Theory} {events : List PlainEvent} {table : List KeptProp} {around : Neighbourhoods} {points : PointTable T} {tally : Tally} where
+  pub AreTablesBy-events : AreTables theory events table around points tally → AreTablesBy theory (mentions_of theory events) table around points tally
   unfolding is_live
   AreTablesBy-events tables = record {
     kept = record { live = tables.kept.live; counts = tables.kept.mentions };
@@ -103,7 +103,7 @@ module _ {T : Type 0} {theory : Theory} {events : List PlainEvent} {table : List
     tally_by = record { mentions_by = tables.tally_of.mentions; links_by = tables.tally_of.links ∙ LinksAreOfMentions-law theory events };
   }
 
-  pub AreTables-mentions : AreTablesBy theory (mentions_of theory events) table rows points tally → AreTables theory events table rows points tally
+  pub AreTables-mentions : AreTablesBy theory (mentions_of theory events) table around points tally → AreTables theory events table around points tally
   unfolding is_live
   AreTables-mentions tables = record {
     kept = record { live = tables.kept.live; mentions = tables.kept.counts };
@@ -114,10 +114,10 @@ module _ {T : Type 0} {theory : Theory} {events : List PlainEvent} {table : List
 
 -- ---- one event
 
-module _ {T : Type 0} {theory : Theory} {before after : List KeptProp} {rows : List Added} {points : PointTable T} {old new : Tally} (events : List PlainEvent) (event : PlainEvent) (entries : List Entry)
+module _ {T : Type 0} {theory : Theory} {before after : List KeptProp} {around : Neighbourhoods} {points : PointTable T} {old new : Tally} (events : List PlainEvent) (event : PlainEvent) (entries : List Entry)
     (lists : ListsInitials theory) (shown : shown_entries before entries ≡ Some (entries_of theory event.term)) where
   -- with one event more
-  pub AreTables-with_event : HasMentioned rows points (list_props entries) before old after new → AreTables theory events before rows points old → AreTables theory (with_event event events) after rows points new
+  pub AreTables-with_event : HasMentioned around points (list_props entries) before old after new → AreTables theory events before around points old → AreTables theory (with_event event events) after around points new
   AreTables-with_event step tables =
       AreTables-mentions
       (step.tables theory (mentions_of theory events) (mentions_of theory (with_event event events)) lists
@@ -125,8 +125,8 @@ module _ {T : Type 0} {theory : Theory} {before after : List KeptProp} {rows : L
       (AreTablesBy-events tables))
 
   -- with one event less
-  pub AreTables-without_event : HasReleased rows points (list_props entries) before old after new → IsTrue (is_history events) → IsTrue (has_event events event)
-      → AreTables theory events before rows points old → AreTables theory (without_event event.id events) after rows points new
+  pub AreTables-without_event : HasReleased around points (list_props entries) before old after new → IsTrue (is_history events) → IsTrue (has_event events event)
+      → AreTables theory events before around points old → AreTables theory (without_event event.id events) after around points new
   AreTables-without_event step history there tables =
       let own : IsPermutation (terms_of before (list_props entries) ++ mentions_of theory (without_event event.id events)) (mentions_of theory events) =
       subst (λ ts. IsPermutation (ts ++ mentions_of theory (without_event event.id events)) (mentions_of theory events)) (sym (terms_of-entries before entries _ shown)) (MentionsWithoutEvent-law theory event events history there) in
@@ -135,9 +135,9 @@ module _ {T : Type 0} {theory : Theory} {before after : List KeptProp} {rows : L
       (AreTablesBy-IsPermutation (mentions_of theory events) _ (IsPermutation-sym _ _ own) (AreTablesBy-events tables)))
 
 -- the mentions of an event are among those of a history that has it
-pub AreSomeTables-with_event : {T : Type 0} {theory : Theory} {table : List KeptProp} {rows : List Added} {points : PointTable T} {tally : Tally} (events : List PlainEvent) (event : PlainEvent) (entries : List Entry)
+pub AreSomeTables-with_event : {T : Type 0} {theory : Theory} {table : List KeptProp} {around : Neighbourhoods} {points : PointTable T} {tally : Tally} (events : List PlainEvent) (event : PlainEvent) (entries : List Entry)
     → ListsInitials theory → length theory.initials ≤ MOST_INITIALS → shown_entries table entries ≡ Some (entries_of theory event.term) → IsTrue (is_history events) → IsTrue (has_event events event)
-    → AreTables theory events table rows points tally → AreSomeTables (list_props entries) table rows points tally
+    → AreTables theory events table around points tally → AreSomeTables (list_props entries) table around points tally
 AreSomeTables-with_event {theory = theory} {table = table} events event entries lists few shown history there tables =
     let own : IsPermutation (terms_of table (list_props entries) ++ mentions_of theory (without_event event.id events)) (mentions_of theory events) =
     subst (λ ts. IsPermutation (ts ++ mentions_of theory (without_event event.id events)) (mentions_of theory events)) (sym (terms_of-entries table entries _ shown)) (MentionsWithoutEvent-law theory event events history there) in
@@ -150,7 +150,7 @@ AreSomeTables-with_event {theory = theory} {table = table} events event entries 
     }
 
 -- the tables of a list of events are those of some mentions
-pub AreSomeTables-events : {T : Type 0} {theory : Theory} {table : List KeptProp} {rows : List Added} {points : PointTable T} {tally : Tally} (events : List PlainEvent)
-    → ListsInitials theory → length theory.initials ≤ MOST_INITIALS → AreTables theory events table rows points tally → AreSomeTables [] table rows points tally
+pub AreSomeTables-events : {T : Type 0} {theory : Theory} {table : List KeptProp} {around : Neighbourhoods} {points : PointTable T} {tally : Tally} (events : List PlainEvent)
+    → ListsInitials theory → length theory.initials ≤ MOST_INITIALS → AreTables theory events table around points tally → AreSomeTables [] table around points tally
 AreSomeTables-events {theory = theory} events lists few tables =
     record { theory = theory; mentions = mentions_of theory events; lists = lists; few = few; tables = AreTablesBy-events tables }

@@ -13,7 +13,7 @@ use Rattle.ec_check.specs.declared.limits.TheConstants.{MOST_INITIALS}
 use Rattle.ec_changes.specs.LiveLaws.{ListsInitials}
 use Rattle.ec_changes.specs.LinkLaws.{links_of}
 use Rattle.ec_props.specs.Table.{KeptProp, prop_of, term_at, mentions_at}
-use Rattle.ec_exclusive.specs.Added.{Added}
+use Rattle.ec_exclusive.specs.Neighbours.{Neighbourhoods}
 use Rattle.ec_context.specs.declared.entry.Entry.{Entry}
 use Rattle.ec_context.specs.declared.entry.EntryLiteral.{EntryLiteral}
 use Rattle.ec_context.specs.Entries.{shown_entries}
@@ -40,9 +40,9 @@ pub record IsTallyBy (theory : Theory) (mentions : List Ground) (tally : Tally) 
   pub links_by : tally.links ≡ links_of theory mentions
 
 -- the tables are those of the mentions
-pub record AreTablesBy {T : Type 0} (theory : Theory) (mentions : List Ground) (table : List KeptProp) (rows : List Added) (points : PointTable T) (tally : Tally) : Type 0 where
+pub record AreTablesBy {T : Type 0} (theory : Theory) (mentions : List Ground) (table : List KeptProp) (around : Neighbourhoods) (points : PointTable T) (tally : Tally) : Type 0 where
   pub kept : AreKeptBy theory mentions table
-  pub added : AreAllAdded theory table rows
+  pub added : AreAllAdded theory table around
   pub initials : AreInitialsOf theory table points
   pub tally_by : IsTallyBy theory mentions tally
 
@@ -77,55 +77,55 @@ terms_of table props = filter_map (λ p. term_at p.0 table) props
 
 -- these properties are mentioned once more each: the terms stay, and the tables of any mentions become those of the
 -- mentions with these
-pub record HasMentioned {T : Type 0} (rows : List Added) (points : PointTable T) (props : List PropId) (before : List KeptProp) (old : Tally) (after : List KeptProp) (new : Tally) : Type 0 where
+pub record HasMentioned {T : Type 0} (around : Neighbourhoods) (points : PointTable T) (props : List PropId) (before : List KeptProp) (old : Tally) (after : List KeptProp) (new : Tally) : Type 0 where
   pub terms : (id : ℕ) → term_at id after ≡ term_at id before
   pub more : new.mentions ≡ old.mentions + length props
   pub tables :
       (theory : Theory) (mentions all : List Ground) → ListsInitials theory → IsPermutation (terms_of before props ++ mentions) all
-      → AreTablesBy theory mentions before rows points old → AreTablesBy theory all after rows points new
+      → AreTablesBy theory mentions before around points old → AreTablesBy theory all after around points new
 
 -- these properties are mentioned once less each: the terms stay, and the tables of mentions with these become those of
 -- the others
-pub record HasReleased {T : Type 0} (rows : List Added) (points : PointTable T) (props : List PropId) (before : List KeptProp) (old : Tally) (after : List KeptProp) (new : Tally) : Type 0 where
+pub record HasReleased {T : Type 0} (around : Neighbourhoods) (points : PointTable T) (props : List PropId) (before : List KeptProp) (old : Tally) (after : List KeptProp) (new : Tally) : Type 0 where
   pub terms : (id : ℕ) → term_at id after ≡ term_at id before
   pub less : new.mentions + length props ≡ old.mentions
   pub tables :
       (theory : Theory) (mentions : List Ground) → ListsInitials theory
-      → AreTablesBy theory (terms_of before props ++ mentions) before rows points old → AreTablesBy theory mentions after rows points new
+      → AreTablesBy theory (terms_of before props ++ mentions) before around points old → AreTablesBy theory mentions after around points new
 
 -- the tables are those of some mentions with these properties, under a theory that lists its few initial properties
-pub record AreSomeTables {T : Type 0} (props : List PropId) (table : List KeptProp) (rows : List Added) (points : PointTable T) (tally : Tally) : Type 0 where
+pub record AreSomeTables {T : Type 0} (props : List PropId) (table : List KeptProp) (around : Neighbourhoods) (points : PointTable T) (tally : Tally) : Type 0 where
   pub theory : Theory
   pub mentions : List Ground
   pub lists : ListsInitials theory
   pub few : length theory.initials ≤ MOST_INITIALS
-  pub tables : AreTablesBy theory (terms_of table props ++ mentions) table rows points tally
+  pub tables : AreTablesBy theory (terms_of table props ++ mentions) table around points tally
 
 -- ---- the tables of a list of events
 
 -- the tables are those of some list of events
-pub record AreOfEvents {T : Type 0} (theory : Theory) (table : List KeptProp) (rows : List Added) (points : PointTable T) (tally : Tally) : Type 0 where
+pub record AreOfEvents {T : Type 0} (theory : Theory) (table : List KeptProp) (around : Neighbourhoods) (points : PointTable T) (tally : Tally) : Type 0 where
   pub events : List PlainEvent
-  pub tables : AreTables theory events table rows points tally
+  pub tables : AreTables theory events table around points tally
 
 -- the tables are those of some history, which has an event of these entries
-pub record AreOfEventsWith {T : Type 0} (theory : Theory) (entries : List Entry) (table : List KeptProp) (rows : List Added) (points : PointTable T) (tally : Tally) : Type 0 where
+pub record AreOfEventsWith {T : Type 0} (theory : Theory) (entries : List Entry) (table : List KeptProp) (around : Neighbourhoods) (points : PointTable T) (tally : Tally) : Type 0 where
   pub events : List PlainEvent
   pub event : PlainEvent
   pub history : IsTrue (is_history events)
   pub there : IsTrue (has_event events event)
   pub shown : shown_entries table entries ≡ Some (entries_of theory event.term)
-  pub tables : AreTables theory events table rows points tally
+  pub tables : AreTables theory events table around points tally
 
 -- the tables of any list of events become those of the list with the event of these entries in its place
-abbrev pub TakesEventIn : {T : Type 0} → Theory → List Entry → List Added → PointTable T → List KeptProp → Tally → List KeptProp → Tally → Type 0
-TakesEventIn theory entries rows points before old after new =
+abbrev pub TakesEventIn : {T : Type 0} → Theory → List Entry → Neighbourhoods → PointTable T → List KeptProp → Tally → List KeptProp → Tally → Type 0
+TakesEventIn theory entries around points before old after new =
     (events : List PlainEvent) (event : PlainEvent) → shown_entries before entries ≡ Some (entries_of theory event.term)
-    → AreTables theory events before rows points old → AreTables theory (with_event event events) after rows points new
+    → AreTables theory events before around points old → AreTables theory (with_event event events) after around points new
 
 -- the tables of any history become those of the history without its event of these entries
-abbrev pub TakesEventOut : {T : Type 0} → Theory → List Entry → List Added → PointTable T → List KeptProp → Tally → List KeptProp → Tally → Type 0
-TakesEventOut theory entries rows points before old after new =
+abbrev pub TakesEventOut : {T : Type 0} → Theory → List Entry → Neighbourhoods → PointTable T → List KeptProp → Tally → List KeptProp → Tally → Type 0
+TakesEventOut theory entries around points before old after new =
     (events : List PlainEvent) (event : PlainEvent) → shown_entries before entries ≡ Some (entries_of theory event.term)
     → IsTrue (is_history events) → IsTrue (has_event events event)
-    → AreTables theory events before rows points old → AreTables theory (without_event event.id events) after rows points new
+    → AreTables theory events before around points old → AreTables theory (without_event event.id events) after around points new

@@ -7,7 +7,7 @@ use Rattle.ec_axioms.specs.Calculus.{PlainEvent}
 use Rattle.ec_axioms.specs.Changes.{is_history}
 use Rattle.ec_axioms.specs.Links.{is_live}
 use Rattle.ec_props.specs.Table.{KeptProp, prop_of}
-use Rattle.ec_exclusive.specs.Added.{Added}
+use Rattle.ec_exclusive.specs.Neighbours.{Neighbourhoods}
 use Rattle.ec_events.specs.Store.{Store}
 use Rattle.ec_entries.specs.Dependents.{Entered}
 use Rattle.ec_points.specs.Table.{PointTable}
@@ -20,16 +20,16 @@ use Rattle.ec_parts.specs.Caches.{AreEventsOf, AreEntriesOf, AreInitialsOf, AreM
 pub record View (T : Type 0) : Type 0 where
   pub store : Store T
   pub table : List KeptProp
-  pub neighbours : List Added
+  pub neighbours : Neighbourhoods
   pub entries : Entered T
   pub points : PointTable T
   pub initiations : PointTable T
   pub intervals : IntervalTable T
 
 -- the tables are those of a list of events
-pub record AreTables {T : Type 0} (theory : Theory) (events : List PlainEvent) (table : List KeptProp) (rows : List Added) (points : PointTable T) (tally : Tally) : Type 0 where
+pub record AreTables {T : Type 0} (theory : Theory) (events : List PlainEvent) (table : List KeptProp) (around : Neighbourhoods) (points : PointTable T) (tally : Tally) : Type 0 where
   pub kept : AreKept theory events table
-  pub added : AreAllAdded theory table rows
+  pub added : AreAllAdded theory table around
   pub initials : AreInitialsOf theory table points
   pub tally_of : IsTally theory events tally
 

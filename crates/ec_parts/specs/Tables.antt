@@ -8,8 +8,8 @@ use Rattle.ec_terms.specs.Domain.{is_initial}
 use Rattle.ec_axioms.specs.Calculus.{PlainEvent}
 use Rattle.ec_axioms.specs.Links.{mentions_of, is_live, link_count}
 use Rattle.ec_props.specs.Table.{KeptProp, prop_at, prop_of, term_at, mentions_at}
-use Rattle.ec_exclusive.specs.Added.{Added, is_added}
-use Rattle.ec_exclusive.specs.Neighbours.{AreNeighbours}
+use Rattle.ec_exclusive.specs.Added.{is_added}
+use Rattle.ec_exclusive.specs.Neighbours.{Neighbourhoods, AreNeighbours}
 use Rattle.ec_parts.specs.declared.tally.Tally.{Tally}
 
 -- how often the events mention a property
@@ -31,9 +31,9 @@ abbrev pub KeepsOnlyLive : Theory → List PlainEvent → List KeptProp → Type
 KeepsOnlyLive theory events table = (id : ℕ) (p : Ground) → term_at id table ≡ Some p → IsTrue (is_live theory events p)
 
 -- the neighbours are those of the theory and the table, and what is kept is added
-pub record AreAllAdded (theory : Theory) (table : List KeptProp) (rows : List Added) : Type 0 where
-  pub neighbours : AreNeighbours theory table rows
-  pub added : (p : PropId) → is_added p rows ≡ is_some (prop_at p.0 table)
+pub record AreAllAdded (theory : Theory) (table : List KeptProp) (around : Neighbourhoods) : Type 0 where
+  pub neighbours : AreNeighbours theory table around
+  pub added : (p : PropId) → is_added p around.rows ≡ is_some (prop_at p.0 table)
 
 -- the tally counts the mentions and the links of the events
 pub record IsTally (theory : Theory) (events : List PlainEvent) (tally : Tally) : Type 0 where

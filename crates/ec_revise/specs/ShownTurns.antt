@@ -5,7 +5,7 @@ use Rattle.ec_terms.specs.declared.ground.Ground.{Ground}
 use Rattle.ec_terms.specs.declared.theory.Theory.{Theory}
 use Rattle.ec_props.specs.Table.{KeptProp, prop_of, term_at}
 use Rattle.ec_exclusive.specs.Added.{Added, is_added}
-use Rattle.ec_exclusive.specs.Neighbours.{AreNeighbours}
+use Rattle.ec_exclusive.specs.Neighbours.{Neighbourhoods, AreNeighbours}
 use Rattle.ec_revise.specs.declared.settled.Tallied.{Tallied}
 use Rattle.ec_revise.specs.declared.turn.Turn.{Turn}
 use Rattle.ec_revise.specs.Tallied.{IsTallyOf}
@@ -33,6 +33,6 @@ FindsItsTerms table = (n : ℕ) (p : Ground) → term_at n table ≡ Some p → 
 -- What is tallied for an added property by numbers is what its turns are by terms.
 abbrev pub TalliesGoByTerm : Type 0
 TalliesGoByTerm =
-    (theory : Theory) (table : List KeptProp) (neighbours : List Added) (turns : List Turn) (plains : List PlainTurn) (id : PropId) (p : Ground) (tallied : Tallied)
-    → FindsItsTerms table → AreNeighbours theory table neighbours → AreShown table neighbours turns plains
-    → term_at id.0 table ≡ Some p → IsTrue (is_added id neighbours) → IsTallyAt neighbours turns id tallied → IsTallyOf theory plains p tallied
+    (theory : Theory) (table : List KeptProp) (neighbours : Neighbourhoods) (turns : List Turn) (plains : List PlainTurn) (id : PropId) (p : Ground) (tallied : Tallied)
+    → FindsItsTerms table → AreNeighbours theory table neighbours → AreShown table neighbours.rows turns plains
+    → term_at id.0 table ≡ Some p → IsTrue (is_added id neighbours.rows) → IsTallyAt neighbours.rows turns id tallied → IsTallyOf theory plains p tallied

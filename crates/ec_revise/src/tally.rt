@@ -175,10 +175,10 @@ impl Tally {
 
     /// Counts one turn for each property that it counts for.
     fn count_turn(&mut self, turn: &Turn, neighbours: &Neighbours) -> Result<(), NoMemory>
-        requires added { IsTrue (is_added turn.now.head neighbours.now) }
+        requires added { IsTrue (is_added turn.now.head neighbours.now.rows) }
         requires room { (p : PropId) (part : Part) (up : Bool) → count_in part (counts_of up (tallied_at p self.old)) + 1 < 2 ^ 32 }
-        ensures counted { OnOk result ((p : PropId) → CountsTurn neighbours.now turn.now p (tallied_at p self.old) (tallied_at p self.new)) }
-        ensures rows { OnOk result ((p : PropId) → is_some (row_at p.0 self.new) ≡ (counts_at neighbours.now p turn.now || is_some (row_at p.0 self.old))) }
+        ensures counted { OnOk result ((p : PropId) → CountsTurn neighbours.now.rows turn.now p (tallied_at p self.old) (tallied_at p self.new)) }
+        ensures rows { OnOk result ((p : PropId) → is_some (row_at p.0 self.new) ≡ (counts_at neighbours.now.rows p turn.now || is_some (row_at p.0 self.old))) }
     {
         match turn.kind {
             Kind::Terminates => self.count(turn.head, Part::Terms, turn.up),
@@ -194,10 +194,10 @@ impl Tally {
     /// tally is of no more use.
     pub fn count_turns(&mut self, turns: &[Turn], neighbours: &Neighbours) -> Result<(), NoMemory>
         requires few { length turns.now < 2 ^ 32 }
-        requires added { All (λ turn. IsTrue (is_added turn.head neighbours.now)) turns.now }
+        requires added { All (λ turn. IsTrue (is_added turn.head neighbours.now.rows)) turns.now }
         requires fresh { (p : PropId) → tallied_at p self.old ≡ nothing_tallied }
-        ensures tallied { OnOk result ((p : PropId) → IsTallyAt neighbours.now turns.now p (tallied_at p self.new)) }
-        ensures rows { OnOk result ((p : PropId) → is_some (row_at p.0 self.new) ≡ (list_any (counts_at neighbours.now p) turns.now || is_some (row_at p.0 self.old))) }
+        ensures tallied { OnOk result ((p : PropId) → IsTallyAt neighbours.now.rows turns.now p (tallied_at p self.new)) }
+        ensures rows { OnOk result ((p : PropId) → is_some (row_at p.0 self.new) ≡ (list_any (counts_at neighbours.now.rows p) turns.now || is_some (row_at p.0 self.old))) }
     {
         for turn in turns {
             self.count_turn(turn, neighbours)?;

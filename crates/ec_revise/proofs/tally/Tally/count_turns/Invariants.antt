@@ -8,6 +8,6 @@ use Rattle.ec_revise.proofs.tally.Tally.count_turns.Given as goal
 
 abbrev pub invariant-loop-turn : goal.invariant-loop-turn
 invariant-loop-turn l = record {
-  tallied : (p : PropId) → IsTallyAt l.neighbours (take l.turn-index l.turns) p (tallied_at p l.self);
-  rows : (p : PropId) → is_some (row_at p.0 l.self) ≡ (list_any (counts_at l.neighbours p) (take l.turn-index l.turns) || is_some (row_at p.0 l.initial.self));
+  tallied : (p : PropId) → IsTallyAt l.neighbours.rows (take l.turn-index l.turns) p (tallied_at p l.self);
+  rows : (p : PropId) → is_some (row_at p.0 l.self) ≡ (list_any (counts_at l.neighbours.rows p) (take l.turn-index l.turns) || is_some (row_at p.0 l.initial.self));
 }
