@@ -5,7 +5,7 @@ use Rattle.std.specs.List.{list_any, list_all}
 use Rattle.std.specs.Ordering.{int_eq, is_lt, is_eq, ordering_then}
 use Rattle.std.specs.declared.cmp.Ordering.{Ordering}
 use Rattle.std.specs.declared.cmp.Ordering.TheVariants.{Less, Equal, Greater}
-use Rattle.std.proofs.lemmas.Bool.{cases_Bool, false≢true, and_parts, and_right, or_right}
+use Rattle.std.proofs.lemmas.Bool.{cases_Bool, false≢true, and_parts, and_right, or_right, or_parts}
 use Rattle.std.proofs.lemmas.Slice.Eq.{bytes_eq-Decides}
 use Rattle.ec_terms.specs.declared.ids.Slot.{Slot}
 use Rattle.ec_terms.specs.Term.{name_cmp}
@@ -26,21 +26,9 @@ use Rattle.ec_lists.proofs.Filters.{filter-not_any}
 pub same_bytes : (a b : List ℕ) → bytes_eq a b ≡ true → a ≡ b
 same_bytes a b = (bytes_eq-Decides a b).0
 
-pub equal_bytes : (a : List ℕ) → bytes_eq a a ≡ true
-equal_bytes a = (bytes_eq-Decides a a).1 refl
-
 other_bytes : (a b : List ℕ) → bytes_eq a b ≡ false → bytes_eq b a ≡ false
 other_bytes a b other =
-    ⊎_elim (λ e. absurd (false≢true (sym other ∙ subst (λ c. bytes_eq a c ≡ true) (sym (same_bytes b a e)) (equal_bytes a)))) (λ e. e) (cases_Bool (bytes_eq b a))
-
-pub same_number : (a b : ℕ) → (a == b) ≡ true → a ≡ b
-same_number a b e = grind arith
-
-or_left-false : (a b : Bool) → (a || b) ≡ false → a ≡ false
-or_left-false a b = grind arith
-
-or_right-false : (a b : Bool) → (a || b) ≡ false → b ≡ false
-or_right-false a b = grind arith
+    ⊎_elim (λ e. absurd (false≢true (sym other ∙ subst (λ c. bytes_eq a c ≡ true) (sym (same_bytes b a e)) ((bytes_eq-Decides a a).1 refl)))) (λ e. e) (cases_Bool (bytes_eq b a))
 
 not-true : (a : Bool) → not a ≡ true → a ≡ false
 not-true a = grind arith
@@ -220,13 +208,13 @@ module _ {T : Type 0} where
       (λ e. let found : Some k.1 ≡ Some event = sym (event_at-same slot k ks e) ∙ is in
       let same : k.1 ≡ event = cc in
       ap (λ (j : Event T). bytes_eq j.id event.id || has_id event.id (history_of rank ks)) same
-      ∙ ap (λ b. b || has_id event.id (history_of rank ks)) (equal_bytes event.id))
+      ∙ ap (λ b. b || has_id event.id (history_of rank ks)) ((bytes_eq-Decides event.id event.id).1 refl))
       (λ e. or_right (bytes_eq k.1.id event.id) (has_id event.id (history_of rank ks))
       (has_id-event_at rank slot event ks (sym (event_at-other slot k ks e) ∙ is)))
       (cases_Bool (k.0.0 == slot.0))
 
   entry-itself : (rank : T → ℤ) (k : Kept T) → is_entry rank (rank k.1.at) k.1.id (entry_of k) ≡ true
-  entry-itself rank k = ap₂ (λ a b. a && b) (int_eq-same (rank k.1.at)) (equal_bytes k.1.id)
+  entry-itself rank k = ap₂ (λ a b. a && b) (int_eq-same (rank k.1.at)) ((bytes_eq-Decides k.1.id k.1.id).1 refl)
 
   pub has_entry-event_at : (rank : T → ℤ) (slot : Slot) (event : Event T) (ks : List (Kept T)) → event_at slot ks ≡ Some event →
       has_entry rank (rank event.at) event.id (map entry_of ks) ≡ true
@@ -246,15 +234,15 @@ module _ {T : Type 0} where
   no_entry rank t id [] none = refl
   no_entry rank t id (k ∷ ks) none =
       ap₂ (λ a b. a || b)
-      (and_right (int_eq (rank k.1.at) t) (bytes_eq k.1.id id) (or_left-false (bytes_eq k.1.id id) (has_id id (history_of rank ks)) none))
-      (no_entry rank t id ks (or_right-false (bytes_eq k.1.id id) (has_id id (history_of rank ks)) none))
+      (and_right (int_eq (rank k.1.at) t) (bytes_eq k.1.id id) (or_parts (bytes_eq k.1.id id) (has_id id (history_of rank ks)) none).0)
+      (no_entry rank t id ks (or_parts (bytes_eq k.1.id id) (has_id id (history_of rank ks)) none).1)
 
   no_kept : (rank : T → ℤ) (id : List ℕ) (ks : List (Kept T)) → has_id id (history_of rank ks) ≡ false → list_any (λ (k : Kept T). bytes_eq k.1.id id) ks ≡ false
   unfolding has_id
   no_kept rank id [] none = refl
   no_kept rank id (k ∷ ks) none =
-      ap₂ (λ a b. a || b) (or_left-false (bytes_eq k.1.id id) (has_id id (history_of rank ks)) none)
-      (no_kept rank id ks (or_right-false (bytes_eq k.1.id id) (has_id id (history_of rank ks)) none))
+      ap₂ (λ a b. a || b) (or_parts (bytes_eq k.1.id id) (has_id id (history_of rank ks)) none).0
+      (no_kept rank id ks (or_parts (bytes_eq k.1.id id) (has_id id (history_of rank ks)) none).1)
 
   -- the entries without the first one's
   without_entry-first : (rank : T → ℤ) (k : Kept T) (ks : List (Kept T)) → has_id k.1.id (history_of rank ks) ≡ false →
@@ -265,7 +253,7 @@ module _ {T : Type 0} where
       let kept : without_kept k.1.id ks ≡ ks = filter-not_any (λ (j : Kept T). bytes_eq j.1.id k.1.id) ks (no_kept rank k.1.id ks none) in
       ap (λ b. cond (not b) (entry_of k ∷ without_entry rank (rank k.1.at) k.1.id (map entry_of ks)) (without_entry rank (rank k.1.at) k.1.id (map entry_of ks))) (entry-itself rank k)
       ∙ gone ∙ ap (map entry_of) (sym kept)
-      ∙ ap (λ b. map entry_of (cond (not b) (k ∷ without_kept k.1.id ks) (without_kept k.1.id ks))) (sym (equal_bytes k.1.id))
+      ∙ ap (λ b. map entry_of (cond (not b) (k ∷ without_kept k.1.id ks) (without_kept k.1.id ks))) (sym ((bytes_eq-Decides k.1.id k.1.id).1 refl))
 
   -- the entries of the events with one less
   pub without_entry-without_kept : (rank : T → ℤ) (slot : Slot) (event : Event T) (ks : List (Kept T)) → is_history (history_of rank ks) ≡ true →

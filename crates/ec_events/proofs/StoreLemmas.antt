@@ -3,7 +3,8 @@ use Rattle.std.proofs.Common.{◌≡◌, ℕ, ◌+◌, ◌<◌, zero, suc, Bool,
 use Rattle.std.specs.Prelude.{option_map, bytes_eq, ◌==◌, if◌then◌else◌}
 use Rattle.std.specs.List.{cons_option, list_any}
 use Rattle.std.specs.Option.{option_copied}
-use Rattle.std.proofs.lemmas.Bool.{cases_Bool, false≢true, or_left, or_right}
+use Rattle.std.proofs.lemmas.Bool.{cases_Bool, false≢true, or_left, or_right, eqb-true, eq-eqb}
+use Rattle.std.proofs.lemmas.Slice.Eq.{bytes_eq-Decides}
 use Rattle.std.proofs.lemmas.List.{length-map}
 use Rattle.ec_terms.specs.declared.ids.Slot.{Slot}
 use Rattle.ec_axioms.specs.Changes.{is_history, comes_before, with_event, without_event}
@@ -11,13 +12,10 @@ use Rattle.ec_axioms.specs.declared.event.Event.{Event}
 use Rattle.ec_axioms.proofs.Histories.{is_history-with_event, is_history-without_event}
 use Rattle.ec_rows.specs.Times.{Entry, has_entry, with_entry, without_entry, entries_before}
 use Rattle.ec_events.specs.Store.{Kept, plain_of, history_of, slot_of, event_at, kept_before, with_kept, without_kept, entry_of, kept_of, IsStore}
-use Rattle.ec_events.proofs.KeptLemmas.{same_bytes, equal_bytes, same_number, event_at-same, event_at-other, slot_of-cons, slot_of-with_kept, history_of-with_kept, has_id-slot_of, with_entry-with_kept, has_entry-none, slot_of-without_kept, history_of-without_kept, has_entry-event_at, without_entry-without_kept, entries_before-kept, slice_get-entries, slice_get-end}
+use Rattle.ec_events.proofs.KeptLemmas.{same_bytes, event_at-same, event_at-other, slot_of-cons, slot_of-with_kept, history_of-with_kept, has_id-slot_of, with_entry-with_kept, has_entry-none, slot_of-without_kept, history_of-without_kept, has_entry-event_at, without_entry-without_kept, entries_before-kept, slice_get-entries, slice_get-end}
 use Rattle.ec_lists.proofs.Booleans.{or_second}
 
 -- ---- tests and answers
-
-itself : (n : ℕ) → (n == n) ≡ true
-itself n = grind arith
 
 -- what holds of a slot wherever it is the answer
 pub if_some : (answer : Option Slot) (P : Slot → Type 0) → ((slot : Slot) → answer ≡ Some slot → P slot) → IfSome answer P
@@ -54,14 +52,14 @@ module _ {T : Type 0} where
       event_at slot ks ≡ Some event → record_at slot.0 ≡ Some event
   record-event_at record_at slot event [] held is = cc
   record-event_at record_at slot event (k ∷ ks) held is =
-      ⊎_elim (λ e. ap record_at (sym (same_number k.0.0 slot.0 e)) ∙ held.0 ∙ sym (event_at-same slot k ks e) ∙ is)
+      ⊎_elim (λ e. ap record_at (sym (eqb-true k.0.0 slot.0 e)) ∙ held.0 ∙ sym (event_at-same slot k ks e) ∙ is)
       (λ e. record-event_at record_at slot event ks held.1 (sym (event_at-other slot k ks e) ∙ is)) (cases_Bool (k.0.0 == slot.0))
 
   -- under a slot without a record there is no event
   none-event_at : (record_at : ℕ → Option (Event T)) (slot : Slot) (ks : List (Kept T)) → AllHeld record_at ks → record_at slot.0 ≡ None → event_at slot ks ≡ None
   none-event_at record_at slot [] held none = refl
   none-event_at record_at slot (k ∷ ks) held none =
-      ⊎_elim (λ e. let both : Some k.1 ≡ None = sym held.0 ∙ ap record_at (same_number k.0.0 slot.0 e) ∙ none in cc)
+      ⊎_elim (λ e. let both : Some k.1 ≡ None = sym held.0 ∙ ap record_at (eqb-true k.0.0 slot.0 e) ∙ none in cc)
       (λ e. event_at-other slot k ks e ∙ none-event_at record_at slot ks held.1 none) (cases_Bool (k.0.0 == slot.0))
 
   -- ---- slots that events have
@@ -75,7 +73,7 @@ module _ {T : Type 0} where
       has_slot slot ks ≡ true → event_at slot ks ≡ Some event
   event_at-held record_at slot event [] held is there = absurd (false≢true there)
   event_at-held record_at slot event (k ∷ ks) held is there =
-      ⊎_elim (λ e. event_at-same slot k ks e ∙ sym held.0 ∙ ap record_at (same_number k.0.0 slot.0 e) ∙ is)
+      ⊎_elim (λ e. event_at-same slot k ks e ∙ sym held.0 ∙ ap record_at (eqb-true k.0.0 slot.0 e) ∙ is)
       (λ e. event_at-other slot k ks e ∙ event_at-held record_at slot event ks held.1 is (or_second (k.0.0 == slot.0) (has_slot slot ks) e there))
       (cases_Bool (k.0.0 == slot.0))
 
@@ -86,10 +84,10 @@ module _ {T : Type 0} where
 
   has_slot-with_kept : (rank : T → ℤ) (k : Kept T) (ks : List (Kept T)) → has_slot k.0 (with_kept rank k ks) ≡ true
   unfolding with_kept
-  has_slot-with_kept rank k [] = or_left (k.0.0 == k.0.0) false (itself k.0.0)
+  has_slot-with_kept rank k [] = or_left (k.0.0 == k.0.0) false (eq-eqb k.0.0 k.0.0 refl)
   has_slot-with_kept rank k (j ∷ js) =
       has_slot-if k.0 (comes_before (plain_of rank k) (plain_of rank j)) (k ∷ j ∷ js) (j ∷ with_kept rank k js)
-      (or_left (k.0.0 == k.0.0) (has_slot k.0 (j ∷ js)) (itself k.0.0))
+      (or_left (k.0.0 == k.0.0) (has_slot k.0 (j ∷ js)) (eq-eqb k.0.0 k.0.0 refl))
       (or_right (j.0.0 == k.0.0) (has_slot k.0 (with_kept rank k js)) (has_slot-with_kept rank k js))
 
   -- a slot, the record there, and that some event has it
@@ -101,7 +99,7 @@ module _ {T : Type 0} where
   later-IsHeldAt record_at k ks slot event at = (at.0, or_right (k.0.0 == slot.0) (has_slot slot ks) at.1)
 
   first-IsHeldAt : (record_at : ℕ → Option (Event T)) (k : Kept T) (ks : List (Kept T)) → AllHeld record_at (k ∷ ks) → IsHeldAt record_at (k ∷ ks) k.0 k.1
-  first-IsHeldAt record_at k ks held = (held.0, or_left (k.0.0 == k.0.0) (has_slot k.0 ks) (itself k.0.0))
+  first-IsHeldAt record_at k ks held = (held.0, or_left (k.0.0 == k.0.0) (has_slot k.0 ks) (eq-eqb k.0.0 k.0.0 refl))
 
   at-IsHeldAt : (record_at : ℕ → Option (Event T)) (ks : List (Kept T)) (i : ℕ) (d : Kept T) → AllHeld record_at ks → i < length ks →
       IsHeldAt record_at ks (get_or ks i d).0 (get_or ks i d).1
@@ -163,7 +161,7 @@ module _ {T : Type 0} where
       (λ e. subst (λ b. AllHeld new (cond (not b) (k ∷ rest) rest)) (sym e) (
         others k.0.0 (λ is. let both : Some k.1 ≡ Some event = sym held.0 ∙ ap record_at is ∙ there in
             let same : k.1 ≡ event = cc in
-            false≢true (sym e ∙ ap (λ (j : Event T). bytes_eq j.id event.id) same ∙ equal_bytes event.id)) ∙ held.0,
+            false≢true (sym e ∙ ap (λ (j : Event T). bytes_eq j.id event.id) same ∙ (bytes_eq-Decides event.id event.id).1 refl)) ∙ held.0,
         ih,
       ))
       (cases_Bool (bytes_eq k.1.id event.id))
