@@ -1,5 +1,5 @@
 -- What the groups say of the added properties, and what they are when a property comes or goes.
-use Rattle.std.proofs.Common.{◌≡◌, ◌≢◌, ℕ, Bool, true, false, not, cond, ◌&&◌, ◌||◌, IsSome, List, [], ◌∷◌, filter, Option, Some, None, Vec, is_some, refl, sym, ap, ap₂, subst, ◌∙◌, ◌⊎◌, inl, inr, ⊎_elim, arith}
+use Rattle.std.proofs.Common.{◌≡◌, ◌≢◌, ℕ, Bool, true, false, not, cond, ◌&&◌, ◌||◌, IsSome, List, [], filter, Option, Some, None, Vec, is_some, refl, sym, ap, ap₂, subst, ◌∙◌, ◌⊎◌, inl, inr, ⊎_elim, arith}
 use Rattle.std.specs.Prelude.{◌==◌, option_map, bytes_eq}
 use Rattle.std.specs.List.{list_any}
 use Rattle.std.proofs.lemmas.Bool.{cases_Bool, false≢true}
@@ -7,7 +7,7 @@ use Rattle.std.specs.Map.{lookup}
 use Rattle.std.proofs.lemmas.List.{get_or_past}
 use Rattle.indexmap.specs.IndexMap.{IndexMap}
 use Rattle.ec_lists.proofs.Options.{is_some-option_map}
-use Rattle.ec_lists.proofs.Tests.{list_any-same, list_any-map}
+use Rattle.ec_lists.proofs.Tests.{list_any-same, list_any-map, list_any-and}
 use Rattle.ec_terms.specs.declared.ids.PropId.{PropId}
 use Rattle.ec_terms.specs.declared.ground.Ground.{Ground}
 use Rattle.ec_terms.specs.declared.theory.Theory.{Theory}
@@ -40,10 +40,6 @@ stands_under-none key (Some form) none = absurd (false≢true (sym none))
 stands_under-form : (key : List ℕ) (n : ℕ) (forms : List (Option Form)) (form : Form) → kept_at n forms ≡ Some form → stands_under key (form_kept n forms) ≡ is_among form.keys.items key
 stands_under-form key n forms form is =
     ap (λ o. stands_under key (option_map form_in o)) is ∙ list_any-map (λ (t : List ℕ). bytes_eq t key) (λ text. text.items) form.keys.items
-
-any-none : {X : Type 0} (test : X → Bool) (xs : List X) → ((x : X) → test x ≡ false) → list_any test xs ≡ false
-any-none test [] none = refl
-any-none test (x ∷ xs) none = ap₂ (λ a b. a || b) (none x) (any-none test xs none)
 
 -- nothing is kept
 pub AreKept-none : {Z S : Type 0} (lists : List (Option Row)) (forms : List (Option Form)) (groups : IndexMap (Vec ℕ Z) (Reserved PropId) S) → lists ≡ [] → forms ≡ [] → groups.entries ≡ [] →
@@ -102,7 +98,9 @@ module _ {Z S : Type 0} (lists : List (Option Row)) (forms : List (Option Form))
 
         any-absent : (q : PropId) → is_added q added.rows ≡ false → any q ≡ false
         unfolding any
-        any-absent q absent = any-none (λ key. in_group groups key q.0) (other_keys theory.exclusives term) (λ key. in_group-absent q absent key)
+        any-absent q absent =
+            list_any-same (λ key. in_group groups key q.0) (λ key. false) (λ key. in_group-absent q absent key) (other_keys theory.exclusives term)
+            ∙ sym (list_any-and false (λ (key : List ℕ). false) (other_keys theory.exclusives term))
 
         -- what is found is the neighbours
         pub own-found : (p : PropId) (found : List PropId) → term_at p.0 table ≡ Some term → are_ascending found ≡ true →

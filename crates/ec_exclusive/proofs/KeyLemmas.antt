@@ -119,9 +119,6 @@ shared_term-same d p q both =
     (shared-same d.left.args d.right (binding_of d.left p) (binding_of d.right q)
     (λ v there shared. sym (fits-unique d.left p found.0 v found.1 there) ∙ fits-unique d.right q found.0 v found.2 shared))
 
-bytes-itself : (k : List ℕ) → bytes_eq k k ≡ true
-bytes-itself k = (bytes_eq-Decides k k).1 refl
-
 -- both sides fit
 fits-left : (d : Exclusive) (p q : Ground) → both_fit d.left d.right p q ≡ true → fits_some d.left p ≡ true
 fits-left d p q both = let found = (both_fit-FitTogether d.left d.right p q).0 both in fits_some-from_fits d.left p found.0 found.1
