@@ -1,10 +1,11 @@
 -- What stands at one time after changes.
-use Rattle.std.proofs.Common.{◌≡◌, ℕ, ℤ, Bool, true, false, cond, not, ◌&&◌, List, [], ◌∷◌, filter, find, Option, Some, None, refl, sym, ap, ap₂, ◌∙◌, ⊎_elim, arith}
+use Rattle.std.proofs.Common.{◌≡◌, ℕ, ℤ, Bool, true, false, cond, not, ◌&&◌, List, [], ◌∷◌, filter, find, Some, None, refl, sym, ap, ap₂, ◌∙◌, ⊎_elim, arith}
 use Rattle.std.specs.Prelude.{◌==◌, int_lt}
 use Rattle.std.specs.List.{list_all}
 use Rattle.std.specs.Option.{option_or}
 use Rattle.std.specs.Ordering.{int_eq}
 use Rattle.std.proofs.lemmas.Int.{ints}
+use Rattle.std.proofs.lemmas.List.{append-nil}
 use Rattle.std.proofs.lemmas.List.Folds.{find-append}
 use Rattle.ec_lists.proofs.Finds.{find-filter, find_agree}
 use Rattle.ec_rows.specs.declared.mark.Mark.{Mark}
@@ -24,10 +25,6 @@ find-filtered_none p q never xs = find-filter p q xs ∙ find_agree (λ x. q x &
 
 find-filtered_all : {X : Type 0} (p q : X → Bool) → ((x : X) → (q x && p x) ≡ p x) → (xs : List X) → find p (filter q xs) ≡ find p xs
 find-filtered_all p q always xs = find-filter p q xs ∙ find_agree (λ x. q x && p x) p always xs
-
-option_or-None : {X : Type 0} (o : Option X) → option_or o None ≡ o
-option_or-None None = refl
-option_or-None (Some x) = refl
 
 -- ---- facts on whole numbers
 
@@ -92,7 +89,7 @@ module _ {T : Type 0} (rank : T → ℤ) (t : ℤ) where
         (λ earlier. ap₂ option_or
         (find-filtered_all is_at (λ m. int_lt (rank m.at) (rank mark.at)) (λ m. before-all_same (rank m.at) (rank mark.at) t earlier) marks)
         (find-filtered_none is_at (λ m. int_lt (rank mark.at) (rank m.at)) (λ m. behind-none_earlier (rank m.at) (rank mark.at) t earlier) marks)
-        ∙ option_or-None (find is_at marks))
+        ∙ sym (find-append is_at marks []) ∙ ap (find is_at) (append-nil marks))
         (λ later. ap₂ option_or
         (find-filtered_none is_at (λ m. int_lt (rank m.at) (rank mark.at)) (λ m. before-none_later (rank m.at) (rank mark.at) t later) marks)
         (find-filtered_all is_at (λ m. int_lt (rank mark.at) (rank m.at)) (λ m. behind-all_later (rank m.at) (rank mark.at) t e later) marks))
