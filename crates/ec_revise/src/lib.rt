@@ -5,6 +5,8 @@ mod change;
 mod laws;
 mod settled;
 mod tally;
+#[cfg(test)]
+mod tests;
 mod turn;
 
 pub use change::{Change, Removal};
