@@ -79,7 +79,12 @@ fn counts(inits: u32, terms: u32, clashes: u32) -> Counts {
 }
 
 /// Two turns: somebody came to be at home, and is no longer taken out of work.
-fn tally_of(neighbours: &Neighbours, home: PropId, work: PropId, alloc: Global) -> Result<Tally, NoMemory>
+fn tally_of(
+    neighbours: &Neighbours,
+    home: PropId,
+    work: PropId,
+    alloc: Global,
+) -> Result<Tally, NoMemory>
     requires home { IsTrue (is_added home neighbours.now.rows) }
     requires work { IsTrue (is_added work neighbours.now.rows) }
 {
