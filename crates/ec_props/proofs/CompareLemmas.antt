@@ -3,13 +3,13 @@ use Rattle.std.proofs.Common.{◌≡◌, ℕ, ◌+◌, ◌<◌, List, ◌∷◌,
 use Rattle.std.specs.Cmp.Lexicographic.{slice_cmp}
 use Rattle.std.specs.Ordering.{nat_cmp, ordering_then}
 use Rattle.std.proofs.lemmas.List.{length-map, get_or-map, drop_more}
+use Rattle.ec_lists.proofs.Orderings.{ordering_then_assoc}
 use Rattle.ec_terms.specs.declared.ground.Arg.{Arg}
 use Rattle.ec_terms.specs.declared.ground.ArgRef.{ArgRef}
 use Rattle.ec_terms.specs.declared.ground.Ground.{Ground}
 use Rattle.ec_terms.specs.declared.ground.GroundRef.{GroundRef}
 use Rattle.ec_terms.specs.Term.{arg_of, ground_of, name_cmp, arg_cmp, term_cmp}
 use Rattle.ec_props.specs.Table.{arity_cmp}
-use Rattle.ec_props.proofs.ArityLemmas.{then-assoc}
 
 -- one argument decides, or leaves it to the rest
 pub args_cmp-step : (xs : List Arg) (refs : List ArgRef) (i : ℕ) (x : Arg) (r d : ArgRef) → i < length xs → length xs ≡ length refs →
@@ -29,5 +29,5 @@ pub term_cmp-steps : (p : Ground) (o : GroundRef) →
     term_cmp p (ground_of o) ≡ ordering_then (arity_cmp p o.name.now (length o.args)) (slice_cmp arg_cmp p.args (map arg_of o.args))
 unfolding term_cmp
 term_cmp-steps p o =
-    then-assoc (name_cmp p.name o.name.now) (nat_cmp (length p.args) (length (map arg_of o.args))) (slice_cmp arg_cmp p.args (map arg_of o.args))
+    sym (ordering_then_assoc (name_cmp p.name o.name.now) (nat_cmp (length p.args) (length (map arg_of o.args))) (slice_cmp arg_cmp p.args (map arg_of o.args)))
     ∙ ap (λ n. ordering_then (ordering_then (name_cmp p.name o.name.now) (nat_cmp (length p.args) n)) (slice_cmp arg_cmp p.args (map arg_of o.args))) (length-map o.args arg_of)

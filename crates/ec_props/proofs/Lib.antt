@@ -1,5 +1,4 @@
 pub mod KeptLemmas
-pub mod ArityLemmas
 pub mod TableLemmas
 pub mod ChangeLemmas
 pub mod CompareLemmas

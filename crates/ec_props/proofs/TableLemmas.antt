@@ -12,10 +12,9 @@ use Rattle.ec_terms.specs.declared.ids.PropId.{PropId}
 use Rattle.ec_terms.specs.Term.{term_cmp, term_eq}
 use Rattle.ec_terms.proofs.OrderLemmas.{term_cmp-total, term_eq-Decides}
 use Rattle.ec_rows.specs.Ordered.{Reserved, is_ascending}
-use Rattle.ec_rows.proofs.OrderedLemmas.{IsPlace, IsPlace-by_key, IsPartitionedBy-ascending, is_at, is_eq-is_at, length-partition, filter-behind_free, free-from_none, at-from_any}
+use Rattle.ec_rows.proofs.OrderedLemmas.{IsPlace, IsPlace-by_key, IsPartitionedBy-ascending, is_at, is_eq-is_at, filter-behind_free, free-from_none, at-from_any}
 use Rattle.ec_props.proofs.KeptLemmas.{find-term, term_eq-is_eq, place-prop_at, same-places, list_any-absent, list_any-kept}
-use Rattle.ec_props.proofs.ArityLemmas.{IsRising-arity}
-use Rattle.ec_props.specs.Table.{KeptProp, prop_at, prop_of, prop_before, arity_cmp, props_below, kept_as, number_of, kept_of, IsTable}
+use Rattle.ec_props.specs.Table.{KeptProp, prop_at, prop_of, prop_before, kept_as, number_of, kept_of, IsTable}
 use Rattle.ec_props.specs.declared.property.Property.{Property}
 use Rattle.ec_lists.proofs.Tests.{list_any-same}
 
@@ -136,20 +135,10 @@ module _ (property_at : ℕ → Option Property) (order : List PropId) (table : 
       IsPartitionedBy-numbers property_at (λ t. term_cmp t term) order (kept_of property_at order) table.numbers (AllHeld-kept_of property_at order)
       (IsPartitionedBy-ascending prop_before (λ k. is_lt (term_cmp k.term term)) (IsPlace-term term).keeps (kept_of property_at order) table.in_order)
 
-  pub IsPartitionedBy-arity : (name : List ℕ) (arity : ℕ) → IsPartitionedBy (number_test property_at (λ t. arity_cmp t name arity)) order
-  IsPartitionedBy-arity name arity =
-      IsPartitionedBy-numbers property_at (λ t. arity_cmp t name arity) order (kept_of property_at order) table.numbers (AllHeld-kept_of property_at order)
-      (IsPartitionedBy-ascending prop_before (λ k. is_lt (arity_cmp k.term name arity)) (IsRising-arity name arity).below (kept_of property_at order) table.in_order)
-
   pub IsCut-numbers : (place : Ground → Ordering) (i : ℕ) → i ≤ length order →
       IsPartitionPoint (λ p. number_test property_at place p ≡ true) (λ p. number_test property_at place p ≡ false) order i → IsCut place i
   IsCut-numbers place i within cut =
       IsPartitionPoint-numbers property_at place order (kept_of property_at order) i table.numbers (AllHeld-kept_of property_at order) (subst (λ n. i ≤ n) length-order within) cut
-
-  pub length-below : (name : List ℕ) (arity i : ℕ) → i ≤ length order → IsCut (λ t. arity_cmp t name arity) i →
-      i ≡ length (props_below name arity (kept_of property_at order))
-  length-below name arity i within cut =
-      length-partition (λ k. is_lt (arity_cmp k.term name arity)) (kept_of property_at order) i (subst (λ n. i ≤ n) length-order within) cut
 
   -- ---- what stands at a place
 

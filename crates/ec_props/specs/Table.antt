@@ -1,8 +1,8 @@
 -- A table of properties: distinct terms in term order, each under a number and with a count of its mentions.
-use Rattle.std.specs.Prelude.{◌≡◌, ℕ, Bool, not, ◌&&◌, if◌then◌else◌, ◌==◌, List, length, map, filter, find, filter_map, Option, Some, option_map, IsTrue, bytes_eq}
+use Rattle.std.specs.Prelude.{◌≡◌, ℕ, Bool, not, if◌then◌else◌, ◌==◌, List, length, map, filter, find, filter_map, Option, Some, option_map, IsTrue}
 use Rattle.std.specs.List.{All}
 use Rattle.std.specs.declared.cmp.Ordering.{Ordering}
-use Rattle.std.specs.Ordering.{nat_cmp, is_lt, is_gt, ordering_then}
+use Rattle.std.specs.Ordering.{nat_cmp, is_lt, ordering_then}
 use Rattle.ec_terms.specs.declared.ground.Ground.{Ground}
 use Rattle.ec_terms.specs.declared.ids.PropId.{PropId}
 use Rattle.ec_terms.specs.Term.{name_cmp, names_are_names, term_cmp, term_eq, term_text}
@@ -47,18 +47,6 @@ is_in_order table = is_ascending prop_before table
 -- how a term stands to a name and a number of arguments: by the name, then by the number
 abbrev pub arity_cmp : Ground → List ℕ → ℕ → Ordering
 arity_cmp term name arity = ordering_then (name_cmp term.name name) (nat_cmp (length term.args) arity)
-
--- the properties that stand before those with a name and a number of arguments
-abbrev pub props_below : List ℕ → ℕ → List KeptProp → List KeptProp
-props_below name arity table = filter (λ kept. is_lt (arity_cmp kept.term name arity)) table
-
--- the properties with that name and that number of arguments
-abbrev pub props_with : List ℕ → ℕ → List KeptProp → List KeptProp
-props_with name arity table = filter (λ kept. bytes_eq kept.term.name name && (length kept.term.args == arity)) table
-
--- the properties that stand behind those
-abbrev pub props_above : List ℕ → ℕ → List KeptProp → List KeptProp
-props_above name arity table = filter (λ kept. is_gt (arity_cmp kept.term name arity)) table
 
 -- ---- changes
 

@@ -1,11 +1,11 @@
-ghost use Rattle.std.specs.Prelude.{◌≡◌, ◌≢◌, ◌+◌, ◌<◌, ◌≤◌, ◌++◌, ℕ, [], true, false, None, Some, IsTrue, IsSome, IfSome, IfOk, OnOk, All, length, slice_get, map, option_map, take, drop, if◌then◌else◌};
+ghost use Rattle.std.specs.Prelude.{◌≡◌, ◌≢◌, ◌+◌, ◌<◌, ◌≤◌, ℕ, [], true, false, None, Some, IsTrue, IsSome, IfSome, IfOk, OnOk, All, length, slice_get, map, option_map, take, drop, if◌then◌else◌};
 ghost use Rattle.std.specs.List.Sorted.{IsPartitionPoint};
 ghost use Rattle.std.specs.Ordering.{is_lt};
 ghost use Rattle.ec_terms.specs.Term.{ground_of, names_are_names, term_cmp, term_eq};
-ghost use Rattle.ec_props.specs.Table.{prop_at, term_at, mentions_at, prop_of, is_in_order, number_of, with_prop, without_prop, with_mentions, props_below, props_with, props_above};
+ghost use Rattle.ec_props.specs.Table.{prop_at, term_at, mentions_at, prop_of, is_in_order, number_of, with_prop, without_prop, with_mentions};
 
 use crate::property::Property;
-use crate::search::{count_before, count_below};
+use crate::search::count_before;
 use ec_blocks::Blocks;
 use ec_terms::{Ground, GroundRef, NoMemory, PropId};
 use slab::Slab;
@@ -99,14 +99,6 @@ impl Records {
         ensures cut { IsPartitionPoint (λ kept. is_lt (term_cmp kept.term (ground_of term.now)) ≡ true) (λ kept. is_lt (term_cmp kept.term (ground_of term.now)) ≡ false) self.now.items result }
     {
         count_before(&self.properties, &self.order, term)
-    }
-
-    /// How many properties stand before all with a name and a number of arguments.
-    pub(crate) fn first_of(&self, name: &[u8], arity: usize) -> usize
-        ensures count { result ≡ length (props_below name.now arity self.now.items) }
-        ensures run { self.now.items ≡ props_below name.now arity self.now.items ++ props_with name.now arity self.now.items ++ props_above name.now arity self.now.items }
-    {
-        count_below(&self.properties, &self.order, name, arity)
     }
 
     /// Makes room for one further property. A refusal leaves all as it was.

@@ -5,7 +5,7 @@ ghost use Rattle.std.specs.Ordering.{is_lt, is_some_and};
 ghost use Rattle.slab.specs.Slab.{get as property_at};
 ghost use Rattle.std.specs.Cmp.Lexicographic.{slice_cmp};
 ghost use Rattle.ec_terms.specs.Term.{arg_of, arg_cmp, ground_of, term_cmp};
-ghost use Rattle.ec_props.specs.Table.{IsTable, kept_of, arity_cmp, props_below};
+ghost use Rattle.ec_props.specs.Table.{IsTable, kept_of, arity_cmp};
 
 use crate::property::Property;
 use ec_blocks::Blocks;
@@ -57,19 +57,6 @@ fn compare_at(properties: &Slab<Property>, p: PropId, term: &GroundRef<'_>) -> O
     Some(compare(&property.term, term))
 }
 
-/// How the property under a number stands to all with a name and a number of arguments, if there is one.
-fn compare_arity_at(
-    properties: &Slab<Property>,
-    p: PropId,
-    name: &[u8],
-    arity: usize,
-) -> Option<Ordering>
-    ensures { result ≡ option_map (λ property. arity_cmp property.term name.now arity) (property_at properties.now p.0) }
-{
-    let property = properties.get(p.0)?;
-    Some(compare_arity(&property.term, name, arity))
-}
-
 /// Whether the property under a number stands before a term.
 fn is_before(properties: &Slab<Property>, p: PropId, term: &GroundRef<'_>) -> bool
     ensures { result ≡ is_some_and is_lt (option_map (λ property. term_cmp property.term (ground_of term.now)) (property_at properties.now p.0)) }
@@ -91,22 +78,5 @@ pub(crate) fn count_before(
         |p| -> bool
             ensures { result ≡ is_some_and is_lt (option_map (λ property. term_cmp property.term (ground_of term.entry.now)) (property_at properties.entry.now p.now.0)) }
         { is_before(properties, *p, term) },
-    )
-}
-
-/// How many properties stand before all with a name and a number of arguments.
-pub(crate) fn count_below(
-    properties: &Slab<Property>,
-    order: &Blocks<PropId>,
-    name: &[u8],
-    arity: usize,
-) -> usize
-    requires { IsTable (property_at properties.now) order.now.items }
-    ensures { result ≡ length (props_below name.now arity (kept_of (property_at properties.now) order.now.items)) }
-{
-    order.partition_point(
-        |p| -> bool
-            ensures { result ≡ is_some_and is_lt (option_map (λ property. arity_cmp property.term name.entry.now arity) (property_at properties.entry.now p.now.0)) }
-        { compare_arity_at(properties, *p, name, arity).is_some_and(Ordering::is_lt) },
     )
 }

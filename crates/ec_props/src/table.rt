@@ -1,6 +1,6 @@
-ghost use Rattle.std.specs.Prelude.{◌≡◌, ◌≢◌, ◌+◌, ◌-◌, ◌^◌, ◌<◌, ◌≤◌, ◌++◌, ℕ, [], None, Some, IsTrue, IsSome, IsOk, IfOk, OnErr, IfSome, All, length, slice_get, map, option_map, take, drop};
+ghost use Rattle.std.specs.Prelude.{◌≡◌, ◌≢◌, ◌+◌, ◌-◌, ◌^◌, ◌<◌, ◌≤◌, ℕ, [], None, Some, IsTrue, IsSome, IsOk, IfOk, OnErr, IfSome, All, length, slice_get, map, option_map, take, drop};
 ghost use Rattle.ec_terms.specs.Term.{ground_of, names_are_names};
-ghost use Rattle.ec_props.specs.Table.{prop_at, term_at, mentions_at, prop_of, is_in_order, number_of, props_below, props_with, props_above, with_prop, without_prop, with_mentions};
+ghost use Rattle.ec_props.specs.Table.{prop_at, term_at, mentions_at, prop_of, is_in_order, number_of, with_prop, without_prop, with_mentions};
 
 use crate::names::has_names;
 use crate::records::Records;
@@ -101,15 +101,6 @@ impl PropTable {
             return None;
         }
         by_text.get(text(term).as_bytes()).copied()
-    }
-
-    /// The place in the order of the first property that does not stand before those with a name and a number
-    /// of arguments. All that have them stand one after another from there on.
-    pub fn first_of(&self, name: &[u8], arity: usize) -> usize
-        ensures count { result ≡ length (props_below name.now arity self.now) }
-        ensures run { self.now ≡ props_below name.now arity self.now ++ props_with name.now arity self.now ++ props_above name.now arity self.now }
-    {
-        self.records.first_of(name, arity)
     }
 
     /// The number of a term, which is kept from then on. A term that is kept stays as it is, and takes no memory.

@@ -29,18 +29,6 @@ const TERMS: [&[u8]; 14] = [
 /// Other terms: before all of these, between two of them, and behind all.
 const ABSENT: [&[u8]; 5] = [b"kamp", b"lamp(5)", b"lamp(4,3)", b"plug(a,b)", b"plugs"];
 
-/// A name and a number of arguments, the place of the first of the terms with them, and how many there are.
-const RUNS: [(&[u8], usize, usize, usize); 8] = [
-    (b"kamp", 0, 0, 0),
-    (b"lamp", 0, 0, 1),
-    (b"lamp", 1, 1, 8),
-    (b"lamp", 2, 9, 2),
-    (b"lamp", 3, 11, 0),
-    (b"lamp2", 0, 11, 1),
-    (b"plug", 3, 13, 1),
-    (b"plugs", 0, 14, 0),
-];
-
 /// The term that a text spells.
 fn term<'a>(rt: &impl Abort, spelt: &'a [u8]) -> GroundRef<'a>
     ensures { IsTrue (names_are_names (ground_of result)) }
@@ -63,26 +51,9 @@ fn keep(rt: &impl Abort, table: &mut PropTable, term: &GroundRef<'_>) -> PropId
     }
 }
 
-/// Whether a term has a name and a number of arguments.
-fn has_arity(term: &GroundRef<'_>, name: &[u8], arity: usize) -> bool {
-    term.name == name && term.args.len() == arity
-}
-
-/// How many properties from a place on have a name and a number of arguments.
-fn count_from(table: &PropTable, first: usize, name: &[u8], arity: usize) -> usize {
-    let mut count = 0;
-    for place in first..table.len() {
-        if has_arity(&table.ground(table.nth_in_order(place)), name, arity) {
-            count += 1;
-        }
-    }
-    count
-}
-
 #[test]
 fn terms_stand_in_order(rt: HostRuntime) {
     let mut table = PropTable::new(rt.alloc()).expect(&rt, "memory");
-    assert_eq!(rt; table.first_of(b"lamp", 0), 0);
     for step in 0..TERMS.len() {
         let _ = keep(&rt, &mut table, &term(&rt, TERMS[step * 5 % TERMS.len()]));
     }
@@ -97,11 +68,6 @@ fn terms_stand_in_order(rt: HostRuntime) {
     }
     for spelt in ABSENT {
         assert_eq!(rt; table.lookup(&term(&rt, spelt)), None);
-    }
-    for (name, arity, first, count) in RUNS {
-        assert_eq!(rt; table.first_of(name, arity), first, "at {first}");
-        assert_eq!(rt; count_from(&table, 0, name, arity), count, "at {first}");
-        assert_eq!(rt; count_from(&table, first, name, arity), count, "at {first}");
     }
 }
 

@@ -31,7 +31,7 @@ fn extend_within<X: Copy>(items: &mut Vec<X>, more: &[X])
 }
 
 /// Puts the items `with` in place of those from one place up to another, where the `Vec` has room for
-/// what it grows by. The tail moves once, and each new item is written once into its place.
+/// what it grows by. The tail moves once, if its place changes, and each new item is written once into its place.
 pub(crate) fn splice_within<X: Copy>(items: &mut Vec<X>, from: usize, to: usize, with: &[X])
     requires ordered { from ≤ to }
     requires within { to ≤ vec_len items.old }
@@ -40,6 +40,10 @@ pub(crate) fn splice_within<X: Copy>(items: &mut Vec<X>, from: usize, to: usize,
     ensures len { vec_len items.new + (to - from) ≡ vec_len items.old + length with.now }
     ensures capacity { vec_capacity items.old ≤ vec_capacity items.new }
 {
+    if with.len() == to - from {
+        items[from..to].copy_from_slice(with);
+        return;
+    }
     let tail = items.len() - to;
     let end = from + with.len();
     let growth = end.saturating_sub(to);
