@@ -1,6 +1,6 @@
 //! What no clause shows: that memory is given, and what stands in the lists under some theories.
-ghost use Rattle.std.specs.Prelude.{◌≡◌, IsTrue, IsSome, IfOk, OnOk};
-ghost use Rattle.ec_terms.specs.Binding.{IsSmall};
+ghost use Rattle.std.specs.Prelude.{◌≡◌, ◌<◌, IsTrue, IsSome, IfOk, OnOk};
+ghost use Rattle.ec_terms.specs.Binding.{is_small_place, IsSmall};
 ghost use Rattle.ec_terms.specs.Matchable.{IsMatchable};
 ghost use Rattle.ec_terms.specs.Term.{ground_of, names_are_names};
 ghost use Rattle.ec_props.specs.Table.{prop_at};
@@ -9,7 +9,7 @@ ghost use Rattle.ec_exclusive.specs.Neighbours.{AreNeighbours};
 use crate::{Neighbours, exclusive};
 use ec_props::PropTable;
 use ec_terms::{
-    ArgRef, ArgRefs, Exclusive, GroundRef, Name, NoMemory, PatArg, PatArgs, Pattern, PropId,
+    Arg, ArgRef, ArgRefs, Exclusive, GroundRef, Name, NoMemory, PatArg, PatArgs, Pattern, PropId,
     Sequence, Theory, read_ground,
 };
 use std::alloc::Global;
@@ -99,25 +99,52 @@ fn pattern(rt: &impl Abort, alloc: Global, shape: Shape) -> Result<Pattern, NoMe
     Ok(Pattern { name, args })
 }
 
-fn theory(rt: &impl Abort, alloc: Global, declared: Declared) -> Result<Theory, NoMemory>
-    ensures { IfOk result IsMatchable }
+/// A theory of no declarations.
+fn undeclared(alloc: Global) -> Theory
+    ensures { IsMatchable result }
 {
-    let mut theory = Theory {
+    Theory {
         rules: Sequence::new(alloc),
         exclusives: Sequence::new(alloc),
         strongs: Sequence::new(alloc),
         initials: Sequence::new(alloc),
-    };
+    }
+}
+
+/// Adds the declaration that two patterns are exclusive.
+fn declare(theory: &mut Theory, left: Pattern, right: Pattern) -> Result<(), NoMemory>
+    requires theory { IsMatchable theory.old }
+    requires left { IsSmall left }
+    requires right { IsSmall right }
+    ensures { OnOk result (IsMatchable theory.new) }
+{
+    theory.exclusives.push(Exclusive {
+        clause: 1,
+        left,
+        right,
+    })?;
+    Ok(())
+}
+
+fn theory(rt: &impl Abort, alloc: Global, declared: Declared) -> Result<Theory, NoMemory>
+    ensures { IfOk result IsMatchable }
+{
+    let mut theory = undeclared(alloc);
     for (left, right) in declared {
         let left = pattern(rt, alloc, *left)?;
         let right = pattern(rt, alloc, *right)?;
-        theory.exclusives.push(Exclusive {
-            clause: 1,
-            left,
-            right,
-        })?;
+        declare(&mut theory, left, right)?;
     }
     Ok(theory)
+}
+
+/// A table of no properties, and no neighbours.
+fn nothing(alloc: Global, theory: &Theory) -> Result<(PropTable, Neighbours), NoMemory>
+    ensures { IfOk result (λ made. AreNeighbours theory.now made.0 made.1) }
+{
+    let props = PropTable::new(alloc)?;
+    let neighbours = Neighbours::new(alloc)?;
+    Ok((props, neighbours))
 }
 
 /// Keeps a term, and adds it.
@@ -169,23 +196,53 @@ fn has_neighbours(neighbours: &Neighbours, ids: &[PropId], p: PropId, places: &[
             .all(|(q, place)| ids.get(*place) == Some(q))
 }
 
+/// The term that a text spells.
+fn term_of<'a>(rt: &impl Abort, text: &'a [u8]) -> GroundRef<'a>
+    ensures { IsTrue (names_are_names (ground_of result)) }
+{
+    let (term, _) = read_ground(text).expect(rt, "a term");
+    term
+}
+
+/// Keeps terms, adds them one by one, and gives their numbers.
+fn enter_all(
+    rt: &impl Abort,
+    alloc: Global,
+    theory: &Theory,
+    props: &mut PropTable,
+    neighbours: &mut Neighbours,
+    terms: &[&[u8]],
+) -> Result<Vec<PropId>, NoMemory>
+    requires matchable { IsMatchable theory.now }
+    requires neighbours { AreNeighbours theory.now props.old neighbours.old }
+    ensures { OnOk result (AreNeighbours theory.now props.new neighbours.new) }
+{
+    let mut ids = Vec::new(alloc);
+    for text in terms {
+        let term = term_of(rt, text);
+        let p = enter(theory, props, neighbours, &term)?;
+        ids.push(p)?;
+    }
+    Ok(ids)
+}
+
+/// Whether each property has its neighbours, which are given by their places among the properties.
+fn all_have_neighbours(neighbours: &Neighbours, ids: &[PropId], wanted: &[&[usize]]) -> bool {
+    for (p, places) in ids.iter().zip(wanted) {
+        if !has_neighbours(neighbours, ids, *p, places) {
+            return false;
+        }
+    }
+    ids.len() == wanted.len()
+}
+
 /// Builds a row and says whether each of its properties has its neighbours.
 fn stands(rt: &impl Abort, alloc: Global, row: &Row) -> Result<bool, NoMemory> {
     let (declared, terms, wanted) = row;
     let theory = theory(rt, alloc, declared)?;
-    let mut props = PropTable::new(alloc)?;
-    let mut neighbours = Neighbours::new(alloc)?;
-    let mut ids = Vec::new(alloc);
-    for term in *terms {
-        let (term, _) = read_ground(term).expect(rt, "a term");
-        ids.push(enter(&theory, &mut props, &mut neighbours, &term)?)?;
-    }
-    for (p, places) in ids.iter().zip(*wanted) {
-        if !has_neighbours(&neighbours, &ids, *p, places) {
-            return Ok(false);
-        }
-    }
-    Ok(ids.len() == wanted.len())
+    let (mut props, mut neighbours) = nothing(alloc, &theory)?;
+    let ids = enter_all(rt, alloc, &theory, &mut props, &mut neighbours, terms)?;
+    Ok(all_have_neighbours(&neighbours, &ids, wanted))
 }
 
 #[test]
@@ -196,24 +253,62 @@ fn each_added_property_has_its_neighbours(rt: HostRuntime) -> Result<(), Fail> {
     Ok(())
 }
 
-/// Whether a property that goes and comes back has the neighbours that it had, under the number that it had.
+/// Whether two properties are the neighbours of one another.
+fn are_two(neighbours: &Neighbours, ids: &[PropId; 2]) -> bool {
+    all_have_neighbours(neighbours, ids, &[&[1], &[0]])
+}
+
+/// Whether the second of two neighbours goes, so that the first has none, and comes back under the number that it had.
+fn goes_and_comes(
+    theory: &Theory,
+    props: &mut PropTable,
+    neighbours: &mut Neighbours,
+    ids: &[PropId; 2],
+    second: &GroundRef<'_>,
+) -> Result<bool, NoMemory>
+    requires matchable { IsMatchable theory.now }
+    requires named { IsTrue (names_are_names (ground_of second.now)) }
+    requires neighbours { AreNeighbours theory.now props.old neighbours.old }
+{
+    if !leave(theory, props, neighbours, ids[1]) || neighbours.is_added(ids[1]) {
+        return Ok(false);
+    }
+    if !has_neighbours(neighbours, ids, ids[0], &[]) {
+        return Ok(false);
+    }
+    Ok(enter(theory, props, neighbours, second)? == ids[1])
+}
+
+/// Keeps two terms. Whether they are neighbours, and are so again after the second has gone and come back.
+fn two_come_back(
+    theory: &Theory,
+    props: &mut PropTable,
+    neighbours: &mut Neighbours,
+    first: &GroundRef<'_>,
+    second: &GroundRef<'_>,
+) -> Result<bool, NoMemory>
+    requires matchable { IsMatchable theory.now }
+    requires first { IsTrue (names_are_names (ground_of first.now)) }
+    requires second { IsTrue (names_are_names (ground_of second.now)) }
+    requires neighbours { AreNeighbours theory.now props.old neighbours.old }
+{
+    let p = enter(theory, props, neighbours, first)?;
+    let q = enter(theory, props, neighbours, second)?;
+    let ids = [p, q];
+    if !are_two(neighbours, &ids) {
+        return Ok(false);
+    }
+    let same = goes_and_comes(theory, props, neighbours, &ids, second)?;
+    Ok(same && are_two(neighbours, &ids))
+}
+
+/// Whether a property that goes and comes back has the neighbours that it had.
 fn comes_back(rt: &impl Abort, alloc: Global) -> Result<bool, NoMemory> {
     let theory = theory(rt, alloc, ONE_PLACE)?;
-    let mut props = PropTable::new(alloc)?;
-    let mut neighbours = Neighbours::new(alloc)?;
-    let (home, _) = read_ground(b"at(bob,home)").expect(rt, "a term");
-    let (work, _) = read_ground(b"at(bob,work)").expect(rt, "a term");
-    let first = enter(&theory, &mut props, &mut neighbours, &home)?;
-    let second = enter(&theory, &mut props, &mut neighbours, &work)?;
-    let ids = [first, second];
-    let together = has_neighbours(&neighbours, &ids, first, &[1])
-        && has_neighbours(&neighbours, &ids, second, &[0]);
-    let left = leave(&theory, &mut props, &mut neighbours, second);
-    let alone = has_neighbours(&neighbours, &ids, first, &[]) && !neighbours.is_added(second);
-    let again = enter(&theory, &mut props, &mut neighbours, &work)?;
-    let back = has_neighbours(&neighbours, &ids, first, &[1])
-        && has_neighbours(&neighbours, &ids, again, &[0]);
-    Ok(together && left && alone && again == second && back)
+    let (mut props, mut neighbours) = nothing(alloc, &theory)?;
+    let home = term_of(rt, b"at(bob,home)");
+    let work = term_of(rt, b"at(bob,work)");
+    two_come_back(&theory, &mut props, &mut neighbours, &home, &work)
 }
 
 #[test]
@@ -281,5 +376,148 @@ fn many_stand(rt: &impl Abort, alloc: Global) -> Result<bool, NoMemory> {
 #[test]
 fn many_properties_have_the_neighbours_of_the_plain_test(rt: HostRuntime) -> Result<(), Fail> {
     assert!(rt; many_stand(&rt, rt.alloc())?);
+    Ok(())
+}
+
+/// Numbers that look random: the high bits of a congruential generator of 64 bits, from seed 1.
+#[derive(Drop)]
+struct Draws {
+    state: u64,
+}
+
+impl Draws {
+    /// A number below `n`.
+    fn draw(&mut self, n: u64) -> u64
+        requires { 0 < n }
+        ensures { result < n }
+    {
+        self.state = self
+            .state
+            .wrapping_mul(6364136223846793005)
+            .wrapping_add(1442695040888963407);
+        (self.state >> 33) % n
+    }
+}
+
+/// The names of random terms and patterns.
+fn drawn_name(draws: &mut Draws) -> &'static [u8] {
+    if draws.draw(3) < 2 { b"p" } else { b"q" }
+}
+
+/// The words that are arguments of random terms and patterns.
+fn drawn_word(draws: &mut Draws) -> &'static [u8] {
+    if draws.draw(2) == 0 { b"a" } else { b"b" }
+}
+
+/// A random place of a pattern: one of three variables, `_`, or a fixed argument.
+fn drawn_place(rt: &impl Abort, draws: &mut Draws) -> PatArg
+    ensures { IsTrue (is_small_place result) }
+{
+    match draws.draw(8) {
+        0 => PatArg::Any,
+        1 => PatArg::Fixed(Arg::Int(1)),
+        2 => PatArg::Fixed(Arg::Word(Name::from_bytes(drawn_word(draws)).expect(rt, "a name"))),
+        _ => PatArg::Var(draws.draw(3) as u32),
+    }
+}
+
+/// A random pattern of up to two places.
+fn drawn_pattern(rt: &impl Abort, alloc: Global, draws: &mut Draws) -> Result<Pattern, NoMemory>
+    ensures { IfOk result IsSmall }
+{
+    let mut args = PatArgs::new(alloc);
+    for _ in 0..draws.draw(3) {
+        assert!(rt; args.len() < 8);
+        args.push(drawn_place(rt, draws))?;
+    }
+    let name = Name::from_bytes(drawn_name(draws)).expect(rt, "a name");
+    Ok(Pattern { name, args })
+}
+
+/// A random theory of one to three declarations.
+fn drawn_theory(rt: &impl Abort, alloc: Global, draws: &mut Draws) -> Result<Theory, NoMemory>
+    ensures { IfOk result IsMatchable }
+{
+    let mut theory = undeclared(alloc);
+    for _ in 0..draws.draw(3) + 1 {
+        let left = drawn_pattern(rt, alloc, draws)?;
+        let right = drawn_pattern(rt, alloc, draws)?;
+        declare(&mut theory, left, right)?;
+    }
+    Ok(theory)
+}
+
+/// The terms of random histories: each fits many patterns.
+const TERMS: [&[u8]; 16] = [
+    b"p", b"q", b"p(a)", b"p(b)", b"p(1)", b"q(a)", b"q(1)", b"p(a,a)", b"p(a,b)", b"p(b,a)",
+    b"p(a,1)", b"p(1,a)", b"p(1,1)", b"q(a,a)", b"q(a,b)", b"q(1,b)",
+];
+
+/// Keeps and adds a term that is not kept, and takes away one that is.
+fn turn(
+    theory: &Theory,
+    props: &mut PropTable,
+    neighbours: &mut Neighbours,
+    term: &GroundRef<'_>,
+) -> Result<(), NoMemory>
+    requires matchable { IsMatchable theory.now }
+    requires named { IsTrue (names_are_names (ground_of term.now)) }
+    requires neighbours { AreNeighbours theory.now props.old neighbours.old }
+    ensures { OnOk result (AreNeighbours theory.now props.new neighbours.new) }
+{
+    if let Some(p) = props.lookup(term) {
+        let _ = leave(theory, props, neighbours, p);
+        return Ok(());
+    }
+    enter(theory, props, neighbours, term)?;
+    Ok(())
+}
+
+/// How many neighbours all properties have together. `None`: those of some property are not those of the plain test.
+fn count_neighbours(theory: &Theory, props: &PropTable, neighbours: &Neighbours) -> Option<usize>
+    requires { IsMatchable theory.now }
+{
+    let mut count: usize = 0;
+    for i in 0..props.len() {
+        let p = props.nth_in_order(i);
+        if !neighbours.is_added(p) || !has_all(theory, props, neighbours, p) {
+            return None;
+        }
+        count = count.wrapping_add(neighbours.of(p).len());
+    }
+    Some(count)
+}
+
+/// Adds and takes away properties at random, sees after each change that all have the neighbours of the plain test, and
+/// counts these.
+fn count_drawn(
+    rt: &impl Abort,
+    alloc: Global,
+    theory: &Theory,
+    draws: &mut Draws,
+) -> Result<usize, NoMemory>
+    requires { IsMatchable theory.now }
+{
+    let (mut props, mut neighbours) = nothing(alloc, theory)?;
+    let mut sum: usize = 0;
+    for _ in 0..60 {
+        let term = term_of(rt, TERMS[draws.draw(16) as usize]);
+        turn(theory, &mut props, &mut neighbours, &term)?;
+        let count = count_neighbours(theory, &props, &neighbours).expect(rt, "neighbours");
+        sum = sum.wrapping_add(count);
+    }
+    Ok(sum)
+}
+
+#[test]
+fn random_theories_give_the_neighbours_of_the_plain_test(rt: HostRuntime) -> Result<(), Fail> {
+    let mut draws = Draws { state: 1 };
+    let mut sum: usize = 0;
+    for _ in 0..200 {
+        let theory = drawn_theory(&rt, rt.alloc(), &mut draws)?;
+        let count = count_drawn(&rt, rt.alloc(), &theory, &mut draws)?;
+        sum = sum.wrapping_add(count);
+    }
+    assert!(rt; 10000 < sum);
     Ok(())
 }
