@@ -9,6 +9,8 @@ mod points;
 mod row;
 mod rows;
 #[cfg(test)]
+mod tally_tests;
+#[cfg(test)]
 mod tests;
 
 pub use change::MarkChange;

@@ -11,7 +11,7 @@ use ec_terms::{NoMemory, PropId};
 use std::alloc::Global;
 
 /// A mark of a property: the number of the property, the time, and the three counts.
-type Given = (usize, i64, u32, u32, u32);
+pub(crate) type Given = (usize, i64, u32, u32, u32);
 
 /// The mark that is given.
 fn mark_of(given: &Given) -> Mark<Tick> {
@@ -43,7 +43,7 @@ fn add<M: MarkRow<Tick>>(
 }
 
 /// Makes the marks of a property as they are given, all in one change. Of two at one place the first counts.
-fn put<M: MarkRow<Tick>>(
+pub(crate) fn put<M: MarkRow<Tick>>(
     alloc: Global,
     points: &mut Points<Tick, M>,
     given: &[Given],
