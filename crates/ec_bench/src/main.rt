@@ -2,22 +2,29 @@
 //!
 //! - `insertions N PLACE..` inserts N members one by one into a list in blocks, at each of the places `front`,
 //!   `middle` and `random`, and prints the length of the list and a checksum of its order.
+//! - `neighbours N` adds N properties `place(b,s)`, some four of each `b`, in a theory that makes those of one `b`
+//!   exclusive, and prints how many neighbours they have together.
 //! - `sizes` prints how many bytes each thing takes of which the engine keeps many.
 #![tactic(auto)]
 
 mod draws;
 mod insertions;
+mod neighbours;
 mod sizes;
+#[cfg(test)]
+mod tests;
 
 use anyhow::{Context, Result, bail};
 use insertions::{Place, checksum, filled};
+use neighbours::count_neighbours;
 use sizes::print_sizes;
 use std::alloc::Global;
 use std::env;
 use std::string::String;
 
 /// What is printed where the words ask for nothing.
-const USAGE: &str = "usage: ec_bench insertions N front|middle|random.. | ec_bench sizes";
+const USAGE: &str =
+    "usage: ec_bench insertions N front|middle|random.. | ec_bench neighbours N | ec_bench sizes";
 
 /// Fills a list at each of the places that are named, and prints its length and its checksum.
 fn print_insertions(rt: &impl Print, alloc: Global, count: usize, places: &[String]) -> Result<()> {
@@ -34,14 +41,29 @@ fn print_insertions(rt: &impl Print, alloc: Global, count: usize, places: &[Stri
     Ok(())
 }
 
+/// The number that a word spells.
+fn number_of(word: &String) -> Result<usize> {
+    word.as_str().parse::<usize>().context(USAGE)
+}
+
+/// Adds properties, and prints how many neighbours they have.
+fn print_neighbours(rt: &impl Print, alloc: Global, count: usize) -> Result<()> {
+    let neighbours = count_neighbours(alloc, count)?;
+    println!(rt; "properties {count} neighbours {neighbours}")?;
+    Ok(())
+}
+
 /// Does what the words ask for.
 fn measure(rt: &impl Print, alloc: Global, words: &[String]) -> Result<()> {
     let (command, rest) = words.split_first().context(USAGE)?;
     match command.as_str() {
         "insertions" => {
             let (number, places) = rest.split_first().context(USAGE)?;
-            let count = number.as_str().parse::<usize>().context(USAGE)?;
-            print_insertions(rt, alloc, count, places)
+            print_insertions(rt, alloc, number_of(number)?, places)
+        }
+        "neighbours" => {
+            let (number, _) = rest.split_first().context(USAGE)?;
+            print_neighbours(rt, alloc, number_of(number)?)
         }
         "sizes" => Ok(print_sizes(rt)?),
         _ => bail!("{USAGE}"),
