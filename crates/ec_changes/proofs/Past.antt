@@ -80,7 +80,7 @@ events_up_to-same old new s t same earlier =
 -- ---- rows of marks
 
 -- a mark of a property is that at its instant, and has a count
-IsMember-from_marks_of : (theory : Theory) (events : List PlainEvent) (p : Ground) (mark : PlainMark) → IsMember (marks_of theory events p) mark
+pub IsMember-from_marks_of : (theory : Theory) (events : List PlainEvent) (p : Ground) (mark : PlainMark) → IsMember (marks_of theory events p) mark
     → (mark_at theory events p mark.instant ≡ mark) × IsTrue (is_marked mark)
 unfolding marks_of
 IsMember-from_marks_of theory events p mark member =
@@ -90,7 +90,7 @@ IsMember-from_marks_of theory events p mark member =
     (ap (mark_at theory events p) (sym placed) ∙ found.2, kept.1)
 
 -- and each that has a count is one of them
-IsMember-marks_of : (theory : Theory) (events : List PlainEvent) (p : Ground) (t : ℤ) → IsTrue (is_marked (mark_at theory events p t))
+pub IsMember-marks_of : (theory : Theory) (events : List PlainEvent) (p : Ground) (t : ℤ) → IsTrue (is_marked (mark_at theory events p t))
     → IsMember (marks_of theory events p) (mark_at theory events p t)
 unfolding marks_of
 IsMember-marks_of theory events p t some =
@@ -98,10 +98,10 @@ IsMember-marks_of theory events p t some =
     (IsMember-map (mark_at theory events p) (instants_of events) t (AreAllMarked-mark_at theory events p t some)) some
 
 -- marks stand in the order of their instants
-abbrev is_earlier : PlainMark → PlainMark → Type 0
+abbrev pub is_earlier : PlainMark → PlainMark → Type 0
 is_earlier m n = IsTrue (int_lt m.instant n.instant)
 
-IsPairwise-marks_of : (theory : Theory) (events : List PlainEvent) (p : Ground) → IsTrue (is_history events) → IsPairwise is_earlier (marks_of theory events p)
+pub IsPairwise-marks_of : (theory : Theory) (events : List PlainEvent) (p : Ground) → IsTrue (is_history events) → IsPairwise is_earlier (marks_of theory events p)
 unfolding marks_of
 IsPairwise-marks_of theory events p history =
     IsPairwise-filter is_earlier is_marked (map (mark_at theory events p) (instants_of events))

@@ -17,7 +17,7 @@ some-mentioned None n is = cc
 some-mentioned (Some k) n is = refl
 
 -- a number under which nothing is kept is not among them
-not_among : (props : List PropId) (id : ℕ) (table : List KeptProp) → AreUnmentioned props table → prop_at id table ≡ None → is_among id props ≡ false
+pub not_among : (props : List PropId) (id : ℕ) (table : List KeptProp) → AreUnmentioned props table → prop_at id table ≡ None → is_among id props ≡ false
 unfolding AreUnmentioned
 not_among [] id table all free = refl
 not_among (p ∷ props) id table all free =
@@ -36,7 +36,7 @@ unmentioned-among (p ∷ props) id table all there =
     (λ e. unmentioned-among props id table all.1.1 (sym (ap (λ b. b || is_among id props) e) ∙ there)) (cases_Bool (p.0 == id))
 
 -- they stay so where all that is kept stays
-AreUnmentioned-kept : (props : List PropId) (before after : List KeptProp) → KeepsAll before after → AreUnmentioned props before → AreUnmentioned props after
+pub AreUnmentioned-kept : (props : List PropId) (before after : List KeptProp) → KeepsAll before after → AreUnmentioned props before → AreUnmentioned props after
 unfolding AreUnmentioned
 AreUnmentioned-kept [] before after kept all = tt
 AreUnmentioned-kept (p ∷ props) before after kept all = (
@@ -45,7 +45,7 @@ AreUnmentioned-kept (p ∷ props) before after kept all = (
 )
 
 -- with one more that was not among them
-AreUnmentioned-push : (props : List PropId) (p : PropId) (table : List KeptProp) → AreUnmentioned props table → mentions_at p.0 table ≡ Some 0 →
+pub AreUnmentioned-push : (props : List PropId) (p : PropId) (table : List KeptProp) → AreUnmentioned props table → mentions_at p.0 table ≡ Some 0 →
     is_among p.0 props ≡ false → AreUnmentioned (props ++ p ∷ []) table
 unfolding AreUnmentioned
 AreUnmentioned-push [] p table all mentions other = (mentions, (refl, tt))

@@ -1,5 +1,5 @@
 //! The entries of an event.
-ghost use Rattle.std.specs.Prelude.{◌≡◌, ◌<◌, ◌≤◌, ℕ, Some, IsTrue, IsSome, IfOk, OnErr, All, length, slice_get, map, option_map};
+ghost use Rattle.std.specs.Prelude.{◌≡◌, ◌<◌, ◌≤◌, ℕ, Some, IsTrue, IsSome, IfOk, OnOk, OnErr, All, [], length, slice_get, map, option_map};
 ghost use Rattle.std.specs.List.{list_any};
 ghost use Rattle.std.specs.Option.{option_to_list};
 ghost use Rattle.ec_terms.specs.Binding.{fills, stands_in, values_of, IsSmall};
@@ -167,8 +167,8 @@ fn gather<'a>(
 
 /// The entries of an event by a theory, in the order of the rules' numbers. Only the rules whose event has the name and
 /// the number of arguments of the event's term are tried. The properties of their heads and their literals are kept in
-/// the table from then on, and those that are new are mentioned 0 times. `added` is a list to work with, so that its room
-/// serves again: what it holds before and afterwards has no meaning. `Err`: memory ran out, and the table is as it was.
+/// the table from then on, and those that are new are mentioned 0 times; `added` tells their numbers, each once, and what
+/// it held before has no meaning. `Err`: memory ran out, and the table is as it was.
 pub fn entries_of<T: Moment>(
     alloc: Global,
     rules: &Rules,
@@ -180,6 +180,7 @@ pub fn entries_of<T: Moment>(
     ensures kept { IfOk result (λ entries. All (IsKeptEntry props.new) entries) }
     ensures list { IfOk result IsEntryList }
     ensures named { IfOk result (λ entries. NamesAllNew props.old props.new entries) }
+    ensures new { OnOk result (HasKept props.old [] props.new added.new.items) }
     ensures widened { IsWidened props.old props.new }
     ensures err { OnErr result (props.new ≡ props.old) }
 {

@@ -30,7 +30,7 @@ pub(crate) fn keep(
 }
 
 /// Forgets the properties of numbers that are new, the latest first. It takes no memory.
-pub(crate) fn forget_each(props: &mut PropTable, added: &mut Vec<PropId>)
+pub fn forget_each(props: &mut PropTable, added: &mut Vec<PropId>)
     requires { AreUnmentioned added.old.items props.old }
     ensures { props.new ≡ without_props added.old.items props.old }
 {

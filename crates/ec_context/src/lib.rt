@@ -13,5 +13,6 @@ mod tests;
 pub use activity::evaluate;
 pub use entries::entries_of;
 pub use entry::{Entry, EntryList, EntryLiteral, EntryLiterals, MOST_ENTRIES, MOST_LITERALS};
+pub use keeping::forget_each;
 pub use laws::evaluating_is_activity_law;
 pub use rules::Rules;

@@ -46,3 +46,7 @@ returns-in-Ok-clause-list g c =
 pub returns-in-Ok-clause-named : goal.returns-in-Ok-clause-named
 returns-in-Ok-clause-named g c =
     names_all_new c.args.props.now c.gather.new.props c.clear.new.self.items c.gather.new.added.items c.in-Ok.entries c.clear.ensures.items c.gather.ensures.kept c.in-Ok.ensures.added
+
+pub returns-in-Ok-clause-new : goal.returns-in-Ok-clause-new
+returns-in-Ok-clause-new g c =
+    HasKept-first c.args.props.now c.gather.new.props c.clear.new.self.items c.gather.new.added.items c.clear.ensures.items c.gather.ensures.kept
