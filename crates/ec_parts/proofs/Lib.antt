@@ -3,3 +3,15 @@ pub mod OneMention
 pub mod Mentioned
 pub mod TablesOfEvents
 pub mod ListedInitials
+pub mod CachesKept
+pub mod AscendingNumbers
+pub mod InitialTables
+pub mod NoEvents
+pub mod Forgotten
+pub mod GatheredRows
+pub mod MarkSums
+pub mod GatheredMarks
+pub mod Entered
+pub mod OneMore
+pub mod Waiting
+pub mod Adoptions

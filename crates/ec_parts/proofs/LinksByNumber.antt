@@ -46,7 +46,7 @@ pub record IsOneToOne (table : List KeptProp) : Type 0 where
   pub numbers : All (λ (kept : KeptProp). prop_at kept.id table ≡ Some kept) table
 
 -- what is kept where a term is
-kept_with : (o : Option KeptProp) (t : Ground) → option_map (λ (k : KeptProp). k.term) o ≡ Some t → (k : KeptProp) × ((o ≡ Some k) × (k.term ≡ t))
+pub kept_with : (o : Option KeptProp) (t : Ground) → option_map (λ (k : KeptProp). k.term) o ≡ Some t → (k : KeptProp) × ((o ≡ Some k) × (k.term ≡ t))
 kept_with None t is = absurd (false≢true (ap is_some is))
 kept_with (Some k) t is = (k, (refl, cc))
 

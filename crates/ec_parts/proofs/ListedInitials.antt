@@ -1,22 +1,24 @@
 -- A well-formed theory lists its initial properties, and has few.
-use Rattle.std.proofs.Common.{◌≡◌, ℕ, ◌+◌, ◌<◌, ◌≤◌, true, false, not, List, [], ◌∷◌, ◌++◌, length, None, refl, sym, ◌∙◌, arith, length-append}
+use Rattle.std.proofs.Common.{◌≡◌, ℕ, ◌+◌, ◌<◌, ◌≤◌, true, false, not, List, [], ◌∷◌, ◌++◌, length, get_or, None, refl, sym, ap, ◌∙◌, arith, length-append}
 use Rattle.std.specs.Prelude.{◌==◌, nat_le, nat_lt}
 use Rattle.std.specs.List.{list_any, list_all, All}
 use Rattle.std.proofs.lemmas.Bool.{and_parts, and_from, false≢true, eq-eqb, or_parts}
 use Rattle.std.proofs.lemmas.List.Elements.{All-head, All-tail}
 use Rattle.ec_lists.proofs.Booleans.{cond-None}
+use Rattle.ec_lists.proofs.Tests.{list_any-none, list_all-weaker, list_all-get_or}
 use Rattle.ec_lists.proofs.Options.{None-from_option_map}
 use Rattle.ec_terms.specs.declared.pattern.PatArg.{PatArg}
 use Rattle.ec_terms.specs.declared.pattern.PatArg.TheVariants.{Var, Any, Fixed}
 use Rattle.ec_terms.specs.declared.theory.Initial.{Initial}
 use Rattle.ec_terms.specs.declared.theory.Theory.{Theory}
-use Rattle.ec_terms.specs.Binding.{stands_at, stands_in, is_small_place, IsSmall}
+use Rattle.ec_terms.specs.Binding.{stands_at, stands_in, is_small_place, is_open_place, no_values, IsSmall}
 use Rattle.ec_terms.specs.Matchable.{IsMatchable}
 use Rattle.ec_check.specs.Faults.{first_fault, initial_fault, is_narrow, has_few_variables, is_no_any, least_variable, first_wrong}
 use Rattle.ec_check.specs.WellFormed.{IsWellFormed}
 use Rattle.ec_check.specs.declared.limits.TheConstants.{MOST_INITIALS}
 use Rattle.ec_check.proofs.Matchable.{first_from-none, first_of-none, earlier_fault-none}
 use Rattle.ec_changes.specs.LiveLaws.{is_fixed, ListsInitials}
+use Rattle.ec_parts.specs.Initials.{IsPlainInitial}
 use Rattle.ec_changes.proofs.LiveLists.{FixedInitialsAreListed-law}
 
 -- what an initial property without a fault keeps to
@@ -80,3 +82,20 @@ lists_initials theory well_formed matchable = FixedInitialsAreListed-law theory 
 
 pub few_initials : (theory : Theory) → IsWellFormed theory → length theory.initials ≤ MOST_INITIALS
 few_initials theory well_formed = let all = within [] theory.initials (no_fault theory well_formed) (omega arith) in omega (arith, all)
+
+-- a place that is fixed is not open
+fixed-filled : (args : List PatArg) → list_all is_fixed args ≡ true → list_any (is_open_place no_values) args ≡ false
+fixed-filled args fixed = list_any-none (is_open_place no_values) args (list_all-weaker is_fixed (λ place. not (is_open_place no_values place)) each args fixed)
+  where
+    each : (place : PatArg) → is_fixed place ≡ true → not (is_open_place no_values place) ≡ true
+    each (Fixed a) is = refl
+    each (Var v) is = absurd (false≢true is)
+    each Any is = absurd (false≢true is)
+
+-- so each initial property of a well-formed theory has a term
+pub plain_initials : (theory : Theory) → IsWellFormed theory → IsMatchable theory → All IsPlainInitial theory.initials
+plain_initials theory well_formed matchable k d below = record {
+  small = matchable.initials k d below;
+  filled_in = ap not (fixed-filled (get_or theory.initials k d).prop.args
+      (list_all-get_or (λ (i : Initial). list_all is_fixed i.prop.args) theory.initials k d (all_fixed [] theory.initials (no_fault theory well_formed) matchable.initials) below));
+}

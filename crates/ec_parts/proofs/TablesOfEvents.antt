@@ -29,14 +29,14 @@ use Rattle.ec_parts.proofs.OneMention.{AreTablesBy-IsPermutation}
 -- ---- the terms of shown entries
 
 -- what stands first where all have something
-record HasFirst {A : Type 0} (o : Option A) (os : Option (List A)) (all : List A) : Type 0 where
-  first : A
-  others : List A
-  first_is : o ≡ Some first
-  others_are : os ≡ Some others
-  all_are : all ≡ first ∷ others
+pub record HasFirst {A : Type 0} (o : Option A) (os : Option (List A)) (all : List A) : Type 0 where
+  pub first : A
+  pub others : List A
+  pub first_is : o ≡ Some first
+  pub others_are : os ≡ Some others
+  pub all_are : all ≡ first ∷ others
 
-has_first : {A : Type 0} (o : Option A) (os : Option (List A)) (all : List A) → option_and_then (λ a. option_map (λ rest. a ∷ rest) os) o ≡ Some all → HasFirst o os all
+pub has_first : {A : Type 0} (o : Option A) (os : Option (List A)) (all : List A) → option_and_then (λ a. option_map (λ rest. a ∷ rest) os) o ≡ Some all → HasFirst o os all
 has_first None os all is = cc
 has_first (Some a) None all is = cc
 has_first (Some a) (Some rest) all is = record { first = a; others = rest; first_is = refl; others_are = refl; all_are = cc }

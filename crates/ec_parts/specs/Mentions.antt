@@ -1,5 +1,5 @@
 -- What it is for the tables to be those of a list of mentions, and what further mentions make of them.
-use Rattle.std.specs.Prelude.{◌≡◌, ◌≤◌, ℕ, ◌+◌, ◌-◌, nat_lt, Bool, ◌||◌, if◌then◌else◌, List, ◌∷◌, ◌++◌, length, filter, map, flat_map, filter_map, Some, IsSome, IsTrue, unwrap_or}
+use Rattle.std.specs.Prelude.{◌≡◌, ◌≤◌, ℕ, ℤ, ◌+◌, ◌-◌, nat_lt, Bool, ◌||◌, if◌then◌else◌, List, ◌∷◌, ◌++◌, length, filter, map, flat_map, filter_map, Some, IsSome, IsTrue, IsFalse, unwrap_or}
 use Rattle.std.specs.List.{list_any}
 use Rattle.std.specs.List.Sorted.{IsPermutation}
 use Rattle.ec_terms.specs.declared.ids.PropId.{PropId}
@@ -8,6 +8,7 @@ use Rattle.ec_terms.specs.declared.theory.Theory.{Theory}
 use Rattle.ec_terms.specs.Term.{term_eq}
 use Rattle.ec_terms.specs.Domain.{is_initial, entries_of}
 use Rattle.ec_axioms.specs.Calculus.{PlainEvent}
+use Rattle.ec_axioms.specs.Links.{is_live}
 use Rattle.ec_axioms.specs.Changes.{is_history, has_event, with_event, without_event}
 use Rattle.ec_check.specs.declared.limits.TheConstants.{MOST_INITIALS}
 use Rattle.ec_changes.specs.LiveLaws.{ListsInitials}
@@ -21,7 +22,7 @@ use Rattle.ec_points.specs.Table.{PointTable, is_initial_at}
 use Rattle.ec_parts.specs.declared.tally.Tally.{Tally}
 use Rattle.ec_parts.specs.Tables.{held_mention, AreAllAdded}
 use Rattle.ec_parts.specs.Caches.{AreInitialsOf}
-use Rattle.ec_parts.specs.StandFor.{AreTables}
+use Rattle.ec_parts.specs.StandFor.{AreTables, StandForBoth, View}
 
 -- ---- the tables of some mentions
 
@@ -129,3 +130,30 @@ TakesEventOut theory entries around points before old after new =
     (events : List PlainEvent) (event : PlainEvent) → shown_entries before entries ≡ Some (entries_of theory event.term)
     → IsTrue (is_history events) → IsTrue (has_event events event)
     → AreTables theory events before around points old → AreTables theory (without_event event.id events) after around points new
+
+-- ---- the parts of two lists
+
+-- parts that stand for any two lists stand for them with the event of these entries in its place in the list to come
+abbrev pub TakeEventIn : {T : Type 0} → (T → ℤ) → Theory → List Entry → View T → Tally → View T → Tally → Type 0
+TakeEventIn rank theory entries before old after new =
+    (now soon : List PlainEvent) (event : PlainEvent) → shown_entries before.table entries ≡ Some (entries_of theory event.term)
+    → StandForBoth rank theory now soon before old → StandForBoth rank theory now (with_event event soon) after new
+
+-- parts that stand for any two lists stand for them without the event of these entries in the list to come
+abbrev pub TakeEventOut : {T : Type 0} → (T → ℤ) → Theory → List Entry → View T → Tally → View T → Tally → Type 0
+TakeEventOut rank theory entries before old after new =
+    (now soon : List PlainEvent) (event : PlainEvent) → shown_entries before.table entries ≡ Some (entries_of theory event.term)
+    → IsTrue (is_history soon) → IsTrue (has_event soon event)
+    → StandForBoth rank theory now soon before old → StandForBoth rank theory now (without_event event.id soon) after new
+
+-- ---- properties that are forgotten
+
+-- the term that a table keeps under a number, if there is one, is not live in a list
+abbrev pub IsNotLive : Theory → List PlainEvent → ℕ → List KeptProp → Type 0
+IsNotLive theory events id table = (p : Ground) → term_at id table ≡ Some p → IsFalse (is_live theory events p)
+
+-- parts that stand for any two lists, in the present one of which the property of a number is not live, stand for them still
+abbrev pub ForgetsOne : {T : Type 0} → (T → ℤ) → Theory → PropId → View T → View T → Type 0
+ForgetsOne rank theory p before after =
+    (now soon : List PlainEvent) (tally : Tally) → IsNotLive theory now p.0 before.table
+    → StandForBoth rank theory now soon before tally → StandForBoth rank theory now soon after tally

@@ -12,6 +12,7 @@ use Rattle.ec_events.specs.Store.{Store}
 use Rattle.ec_entries.specs.Dependents.{Entered}
 use Rattle.ec_points.specs.Table.{PointTable}
 use Rattle.ec_intervals.specs.Table.{IntervalTable}
+use Rattle.ec_parts.specs.declared.parts.Parts.{Parts}
 use Rattle.ec_parts.specs.declared.tally.Tally.{Tally}
 use Rattle.ec_parts.specs.Tables.{AreKept, KeepsOnlyLive, AreAllAdded, IsTally}
 use Rattle.ec_parts.specs.Caches.{AreEventsOf, AreEntriesOf, AreInitialsOf, AreMarksOf, AreInitiationsOf, AreIntervalsOf}
@@ -25,6 +26,18 @@ pub record View (T : Type 0) : Type 0 where
   pub points : PointTable T
   pub initiations : PointTable T
   pub intervals : IntervalTable T
+
+-- the parts as contracts see them
+abbrev pub view_of : {T M I X : Type 0} → Parts T M I X → View T
+view_of parts = record {
+  store = parts.store;
+  table = parts.props;
+  neighbours = parts.neighbours;
+  entries = parts.entries;
+  points = parts.points;
+  initiations = parts.initiations;
+  intervals = parts.intervals;
+}
 
 -- the tables are those of a list of events
 pub record AreTables {T : Type 0} (theory : Theory) (events : List PlainEvent) (table : List KeptProp) (around : Neighbourhoods) (points : PointTable T) (tally : Tally) : Type 0 where

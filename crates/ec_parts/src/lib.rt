@@ -1,6 +1,11 @@
 //! The parts of the engine, and what it is that they stand for a list of events.
 #![tactic(auto)]
 
+mod adopting;
+mod entering;
+mod forgetting;
+mod gathering;
+mod initials;
 mod laws;
 mod links;
 mod mention;
@@ -8,6 +13,9 @@ mod parts;
 mod tables;
 mod tally;
 
+pub use entering::enter;
+pub use forgetting::forget;
+pub use initials::new_parts;
 pub use laws::initials_are_listed_law;
 pub use parts::Parts;
 pub use tables::{mention_all, release_all};

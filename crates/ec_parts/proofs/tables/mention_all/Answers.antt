@@ -1,5 +1,8 @@
 use Rattle.std.proofs.Common.{subst}
 use Rattle.ec_parts.specs.Mentions.{HasMentioned, list_props}
+use Rattle.ec_parts.specs.StandFor.{view_of}
+use Rattle.ec_parts.proofs.CachesKept.{StandForBoth-counted}
+use Rattle.ec_parts.proofs.LinksByNumber.{IsOneToOne}
 use Rattle.ec_parts.proofs.ListedInitials.{lists_initials, few_initials}
 use Rattle.ec_parts.proofs.TablesOfEvents.{AreTables-with_event, AreSomeTables-events}
 use Rattle.ec_parts.proofs.tables.mention_all.Goals as goal
@@ -14,3 +17,12 @@ returns-clause-tables g c events event shown tables =
     (subst (λ list. HasMentioned c.args.parts.now.neighbours c.args.parts.now.points (list_props list) c.args.parts.now.props c.args.tally.now c.mention_entries.new.props c.mention_entries.new.tally)
     c.as_slice.ensures.items c.mention_entries.ensures)
     tables
+
+pub returns-clause-both : goal.returns-clause-both
+returns-clause-both g c now soon event shown stand =
+    let one : IsOneToOne c.args.parts.now.props = record { in_order = c.len.ensures.order; numbers = c.len.ensures.numbers } in
+    let step = subst (λ list. HasMentioned c.args.parts.now.neighbours c.args.parts.now.points (list_props list) c.args.parts.now.props c.args.tally.now c.mention_entries.new.props c.mention_entries.new.tally)
+    c.as_slice.ensures.items c.mention_entries.ensures in
+    StandForBoth-counted g.T.Moment.rank c.args.parts.now.checked now soon _ (view_of c.args.parts.now) c.args.tally.now c.mention_entries.new.tally c.mention_entries.new.props one step.terms
+    (AreTables-with_event soon event c.args.list.now (lists_initials c.args.parts.now.checked c.theory.ensures.well_formed c.theory.ensures.matchable) shown step stand.tables)
+    stand
