@@ -1,0 +1,10 @@
+mod HeldLemmas
+mod BrokenLemmas
+mod ClashSearch
+mod ClashTimes
+mod EventLemmas
+mod HoldingLemmas
+mod NextOfOrder
+mod SpanLemmas
+mod WritingLemmas
+mod StretchLemmas

@@ -1,0 +1,94 @@
+-- Each event is the next of what is left.
+use Rattle.std.proofs.Common.{◌+◌, ◌++◌, drop, map, refl, sym, ap, ap₂, subst, ◌∙◌, arith}
+use Rattle.std.specs.Prelude.{decimal}
+use Rattle.ec_outside.specs.Streams.{Appended}
+use Rattle.ec_axioms.specs.QueryTexts.{counted_text, event_text}
+use Rattle.ec_events.specs.Store.{history_of, plain_of, event_at}
+use Rattle.ec_query.specs.Members.{members_text, kept_text}
+use Rattle.ec_query.proofs.EventLemmas.{IsNext, IsNext-found, end-found, events_reply-of}
+use Rattle.ec_query.proofs.WritingLemmas.{IsLeft-start, IsLeft-next, IsLeft-part, IsLeft-end, OnErr-anyway, OnErr-renamed, counted_text-map, members_text-next, members_text-end}
+use Rattle.ec_query.proofs.event_reply.events.Goals as goal
+
+pub returns-in_err-write_count-clause-part : goal.returns-in_err-write_count-clause-part
+returns-in_err-write_count-clause-part g c = λ events are.
+    let rank = g.T.Moment.rank in
+    let canon = g.T.Moment.canon in
+    let kept = c.args.store.now.events in
+    OnErr-renamed g.K.Sink.stands c.args.out.now c.write_count.new.out c.from_residual.result (events_reply-of rank canon kept events are)
+    (OnErr-anyway c.from_residual.result
+    (IsLeft-part (decimal c.len.result) (members_text (kept_text rank canon) kept)
+    (IsLeft-start {faults = g.K.Sink.faults} c.args.out.now (counted_text (map (event_text canon) (history_of rank kept))) (decimal c.len.result ++ members_text (kept_text rank canon) kept)
+    (counted_text-map (event_text canon) (plain_of rank) kept ∙ ap (λ n. decimal n ++ members_text (kept_text rank canon) kept) (sym c.len.ensures.len)))
+    refl c.in_err-write_count.ensures.part))
+
+pub loop-found-init : goal.loop-found-init
+loop-found-init g c =
+    let rank = g.T.Moment.rank in
+    let canon = g.T.Moment.canon in
+    let kept = c.args.store.now.events in
+    record {
+      left =
+          IsLeft-next (decimal c.len.result) (members_text (kept_text rank canon) (drop c.first-cursor.result kept))
+          (IsLeft-start {faults = g.K.Sink.faults} c.args.out.now (counted_text (map (event_text canon) (history_of rank kept))) (decimal c.len.result ++ members_text (kept_text rank canon) (drop c.first-cursor.result kept))
+          (counted_text-map (event_text canon) (plain_of rank) kept
+          ∙ ap₂ (λ n i. decimal n ++ members_text (kept_text rank canon) (drop i kept)) (sym c.len.ensures.len) (sym c.first-cursor.ensures)))
+          refl c.in_ok-write_count.ensures.written c.write_count.ensures.counted;
+      read = omega (arith, c.first-cursor.ensures);
+      within = omega (arith, c.first-cursor.ensures);
+    }
+
+pub returns-in_err-write_all-clause-part : goal.returns-in_err-write_all-clause-part
+returns-in_err-write_all-clause-part g c = λ events are.
+    let rank = g.T.Moment.rank in
+    let canon = g.T.Moment.canon in
+    let kept = c.args.store.now.events in
+    let more = members_text (kept_text rank canon) (drop (c.loop-found.cursor + 1) kept) in
+    let next : IsNext kept c.loop-found.cursor c.event.result.now c.in-Some.found.1 =
+    IsNext-found kept c.loop-found.cursor c.in-Some.found.0 c.in-Some.found.1 (event_at c.in-Some.found.0 kept) c.event.result.now c.in-Some.ensures.next c.in-Some.ensures.event c.event.ensures.event in
+    OnErr-renamed g.K.Sink.stands c.args.out.now c.write_all.new.out c.from_residual-in_err-write_all.result (events_reply-of rank canon kept events are)
+    (OnErr-anyway c.from_residual-in_err-write_all.result
+    (IsLeft-part c.as_bytes.result.now more c.loop-found.invariant.left
+    (members_text-next (kept_text rank canon) kept c.loop-found.cursor (next.slot, c.event.result.now) next.there
+    ∙ ap (λ bytes. bytes ++ more) (sym (c.as_bytes.ensures ∙ c.set_event.ensures)))
+    c.in_err-write_all.ensures.part))
+
+pub returns-in_err-write_all-clause-steps : goal.returns-in_err-write_all-clause-steps
+returns-in_err-write_all-clause-steps g c =
+    let kept = c.args.store.now.events in
+    let next : IsNext kept c.loop-found.cursor c.event.result.now c.in-Some.found.1 =
+    IsNext-found kept c.loop-found.cursor c.in-Some.found.0 c.in-Some.found.1 (event_at c.in-Some.found.0 kept) c.event.result.now c.in-Some.ensures.next c.in-Some.ensures.event c.event.ensures.event in
+    omega (arith, next.within, c.event.ensures.steps, c.loop-found.invariant.read)
+
+pub loop-found-smaller : goal.loop-found-smaller
+loop-found-smaller g c =
+    let kept = c.args.store.now.events in
+    let next : IsNext kept c.loop-found.cursor c.event.result.now c.in-Some.found.1 =
+    IsNext-found kept c.loop-found.cursor c.in-Some.found.0 c.in-Some.found.1 (event_at c.in-Some.found.0 kept) c.event.result.now c.in-Some.ensures.next c.in-Some.ensures.event c.event.ensures.event in
+    omega (arith, next.within, next.behind)
+
+pub loop-found-preserved : goal.loop-found-preserved
+loop-found-preserved g c =
+    let rank = g.T.Moment.rank in
+    let canon = g.T.Moment.canon in
+    let kept = c.args.store.now.events in
+    let next : IsNext kept c.loop-found.cursor c.event.result.now c.in-Some.found.1 =
+    IsNext-found kept c.loop-found.cursor c.in-Some.found.0 c.in-Some.found.1 (event_at c.in-Some.found.0 kept) c.event.result.now c.in-Some.ensures.next c.in-Some.ensures.event c.event.ensures.event in
+    let more = members_text (kept_text rank canon) (drop c.in-Some.found.1 kept) in
+    record {
+      left =
+          IsLeft-next c.as_bytes.result.now more c.loop-found.invariant.left
+          (members_text-next (kept_text rank canon) kept c.loop-found.cursor (next.slot, c.event.result.now) next.there
+          ∙ ap₂ (λ bytes i. bytes ++ members_text (kept_text rank canon) (drop i kept)) (sym (c.as_bytes.ensures ∙ c.set_event.ensures)) (sym next.behind))
+          c.in_ok-write_all.ensures.written c.write_all.ensures.counted;
+      read = omega (arith, next.behind, c.event.ensures.steps, c.loop-found.invariant.read);
+      within = omega (arith, next.behind, next.within);
+    }
+
+pub returns-clause-written : goal.returns-clause-written
+returns-clause-written g c = λ events are.
+    let rank = g.T.Moment.rank in
+    let canon = g.T.Moment.canon in
+    let kept = c.args.store.now.events in
+    subst (λ text. Appended g.K.Sink.stands c.args.out.now c.loop-found.out text) (events_reply-of rank canon kept events are)
+    (IsLeft-end c.loop-found.invariant.left (members_text-end (kept_text rank canon) kept c.loop-found.cursor
+    (end-found kept c.loop-found.cursor c.next.result c.in_default.is c.next.ensures.next)))

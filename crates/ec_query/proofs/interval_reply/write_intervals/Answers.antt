@@ -1,0 +1,61 @@
+-- The count, the front and the spans follow one another.
+use Rattle.std.proofs.Common.{◌++◌, map, refl, sym, ap₂, ◌∙◌}
+use Rattle.std.specs.Prelude.{decimal}
+use Rattle.ec_axioms.specs.QueryTexts.{counted_text, interval_text}
+use Rattle.ec_intervals.specs.Table.{front_at, front_members, members_at, plain_interval, plain_intervals, spans_at}
+use Rattle.ec_query.specs.Members.{members_text, span_text}
+use Rattle.ec_query.proofs.WritingLemmas.{IsLeft-start, IsLeft-next, IsLeft-part, IsLeft-last, IsLeft-last_part, OnErr-anyway, counted_text-intervals}
+use Rattle.ec_query.proofs.interval_reply.write_intervals.Goals as goal
+
+pub returns-in_err-write_front-clause-part : goal.returns-in_err-write_front-clause-part
+returns-in_err-write_front-clause-part g c =
+    let rank = g.T.Moment.rank in
+    let canon = g.T.Moment.canon in
+    let front = front_at c.args.id.0 c.args.intervals.now in
+    let spans = spans_at c.args.id.0 c.args.intervals.now in
+    let rest = members_text (span_text rank canon) spans in
+    let first = members_text (λ interval. interval_text canon (plain_interval rank interval)) (front_members c.front.result) in
+    OnErr-anyway c.from_residual-in_err-write_front.result
+    (IsLeft-part first rest
+    (IsLeft-next (decimal c.len.result) (first ++ rest)
+    (IsLeft-start {faults = g.K.Sink.faults} c.args.out.now (counted_text (map (interval_text canon) (plain_intervals rank (members_at c.args.id.0 c.args.intervals.now)))) (decimal c.len.result ++ (first ++ rest))
+    (counted_text-intervals rank canon front spans
+    ∙ ap₂ (λ n f. decimal n ++ (members_text (λ interval. interval_text canon (plain_interval rank interval)) (front_members f) ++ rest)) (sym c.len.ensures) (sym c.front.ensures)))
+    refl c.in_ok-write_count.ensures.written c.write_count.ensures.counted)
+    refl c.in_err-write_front.ensures.part)
+
+pub returns-clause-written : goal.returns-clause-written
+returns-clause-written g c =
+    let rank = g.T.Moment.rank in
+    let canon = g.T.Moment.canon in
+    let front = front_at c.args.id.0 c.args.intervals.now in
+    let spans = spans_at c.args.id.0 c.args.intervals.now in
+    let rest = members_text (span_text rank canon) spans in
+    let first = members_text (λ interval. interval_text canon (plain_interval rank interval)) (front_members c.front.result) in
+    IsLeft-last c.write_begun.new.out c.write_begun.result rest
+    (IsLeft-next first rest
+    (IsLeft-next (decimal c.len.result) (first ++ rest)
+    (IsLeft-start {faults = g.K.Sink.faults} c.args.out.now (counted_text (map (interval_text canon) (plain_intervals rank (members_at c.args.id.0 c.args.intervals.now)))) (decimal c.len.result ++ (first ++ rest))
+    (counted_text-intervals rank canon front spans
+    ∙ ap₂ (λ n f. decimal n ++ (members_text (λ interval. interval_text canon (plain_interval rank interval)) (front_members f) ++ rest)) (sym c.len.ensures) (sym c.front.ensures)))
+    refl c.in_ok-write_count.ensures.written c.write_count.ensures.counted)
+    refl c.in_ok-write_front.ensures.written c.write_front.ensures.counted)
+    refl c.write_begun.ensures.written
+
+pub returns-clause-part : goal.returns-clause-part
+returns-clause-part g c =
+    let rank = g.T.Moment.rank in
+    let canon = g.T.Moment.canon in
+    let front = front_at c.args.id.0 c.args.intervals.now in
+    let spans = spans_at c.args.id.0 c.args.intervals.now in
+    let rest = members_text (span_text rank canon) spans in
+    let first = members_text (λ interval. interval_text canon (plain_interval rank interval)) (front_members c.front.result) in
+    IsLeft-last_part c.write_begun.new.out c.write_begun.result rest
+    (IsLeft-next first rest
+    (IsLeft-next (decimal c.len.result) (first ++ rest)
+    (IsLeft-start {faults = g.K.Sink.faults} c.args.out.now (counted_text (map (interval_text canon) (plain_intervals rank (members_at c.args.id.0 c.args.intervals.now)))) (decimal c.len.result ++ (first ++ rest))
+    (counted_text-intervals rank canon front spans
+    ∙ ap₂ (λ n f. decimal n ++ (members_text (λ interval. interval_text canon (plain_interval rank interval)) (front_members f) ++ rest)) (sym c.len.ensures) (sym c.front.ensures)))
+    refl c.in_ok-write_count.ensures.written c.write_count.ensures.counted)
+    refl c.in_ok-write_front.ensures.written c.write_front.ensures.counted)
+    refl c.write_begun.ensures.part

@@ -1,0 +1,5 @@
+pub mod Held
+pub mod Holding
+pub mod Marked
+pub mod Members
+pub mod Stretches
