@@ -1,0 +1,5 @@
+pub mod CutLoads
+pub mod LineTexts
+pub mod Loads
+pub mod StateLemmas
+pub mod TallySteps
