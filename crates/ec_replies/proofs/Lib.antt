@@ -1,0 +1,11 @@
+pub mod Drafts
+pub mod ByDraft
+pub mod OwnDraft
+pub mod Outcomes
+pub mod StepLaws
+pub mod RunParts
+pub mod Limits
+pub mod AnsweredLines
+pub mod OtherSessions
+pub mod DraftLaws
+pub mod Told

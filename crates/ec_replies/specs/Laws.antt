@@ -1,0 +1,168 @@
+-- The laws of replies, as statements. Each is the contract of a function of the module of laws.
+use Rattle.std.specs.Prelude.{◌≡◌, ◌<◌, ◌⊎◌, ℕ, ◌==◌, Bool, true, false, not, ◌&&◌, List, [], ◌∷◌, ◌++◌, length, Option, Some, None, Ok, slice_set, IsTrue, IsFalse}
+use Rattle.ec_terms.specs.declared.theory.Theory.{Theory}
+use Rattle.ec_axioms.specs.declared.limits.TheConstants.{MOST_DRAFTED}
+use Rattle.ec_axioms.specs.Changes.{PlainUpdate, asserting, retracting, change_counts}
+use Rattle.ec_axioms.specs.Lines.{is_long}
+use Rattle.ec_axioms.specs.Commands.{PlainCommand, ask_holds, ask_through, ask_intervals, ask_broken, ask_at, ask_clashes, ask_events, ask_why, ask_last, assert_event, retract_event, begin_draft, commit_draft, abort_draft, parsed_of}
+use Rattle.ec_axioms.specs.Answers.{answer_ok, answer_drafted, answer_text}
+use Rattle.ec_replies.specs.State.{State, draft_of, with_draft}
+use Rattle.ec_replies.specs.Updates.{updated, updated_by}
+use Rattle.ec_replies.specs.Replies.{Language, session_of, reply_line, reply_of}
+use Rattle.ec_replies.specs.Runs.{Step, IsReply, may_want_memory}
+
+-- the line is one of this session; a long line is of none
+unfoldable pub is_line_of : Language → ℕ → List ℕ → Bool
+is_line_of language session line = not (is_long line) && session_of (parsed_of language.spelt line) == session
+
+-- what a line that is not long asks or tells
+abbrev pub line_command : Language → List ℕ → PlainCommand
+line_command language line = (parsed_of language.spelt line).command
+
+-- the prefix of a line that is not long
+abbrev pub line_prefix : Language → List ℕ → Option ℕ
+line_prefix language line = (parsed_of language.spelt line).session
+
+-- ---- what a reply depends on
+
+-- two states are the same to a session: the same events, the same counts, and the same draft of that session, among as many drafts
+pub record IsSameTo (session : ℕ) (state other : State) : Type 0 where
+  pub events : state.events ≡ other.events
+  pub last : state.last ≡ other.last
+  pub draft : draft_of session state ≡ draft_of session other
+  pub sessions : length state.drafts ≡ length other.drafts
+
+-- A reply to a line of a session depends on the events, the counts and the draft of that session alone: states that agree there
+-- give the same text, and the states after it agree there too.
+abbrev pub RepliesDependOnOwnDraft : Type 0
+RepliesDependOnOwnDraft =
+    (language : Language) (session : ℕ) (state other : State) (line : List ℕ) → IsTrue (is_line_of language session line) → IsSameTo session state other
+    → ((reply_of language state line).text ≡ (reply_of language other line).text)
+    × IsSameTo session (reply_of language state line).after (reply_of language other line).after
+
+-- A step of a line that is not of a session leaves the session's draft as it was.
+abbrev pub OthersKeepADraft : Type 0
+OthersKeepADraft =
+    (language : Language) (session : ℕ) (state after : State) (line text : List ℕ) → IsFalse (is_line_of language session line)
+    → Step language state line text after → draft_of session after ≡ draft_of session state
+
+-- ---- queries
+
+-- the command is a query
+abbrev pub is_query : PlainCommand → Bool
+is_query (ask_holds p t) = true
+is_query (ask_through p s e) = true
+is_query (ask_intervals p) = true
+is_query (ask_broken p) = true
+is_query (ask_at t) = true
+is_query ask_clashes = true
+is_query ask_events = true
+is_query (ask_why p t) = true
+is_query ask_last = true
+is_query command = false
+
+-- A reply to a query depends on the events and the counts alone, whatever drafts are open.
+abbrev pub QueriesIgnoreDrafts : Type 0
+QueriesIgnoreDrafts =
+    (language : Language) (state other : State) (line : List ℕ) → IsTrue (is_query (line_command language line))
+    → state.events ≡ other.events → state.last ≡ other.last → (reply_of language state line).text ≡ (reply_of language other line).text
+
+-- A step of a query leaves the state as it was.
+abbrev pub QueriesChangeNothing : Type 0
+QueriesChangeNothing =
+    (language : Language) (state after : State) (line text : List ℕ) → IsTrue (is_query (line_command language line))
+    → Step language state line text after → after ≡ state
+
+-- ---- what is accepted, and what is refused
+
+-- the command may change the events: it is an assert, a retract or a commit
+abbrev pub may_change : PlainCommand → Bool
+may_change (assert_event id t term) = true
+may_change (retract_event id) = true
+may_change commit_draft = true
+may_change command = false
+
+-- the text accepts the line: it is `ok`, or `drafted` with a number
+abbrev pub IsAccepting : Option ℕ → List ℕ → Type 0
+IsAccepting prefix text =
+    (text ≡ reply_line prefix (answer_text answer_ok)) ⊎ ((held : ℕ) × (text ≡ reply_line prefix (answer_text (answer_drafted held))))
+
+-- A step changes the state only where the line is accepted by `ok` or `drafted`. So each refusal leaves all as it was.
+abbrev pub OnlyAcceptedLinesChange : Type 0
+OnlyAcceptedLinesChange =
+    (language : Language) (state after : State) (line text : List ℕ) → Step language state line text after
+    → (after ≡ state) ⊎ IsAccepting (line_prefix language line) text
+
+-- all updates of a session's draft were made, in order, and the draft is closed
+pub record IsCommitted (theory : Theory) (session : ℕ) (state after : State) : Type 0 where
+  pub held : List PlainUpdate
+  pub was_open : draft_of session state ≡ Some held
+  pub events : updated_by theory state.events held ≡ Ok after.events
+  pub last : after.last ≡ change_counts theory state.events after.events
+  pub drafts : after.drafts ≡ slice_set state.drafts session None
+  pub is_closed : draft_of session after ≡ None
+
+-- A commit makes all updates of its draft, or none: where one is refused, or memory runs out, the state is as it was.
+abbrev pub CommitsAreWhole : Type 0
+CommitsAreWhole =
+    (language : Language) (state after : State) (line text : List ℕ) → IsFalse (is_long line) → line_command language line ≡ commit_draft
+    → Step language state line text after
+    → IsCommitted language.theory (session_of (parsed_of language.spelt line)) state after ⊎ (after ≡ state)
+
+-- ---- updates, begins and aborts
+
+-- the draft is open
+abbrev pub IsOpen : ℕ → State → Type 0
+IsOpen session state = (held : List PlainUpdate) × (draft_of session state ≡ Some held)
+
+-- the update that a command asks for
+abbrev pub asked_update : PlainCommand → Option PlainUpdate
+asked_update (assert_event id t term) = Some (asserting (record { id = id; rank = t; term = term }))
+asked_update (retract_event id) = Some (retracting id)
+asked_update command = None
+
+-- the draft is closed and the update was made
+pub record IsUpdated (theory : Theory) (session : ℕ) (update : PlainUpdate) (state after : State) : Type 0 where
+  pub was_closed : draft_of session state ≡ None
+  pub events : updated theory state.events update ≡ Ok after.events
+  pub last : after.last ≡ change_counts theory state.events after.events
+  pub drafts : after.drafts ≡ state.drafts
+
+-- the draft is open with room, and the update is held behind those that it held
+pub record IsDrafted (session : ℕ) (update : PlainUpdate) (state after : State) : Type 0 where
+  pub held : List PlainUpdate
+  pub was_open : draft_of session state ≡ Some held
+  pub has_room : length held < MOST_DRAFTED
+  pub is_held : after ≡ with_draft session (Some (held ++ update ∷ [])) state
+
+-- An update is made, or held, or leaves the state as it was.
+abbrev pub UpdatesAreMadeOrHeld : Type 0
+UpdatesAreMadeOrHeld =
+    (language : Language) (state after : State) (line text : List ℕ) (update : PlainUpdate) → IsFalse (is_long line)
+    → asked_update (line_command language line) ≡ Some update → Step language state line text after
+    → let session = session_of (parsed_of language.spelt line) in
+    IsUpdated language.theory session update state after ⊎ (IsDrafted session update state after ⊎ (after ≡ state))
+
+-- A begin opens the draft, empty, where it is closed, and leaves the state as it was where it is open.
+abbrev pub BeginsOpenADraft : Type 0
+BeginsOpenADraft =
+    (language : Language) (state after : State) (line text : List ℕ) → IsFalse (is_long line) → line_command language line ≡ begin_draft
+    → Step language state line text after
+    → let session = session_of (parsed_of language.spelt line) in
+    ((draft_of session state ≡ None) × (after ≡ with_draft session (Some []) state)) ⊎ (IsOpen session state × (after ≡ state))
+
+-- An abort closes the draft where it is open, and leaves the state as it was where it is closed.
+abbrev pub AbortsCloseADraft : Type 0
+AbortsCloseADraft =
+    (language : Language) (state after : State) (line text : List ℕ) → IsFalse (is_long line) → line_command language line ≡ abort_draft
+    → Step language state line text after
+    → let session = session_of (parsed_of language.spelt line) in
+    (IsOpen session state × (after ≡ with_draft session None state)) ⊎ ((draft_of session state ≡ None) × (after ≡ state))
+
+-- ---- memory
+
+-- A line for which memory can not run out is answered by its reply, and by nothing else.
+abbrev pub WithoutMemoryAStepIsTheReply : Type 0
+WithoutMemoryAStepIsTheReply =
+    (language : Language) (state after : State) (line text : List ℕ) → IsFalse (may_want_memory language state line)
+    → Step language state line text after → IsReply language state line text after

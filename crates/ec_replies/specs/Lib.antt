@@ -1,0 +1,7 @@
+pub mod Updates
+pub mod State
+pub mod Replies
+pub mod Runs
+pub mod Laws
+pub mod RunLaws
+pub mod Examples

@@ -1,0 +1,128 @@
+-- The laws of runs, as statements. Each is the contract of a function of the module of laws.
+use Rattle.std.specs.Prelude.{◌≡◌, ◌≢◌, ◌≤◌, ◌↔◌, ℕ, Some, None, length, Bool, true, false, not, ◌||◌, List, [], ◌∷◌, ◌++◌, map, filter, flat_map, IsTrue, IsFalse}
+use Rattle.std.specs.List.{All, list_all}
+use Rattle.ec_terms.specs.declared.theory.Theory.{Theory}
+use Rattle.ec_axioms.specs.declared.limits.TheConstants.{MOST_DRAFTED, SESSIONS}
+use Rattle.ec_axioms.specs.Calculus.{PlainEvent}
+use Rattle.ec_axioms.specs.Changes.{is_history}
+use Rattle.ec_axioms.specs.Links.{mentions_of, link_count, most_events, most_mentions, most_links}
+use Rattle.ec_axioms.specs.Lines.{is_long}
+use Rattle.ec_axioms.specs.Answers.{answer_ok, answer_text}
+use Rattle.ec_replies.specs.State.{Draft, State, draft_of, empty_state}
+use Rattle.ec_replies.specs.Replies.{Language, reply_line}
+use Rattle.ec_replies.specs.Runs.{Step, is_quit, has_quit, Run, RunsOn}
+use Rattle.ec_replies.specs.Laws.{is_line_of, may_change, line_command, line_prefix}
+
+-- ---- runs over more lines
+
+-- A run over lines and more lines is a run over the lines, and from where it ends, unless one of them quits, a run over more.
+abbrev pub RunsGoOn : Type 0
+RunsGoOn =
+    (language : Language) (state after : State) (lines more : List (List ℕ)) (out : List ℕ)
+    → Run language state (lines ++ more) out after
+    ↔ ((first : List ℕ) × (middle : State) × Run language state lines first middle
+    × RunsOn (has_quit language lines) first middle out after (λ rest. Run language middle more rest after))
+
+-- ---- limits
+
+-- how many updates a draft holds
+abbrev pub held_count : Draft → ℕ
+held_count None = 0
+held_count (Some held) = length held
+
+-- the list is a history, with no more events, mentions and links than there may be
+pub record IsListWithinLimits (theory : Theory) (events : List PlainEvent) : Type 0 where
+  pub history : IsTrue (is_history events)
+  pub few_events : length events ≤ most_events
+  pub few_mentions : length (mentions_of theory events) ≤ most_mentions
+  pub few_links : link_count theory events ≤ most_links
+
+-- and there is a draft for each session, with no more updates than it may hold
+pub record IsWithinLimits (theory : Theory) (state : State) : Type 0 where
+  pub list : IsListWithinLimits theory state.events
+  pub sessions : length state.drafts ≡ SESSIONS
+  pub drafts : (session : ℕ) → held_count (draft_of session state) ≤ MOST_DRAFTED
+
+-- The state after any lines is within the limits.
+abbrev pub RunsStayWithinLimits : Type 0
+RunsStayWithinLimits =
+    (language : Language) (lines : List (List ℕ)) (out : List ℕ) (after : State) → Run language empty_state lines out after
+    → IsWithinLimits language.theory after
+
+-- ---- memory
+
+-- memory can not run out for the line: it is long, or no assert, retract or commit
+unfoldable pub is_without_memory : Language → List ℕ → Bool
+is_without_memory language line = is_long line || not (may_change (line_command language line))
+
+-- Over lines for which memory can not run out there is one run: one possible output, and one state after it.
+abbrev pub WithoutMemoryARunIsOne : Type 0
+WithoutMemoryARunIsOne =
+    (language : Language) (state after next : State) (lines : List (List ℕ)) (out other : List ℕ) → IsTrue (list_all (is_without_memory language) lines)
+    → Run language state lines out after → Run language state lines other next → (out ≡ other) × (after ≡ next)
+
+-- What is written tells what was done: two runs over the same lines with the same output leave the same state.
+abbrev pub OutputTellsTheState : Type 0
+OutputTellsTheState =
+    (language : Language) (state after next : State) (lines : List (List ℕ)) (out : List ℕ)
+    → Run language state lines out after → Run language state lines out next → after ≡ next
+
+-- ---- answered lines
+
+-- a line and what is written for it
+pub record Answered : Type 0 where
+  pub line : List ℕ
+  pub text : List ℕ
+
+-- the lines of answered lines, and their texts joined
+abbrev pub lines_in : List Answered → List (List ℕ)
+lines_in answered = map (λ (one : Answered). one.line) answered
+
+abbrev pub texts_in : List Answered → List ℕ
+texts_in answered = flat_map (λ (one : Answered). one.text) answered
+
+-- nothing was written for the line
+abbrev pub is_unanswered : Answered → Bool
+is_unanswered one = is_none one.text
+  where
+    is_none : List ℕ → Bool
+    is_none [] = true
+    is_none (b ∷ text) = false
+
+-- how answered lines go on behind a line: behind a `quit` nothing is written, else the rest is answered
+abbrev pub GoesOn : Bool → List Answered → State → State → Type 0 → Type 0
+GoesOn true rest next after rest_answered = IsTrue (list_all is_unanswered rest) × (after ≡ next)
+GoesOn false rest next after rest_answered = rest_answered
+
+-- A run line by line: each line in turn makes a step with its own text, up to and with the first `quit`, or to the last.
+abbrev pub RunOf : Language → State → List Answered → State → Type 0
+RunOf language state [] after = after ≡ state
+RunOf language state (one ∷ rest) after =
+    (next : State) × Step language state one.line one.text next × GoesOn (is_quit language one.line) rest next after (RunOf language next rest after)
+
+-- A run is one line by line, whose texts joined are its output.
+abbrev pub RunsAreOfLines : Type 0
+RunsAreOfLines =
+    (language : Language) (state after : State) (lines : List (List ℕ)) (out : List ℕ)
+    → Run language state lines out after
+    ↔ ((answered : List Answered) × (lines_in answered ≡ lines) × (texts_in answered ≡ out) × RunOf language state answered after)
+
+-- ---- a run without the lines of a session
+
+-- a line of the session is no `quit`, and no assert, retract or commit that is answered by `ok`
+pub record IsWithoutEffect (language : Language) (session : ℕ) (one : Answered) : Type 0 where
+  pub no_quit : IsTrue (is_line_of language session one.line) → IsFalse (is_quit language one.line)
+  pub no_ok : IsTrue (is_line_of language session one.line) → IsTrue (may_change (line_command language one.line))
+      → one.text ≢ reply_line (line_prefix language one.line) (answer_text answer_ok)
+
+-- the answered lines that are not of the session
+abbrev pub without_session : Language → ℕ → List Answered → List Answered
+without_session language session answered = filter (λ (one : Answered). not (is_line_of language session one.line)) answered
+
+-- Where no line of a session quits, and no assert, retract or commit of it is answered by `ok`, the lines of the others are
+-- answered alike without it: they have a run whose text is the replies that they had.
+abbrev pub SessionsWithoutEffectAreUnseen : Type 0
+SessionsWithoutEffectAreUnseen =
+    (language : Language) (session : ℕ) (state after : State) (answered : List Answered) → All (IsWithoutEffect language session) answered
+    → RunOf language state answered after
+    → (other : State) × Run language state (lines_in (without_session language session answered)) (texts_in (without_session language session answered)) other

@@ -1,0 +1,112 @@
+-- The step that a line makes, for which memory may be wanting, and the run that lines make.
+use Rattle.std.specs.Prelude.{◌≡◌, ◌⊎◌, ℕ, Bool, true, false, not, ◌&&◌, nat_lt, List, [], ◌∷◌, ◌++◌, Some, None, Result, Ok, Err, length, IsTrue}
+use Rattle.std.specs.List.{list_any}
+use Rattle.ec_terms.specs.declared.theory.Theory.{Theory}
+use Rattle.ec_axioms.specs.declared.event.Cut.{Cut}
+use Rattle.ec_axioms.specs.declared.event.Cut.TheVariants.{Duplicate, Unknown, FullEvents, FullMentions, FullLinks}
+use Rattle.ec_axioms.specs.declared.limits.TheConstants.{MOST_DRAFTED}
+use Rattle.ec_axioms.specs.Calculus.{PlainEvent}
+use Rattle.ec_axioms.specs.Changes.{PlainUpdate, asserting, retracting}
+use Rattle.ec_axioms.specs.Lines.{is_long}
+use Rattle.ec_axioms.specs.Commands.{PlainCommand, assert_event, retract_event, commit_draft, quit, PlainParsed, parsed_of}
+use Rattle.ec_axioms.specs.Answers.{refused_memory, answer_text}
+use Rattle.ec_replies.specs.State.{Draft, State, draft_of, empty_state}
+use Rattle.ec_replies.specs.Updates.{updated}
+use Rattle.ec_replies.specs.Replies.{Language, reply_line, reply_of, session_of}
+
+-- ---- want of memory
+
+-- a refusal of one update in whose place want of memory never stands
+abbrev pub is_always_told : Cut → Bool
+is_always_told (Duplicate id) = true
+is_always_told (Unknown id) = true
+is_always_told FullEvents = true
+is_always_told FullMentions = false
+is_always_told FullLinks = false
+
+-- memory may be wanting for an update that is accepted, or refused for a cause that takes memory to find
+abbrev pub may_want_by : Result (List PlainEvent) Cut → Bool
+may_want_by (Ok events) = true
+may_want_by (Err cut) = not (is_always_told cut)
+
+-- memory may be wanting for an update: while the draft is open, unless it is full
+unfoldable pub update_may_want_memory : Theory → ℕ → State → PlainUpdate → Bool
+update_may_want_memory theory session state update = by_draft (draft_of session state)
+  where
+    by_draft : Draft → Bool
+    by_draft None = may_want_by (updated theory state.events update)
+    by_draft (Some held) = nat_lt (length held) MOST_DRAFTED
+
+-- memory may be wanting for a commit, if the draft is open
+unfoldable pub commit_may_want_memory : ℕ → State → Bool
+commit_may_want_memory session state = by_draft (draft_of session state)
+  where
+    by_draft : Draft → Bool
+    by_draft None = false
+    by_draft (Some held) = true
+
+-- memory may be wanting for a command
+unfoldable pub command_may_want_memory : Theory → ℕ → State → PlainCommand → Bool
+command_may_want_memory theory session state (assert_event id t term) = update_may_want_memory theory session state (asserting (record { id = id; rank = t; term = term }))
+command_may_want_memory theory session state (retract_event id) = update_may_want_memory theory session state (retracting id)
+command_may_want_memory theory session state commit_draft = commit_may_want_memory session state
+command_may_want_memory theory session state command = false
+
+-- memory may be wanting for what a line says
+abbrev pub parsed_may_want_memory : Theory → State → PlainParsed → Bool
+parsed_may_want_memory theory state parsed = command_may_want_memory theory (session_of parsed) state parsed.command
+
+-- memory may be wanting for a line
+unfoldable pub may_want_memory : Language → State → List ℕ → Bool
+may_want_memory language state line = not (is_long line) && parsed_may_want_memory language.theory state (parsed_of language.spelt line)
+
+-- the reply of a line for which memory was wanting
+abbrev pub memory_text : Language → List ℕ → List ℕ
+memory_text language line = reply_line (parsed_of language.spelt line).session (answer_text refused_memory)
+
+-- ---- steps and runs
+
+-- a line is answered by its reply, and leaves the state that the reply leaves
+pub record IsReply (language : Language) (state : State) (line text : List ℕ) (after : State) : Type 0 where
+  pub text_is : text ≡ (reply_of language state line).text
+  pub after_is : after ≡ (reply_of language state line).after
+
+-- a line is refused for want of memory, and leaves the state as it was
+pub record IsMemoryRefusal (language : Language) (state : State) (line text : List ℕ) (after : State) : Type 0 where
+  pub may : IsTrue (may_want_memory language state line)
+  pub text_is : text ≡ memory_text language line
+  pub after_is : after ≡ state
+
+-- A step: a line is answered by its reply, or it is an update that is refused for want of memory.
+abbrev pub Step : Language → State → List ℕ → List ℕ → State → Type 0
+Step language state line text after = IsReply language state line text after ⊎ IsMemoryRefusal language state line text after
+
+-- the command of a parsed line is `quit`
+abbrev pub command_quits : PlainCommand → Bool
+command_quits quit = true
+command_quits command = false
+
+-- the line is `quit`
+unfoldable pub is_quit : Language → List ℕ → Bool
+is_quit language line = not (is_long line) && command_quits (parsed_of language.spelt line).command
+
+-- `quit` is among the lines
+abbrev pub has_quit : Language → List (List ℕ) → Bool
+has_quit language lines = list_any (is_quit language) lines
+
+-- how a run goes on behind a line: behind a `quit` nothing is answered, else the rest runs
+abbrev pub RunsOn : Bool → List ℕ → State → List ℕ → State → (List ℕ → Type 0) → Type 0
+RunsOn true text next out after rest_runs = (out ≡ text) × (after ≡ next)
+RunsOn false text next out after rest_runs = (rest : List ℕ) × (out ≡ text ++ rest) × rest_runs rest
+
+-- A run from a state: the lines are taken in order, up to and with the first `quit` or to the last; each makes a
+-- step; `out` is the replies joined, `after` the last state.
+abbrev pub Run : Language → State → List (List ℕ) → List ℕ → State → Type 0
+Run language state [] out after = (out ≡ []) × (after ≡ state)
+Run language state (line ∷ lines) out after =
+    (text : List ℕ) × (next : State) × Step language state line text next × RunsOn (is_quit language line) text next out after
+    (λ rest. Run language next lines rest after)
+
+-- the bytes are the replies of a run over the lines, from no event on
+abbrev pub IsRun : Language → List (List ℕ) → List ℕ → Type 0
+IsRun language lines out = (after : State) × Run language empty_state lines out after
