@@ -1,6 +1,7 @@
 //! What turned at an instant, counted for each property that it counts for.
-ghost use Rattle.std.specs.Prelude.{◌≡◌, ◌↔◌, ◌+◌, ◌<◌, ◌^◌, ◌==◌, ◌||◌, [], ◌∷◌, Bool, IsTrue, OnOk, All, Some, is_some, length, slice_get};
-ghost use Rattle.std.specs.List.{list_any};
+ghost use Rattle.std.specs.Prelude.{◌≡◌, ◌↔◌, ◌+◌, ◌<◌, ◌^◌, ◌==◌, ◌||◌, [], ◌∷◌, Bool, IsTrue, OnOk, All, Some, is_some, length, nat_eq, slice_get};
+ghost use Rattle.std.specs.List.{IsDistinct, list_any};
+ghost use Rattle.std.specs.Map.{keys_of};
 ghost use Rattle.ec_exclusive.specs.Added.{is_added};
 ghost use Rattle.ec_numbered.specs.PropSet.{are_ascending};
 ghost use Rattle.ec_revise.specs.declared.tally.Part.{Part};
@@ -116,9 +117,10 @@ impl Tally {
         }
     }
 
-    /// How many properties are in the tally.
+    /// How many properties are in the tally. None stands there twice.
     pub fn len(&self) -> usize
-        ensures { result ≡ length self.now }
+        ensures len { result ≡ length self.now }
+        ensures once { IsDistinct nat_eq (keys_of self.now) }
     {
         self.rows.len()
     }
