@@ -1,0 +1,2 @@
+pub mod TouchRows
+pub mod OnceListed
