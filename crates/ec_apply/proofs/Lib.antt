@@ -1,0 +1,15 @@
+pub mod LastMembers
+pub mod TakenOut
+pub mod PutIn
+pub mod Flipped
+pub mod PlainRows
+pub mod ChangedRows
+pub mod Listed
+pub mod Moved
+pub mod MendedRows
+pub mod Mendable
+pub mod NewEvents
+pub mod Counted
+pub mod NewMarks
+pub mod Standing
+pub mod Whole

@@ -1,0 +1,4 @@
+pub mod Events
+pub mod Switched
+pub mod Mended
+pub mod Aim
