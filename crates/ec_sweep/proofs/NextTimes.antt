@@ -1,0 +1,128 @@
+-- The next time at which anything bears on a property.
+use Rattle.std.proofs.Common.{◌≡◌, ℕ, zero, suc, ℤ, ◌<ℤ◌, ◌≤ℤ◌, Bool, true, List, [], ◌∷◌, drop, Option, Some, None, IsTrue, IsSomeAnd, refl, sym, ap, subst, ◌∙◌, inl, inr, ⊎_elim, arith}
+use Rattle.std.specs.Prelude.{◌==◌, int_le, int_lt, IfSome, option_map, slice_get}
+use Rattle.std.specs.List.{list_all}
+use Rattle.std.specs.Option.{option_to_list}
+use Rattle.std.specs.Ordering.{int_eq}
+use Rattle.std.proofs.lemmas.Bool.{and_from, eq-eqb}
+use Rattle.std.proofs.lemmas.Int.{ints}
+use Rattle.std.proofs.lemmas.Option.{none-some}
+use Rattle.ec_lists.proofs.Fronts.{drop-slice_get}
+use Rattle.ec_lists.proofs.Integers.{int_eq-is, int_eq-same, int_le-is, int_lt-from, int_lt-is}
+use Rattle.ec_axioms.proofs.Members.{IsMember, IsMember-filter, IsMember-from_filter, list_all-member, list_any-member, member-list_any}
+use Rattle.ec_entries.specs.declared.event_entries.Dependent.{Dependent}
+use Rattle.ec_entries.specs.Dependents.{AreDependents, dependent_at, dependents_after, is_from}
+use Rattle.ec_rows.specs.declared.mark.Mark.{Mark}
+use Rattle.ec_rows.specs.Marks.{IsMarkRow, has_mark, mark_before, marks_after}
+use Rattle.ec_rows.specs.Ordered.{is_ascending}
+use Rattle.ec_rows.proofs.OrderedLemmas.{ascending-first, ascending-rest}
+use Rattle.ec_sweep.specs.Settling.{IsReadAt, Slots}
+
+-- what follows the first members is in order
+ascending-drop : {X : Type 0} (stands_before : X → X → Bool) (i : ℕ) (xs : List X) → is_ascending stands_before xs ≡ true → is_ascending stands_before (drop i xs) ≡ true
+ascending-drop stands_before zero xs order = order
+ascending-drop stands_before (suc i) [] order = order
+ascending-drop stands_before (suc i) (x ∷ xs) order = ascending-drop stands_before i xs (ascending-rest stands_before x xs order)
+
+module _ {T : Type 0} (rank : T → ℤ) (t : ℤ) where
+  -- ---- marks
+
+  -- a mark behind t is among those behind t
+  mark-after : (marks : List (Mark T)) (u : ℤ) → t <ℤ u → IsTrue (has_mark rank u marks) → (m : Mark T) × IsMember (marks_after rank t marks) m × (rank m.at ≡ u)
+  mark-after marks u later has =
+      let found = list_any-member (λ (m : Mark T). int_eq (rank m.at) u) marks has in
+      let time = int_eq-is (rank found.0.at) u found.2 in (
+        found.0,
+        IsMember-filter (λ (m : Mark T). int_lt t (rank m.at)) marks found.0 found.1 (int_lt-from t (rank found.0.at) (subst (λ s. t <ℤ s) (sym time) later)),
+        time,
+      )
+
+  -- where no mark is behind t, none is at any later time
+  pub no_mark-after : (marks : List (Mark T)) → marks_after rank t marks ≡ [] → (u : ℤ) → t <ℤ u → IsTrue (has_mark rank u marks) → ⊥
+  no_mark-after marks none u later has = let found = mark-after marks u later has in subst (λ ms. IsMember ms found.0) none found.1
+
+  module _ (marks : List (Mark T)) (i : ℕ) (mark : Mark T) (row : IsMarkRow rank marks) (cut : marks_after rank t marks ≡ drop i marks) (there : slice_get marks i ≡ Some mark) where
+    front : marks_after rank t marks ≡ mark ∷ drop (suc i) marks
+    front = cut ∙ drop-slice_get marks i mark there
+
+    -- the first mark behind t is behind it, and is a mark
+    pub first_mark-is : (t <ℤ rank mark.at) × IsTrue (has_mark rank (rank mark.at) marks)
+    first_mark-is =
+        let member = IsMember-from_filter (λ (m : Mark T). int_lt t (rank m.at)) marks mark (subst (λ ms. IsMember ms mark) (sym front) (inl refl)) in
+        (int_lt-is t (rank mark.at) member.1, member-list_any (λ (m : Mark T). int_eq (rank m.at) (rank mark.at)) marks mark member.0 (int_eq-same (rank mark.at)))
+
+    -- and no other is earlier
+    pub first_mark-least : (u : ℤ) → t <ℤ u → IsTrue (has_mark rank u marks) → rank mark.at ≤ℤ u
+    first_mark-least u later has =
+        let found = mark-after marks u later has in
+        let time = found.2 in
+        ⊎_elim
+        (λ same. let equal : rank mark.at ≡ rank found.0.at = ap (λ (m : Mark T). rank m.at) same in omega (arith, ints))
+        (λ behind.
+        let before =
+        int_lt-is (rank mark.at) (rank found.0.at)
+        (list_all-member (mark_before rank mark) (drop (suc i) marks) found.0
+        (ascending-first (mark_before rank) mark (drop (suc i) marks)
+        (subst (λ ms. is_ascending (mark_before rank) ms ≡ true) (drop-slice_get marks i mark there) (ascending-drop (mark_before rank) i marks row.ascending))) behind) in
+        omega (arith, ints))
+        (subst (λ ms. IsMember ms found.0) front found.1)
+
+  -- ---- entries that read
+
+  module _ (n : ℕ) (slots : Slots T) (dependents : List (Dependent T)) (exact : AreDependents rank n slots dependents) where
+    -- a member is a dependent that an entry makes
+    member-made : (d : Dependent T) → IsMember dependents d → dependent_at n slots d.slot.0 d.place ≡ Some d
+    member-made d member =
+        of (dependent_at n slots d.slot.0 d.place)
+        (subst (λ ds. IsMember ds d) (exact.exact d.slot.0 d.place)
+        (IsMember-filter (is_from d.slot.0 d.place) dependents d member (and_from (d.slot.0 == d.slot.0) (d.place == d.place) (eq-eqb d.slot.0 d.slot.0 refl) (eq-eqb d.place d.place refl))))
+      where
+        of : (o : Option (Dependent T)) → IsMember (option_to_list o) d → o ≡ Some d
+        of None there = absurd there
+        of (Some other) (inl same) = ap Some same
+        of (Some other) (inr nothing) = absurd nothing
+
+    -- and the other way
+    made-member : (slot place : ℕ) (d : Dependent T) → dependent_at n slots slot place ≡ Some d → IsMember dependents d
+    made-member slot place d is =
+        (IsMember-from_filter (is_from slot place) dependents d (subst (λ ds. IsMember ds d) (sym (exact.exact slot place ∙ ap option_to_list is)) (inl refl))).0
+
+    pub first_read-is : (next : Option T) → next ≡ option_map (λ (d : Dependent T). d.at) (slice_get (dependents_after rank t dependents) 0)
+        → IfSome next (λ s. (t <ℤ rank s) × IsReadAt rank slots n (rank s))
+    first_read-is next is = of (dependents_after rank t dependents) refl
+      where
+        of : (ds : List (Dependent T)) → dependents_after rank t dependents ≡ ds → IfSome next (λ s. (t <ℤ rank s) × IsReadAt rank slots n (rank s))
+        of [] none =
+            subst (λ o. IfSome o (λ s. (t <ℤ rank s) × IsReadAt rank slots n (rank s)))
+            (sym (is ∙ ap (λ xs. option_map (λ (d : Dependent T). d.at) (slice_get xs 0)) none)) tt
+        of (d ∷ ds) some =
+            let member = IsMember-from_filter (λ (e : Dependent T). int_lt t (rank e.at)) dependents d (subst (λ xs. IsMember xs d) (sym some) (inl refl)) in
+            subst (λ o. IfSome o (λ s. (t <ℤ rank s) × IsReadAt rank slots n (rank s)))
+            (sym (is ∙ ap (λ xs. option_map (λ (e : Dependent T). e.at) (slice_get xs 0)) some))
+            (int_lt-is t (rank d.at) member.1, record { slot = d.slot.0; place = d.place; dependent = d; there = member-made d member.0; time = refl })
+
+    pub first_read-least : (next : Option T) → next ≡ option_map (λ (d : Dependent T). d.at) (slice_get (dependents_after rank t dependents) 0)
+        → IfSome next (λ s. IsTrue (list_all (λ (d : Dependent T). int_le (rank s) (rank d.at)) (dependents_after rank t dependents)))
+        → (u : ℤ) → t <ℤ u → IsReadAt rank slots n u → IsSomeAnd next (λ s. rank s ≤ℤ u)
+    first_read-least next is least u later read =
+        let member =
+        IsMember-filter (λ (d : Dependent T). int_lt t (rank d.at)) dependents read.dependent (made-member read.slot read.place read.dependent read.there)
+        (int_lt-from t (rank read.dependent.at) (subst (λ s. t <ℤ s) (sym read.time) later)) in
+        of next (dependents_after rank t dependents) refl is least member
+      where
+        of : (o : Option T) (ds : List (Dependent T)) → dependents_after rank t dependents ≡ ds → o ≡ option_map (λ (d : Dependent T). d.at) (slice_get (dependents_after rank t dependents) 0)
+            → IfSome o (λ s. IsTrue (list_all (λ (d : Dependent T). int_le (rank s) (rank d.at)) (dependents_after rank t dependents)))
+            → IsMember (dependents_after rank t dependents) read.dependent → IsSomeAnd o (λ s. rank s ≤ℤ u)
+        of o [] none is least member = absurd (subst (λ xs. IsMember xs read.dependent) none member)
+        of None (d ∷ ds) some is least member = absurd (none-some d.at (is ∙ ap (λ xs. option_map (λ (e : Dependent T). e.at) (slice_get xs 0)) some))
+        of (Some s) (d ∷ ds) some is least member =
+            let within = int_le-is (rank s) (rank read.dependent.at) (list_all-member (λ (e : Dependent T). int_le (rank s) (rank e.at)) (dependents_after rank t dependents) read.dependent least member) in
+            subst (λ v. rank s ≤ℤ v) read.time within
+
+  -- ---- the earlier of two
+
+  -- what is no later than one of two is no later than what that is no later than
+  pub earlier-by : (o next : Option T) (u : ℤ) → IfSome o (λ a. IsSomeAnd next (λ s. rank s ≤ℤ rank a)) → IsSomeAnd o (λ a. rank a ≤ℤ u) → IsSomeAnd next (λ s. rank s ≤ℤ u)
+  earlier-by None next u before within = absurd within
+  earlier-by (Some a) None u before within = absurd before
+  earlier-by (Some a) (Some s) u before within = omega (arith, ints)

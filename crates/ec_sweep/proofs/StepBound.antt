@@ -1,0 +1,26 @@
+-- The steps of a sweep that is through.
+use Rattle.std.proofs.Common.{zero, suc, ◌≤◌, ℕ, ℤ, List, [], ◌∷◌, length, take, arith}
+use Rattle.std.specs.Prelude.{flat_map, int_le}
+use Rattle.std.proofs.lemmas.List.{length-append}
+use Rattle.ec_lists.proofs.Filters.{length-filter_le}
+use Rattle.ec_revise.specs.declared.change.Change.{Change}
+use Rattle.ec_revise.specs.declared.change.Removal.{Removal}
+use Rattle.ec_sweep.specs.declared.progress.Progress.{Progress}
+use Rattle.ec_sweep.specs.State.{IsProgress}
+
+-- the first of some lists have no more members than all of them
+pub length-flat_map_take : {X : Type 0} (n : ℕ) (lists : List (List X)) → length (flat_map (λ xs. xs) (take n lists)) ≤ length (flat_map (λ xs. xs) lists)
+length-flat_map_take zero lists = omega arith
+length-flat_map_take (suc n) [] = omega arith
+length-flat_map_take (suc n) (xs ∷ lists) =
+    let rest = length-flat_map_take n lists in
+    let first = length-append xs (flat_map (λ ys. ys) (take n lists)) in
+    let whole = length-append xs (flat_map (λ ys. ys) lists) in
+    omega (arith, rest, first, whole)
+
+-- no more removals are passed than there are
+pub removed-few : {T : Type 0} (rank : T → ℤ) (change : Change T) (r : ℤ) (progress : Progress) → IsProgress rank change r progress → progress.removed ≤ length change.remove
+removed-few rank change r progress is =
+    let few = length-filter_le (λ (removal : Removal _). int_le (rank removal.at) r) change.remove in
+    let is_so = is.removed_by in
+    omega (arith, few, is_so)

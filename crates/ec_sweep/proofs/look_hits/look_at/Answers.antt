@@ -1,0 +1,46 @@
+-- One entry is read, evaluated and noted.
+use Rattle.std.proofs.Common.{◌≡◌, Bool, true, false, not, cond, sym, ap, ap₂, ◌∙◌, arith}
+use Rattle.std.specs.Bool.{beq}
+use Rattle.std.specs.Prelude.{◌==◌, unwrap_or}
+use Rattle.ec_parts.specs.Activity.{is_bit_set}
+use Rattle.ec_sweep.specs.Words.{word_at}
+use Rattle.ec_sweep.proofs.HitLemmas.{WordsHit-one, active_of-read, acts_at-entry, entry_at-read, turn_at-same}
+use Rattle.ec_sweep.proofs.look_hits.look_at.Goals as goal
+
+same_from_not : (b : Bool) → not b ≡ false → b ≡ true
+same_from_not b none = grind arith
+
+pub returns-in_ok-push-clause-words : goal.returns-in_ok-push-clause-words
+returns-in_ok-push-clause-words g c =
+    WordsHit-one (g.C.Current.is_current c.args.current.now) (g.T.Moment.rank c.args.at) c.args.entries.now.slots c.args.hit c.active-before.result c.evaluate-now.result c.args.words.now c.note.new.self
+    (active_of-read c.args.entries.now.slots c.args.hit c.active-before.result c.active-before.ensures)
+    (acts_at-entry (g.C.Current.is_current c.args.current.now) (g.T.Moment.rank c.args.at) c.args.entries.now.slots c.args.hit c.index-list-place.result
+    (entry_at-read c.args.entries.now.slots c.args.hit c.active-before.result c.list.result.now c.as_slice-list.result.now c.from-place.result c.index-list-place.result c.requires c.list.ensures.list
+    c.as_slice-list.ensures.items c.from-place.ensures c.index-list-place.is)
+    ∙ sym c.evaluate-now.ensures.active)
+    (λ k. c.in_ok-note.ensures.here k
+    ∙ ap (λ p. cond (p == k) c.evaluate-now.result (is_bit_set (unwrap_or (word_at c.args.hit.slot.0 c.args.words.now) c.active-before.result) k)) c.from-place.ensures)
+    c.in_ok-note.ensures.others
+
+pub returns-else-has_bit-now-clause-words : goal.returns-else-has_bit-now-clause-words
+returns-else-has_bit-now-clause-words g c =
+    WordsHit-one (g.C.Current.is_current c.args.current.now) (g.T.Moment.rank c.args.at) c.args.entries.now.slots c.args.hit c.active-before.result c.evaluate-now.result c.args.words.now c.note.new.self
+    (active_of-read c.args.entries.now.slots c.args.hit c.active-before.result c.active-before.ensures)
+    (acts_at-entry (g.C.Current.is_current c.args.current.now) (g.T.Moment.rank c.args.at) c.args.entries.now.slots c.args.hit c.index-list-place.result
+    (entry_at-read c.args.entries.now.slots c.args.hit c.active-before.result c.list.result.now c.as_slice-list.result.now c.from-place.result c.index-list-place.result c.requires c.list.ensures.list
+    c.as_slice-list.ensures.items c.from-place.ensures c.index-list-place.is)
+    ∙ sym c.evaluate-now.ensures.active)
+    (λ k. c.in_ok-note.ensures.here k
+    ∙ ap (λ p. cond (p == k) c.evaluate-now.result (is_bit_set (unwrap_or (word_at c.args.hit.slot.0 c.args.words.now) c.active-before.result) k)) c.from-place.ensures)
+    c.in_ok-note.ensures.others
+
+pub returns-else-has_bit-now-clause-turns : goal.returns-else-has_bit-now-clause-turns
+returns-else-has_bit-now-clause-turns g c =
+    turn_at-same (g.C.Current.is_current c.args.current.now) (g.T.Moment.rank c.args.at) c.args.entries.now.slots c.args.hit c.args.turns.now.items
+    (ap₂ beq
+    (ap₂ is_bit_set (active_of-read c.args.entries.now.slots c.args.hit c.active-before.result c.active-before.ensures) (sym c.from-place.ensures) ∙ sym c.has_bit.ensures)
+    (acts_at-entry (g.C.Current.is_current c.args.current.now) (g.T.Moment.rank c.args.at) c.args.entries.now.slots c.args.hit c.index-list-place.result
+    (entry_at-read c.args.entries.now.slots c.args.hit c.active-before.result c.list.result.now c.as_slice-list.result.now c.from-place.result c.index-list-place.result c.requires c.list.ensures.list
+    c.as_slice-list.ensures.items c.from-place.ensures c.index-list-place.is)
+    ∙ sym c.evaluate-now.ensures.active)
+    ∙ same_from_not _ c.if-has_bit-now.false)

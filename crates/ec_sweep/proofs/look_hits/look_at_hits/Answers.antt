@@ -1,0 +1,10 @@
+-- The words of all hits are the new bits.
+use Rattle.std.proofs.Common.{◌∙◌}
+use Rattle.ec_sweep.proofs.HitLemmas.{FlipsHits-from_words}
+use Rattle.ec_sweep.proofs.look_hits.look_at_hits.Goals as goal
+
+pub returns-clause-flips : goal.returns-clause-flips
+returns-clause-flips g c =
+    FlipsHits-from_words (g.C.Current.is_current c.args.current.now) (g.T.Moment.rank c.args.at) c.args.entries.now.slots c.args.hits.now c.new-words.result c.look_at_each.new.words
+    c.args.looked.now.flips c.count.new.looked.flips c.new-words.ensures c.in_ok-look_at_each.ensures.words c.in_ok-push_flips.ensures.apart
+    (c.in_ok-count.ensures.flips ∙ c.in_ok-push_flips.ensures.flips)

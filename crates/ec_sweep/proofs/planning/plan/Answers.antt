@@ -1,0 +1,41 @@
+-- A sweep that is through has planned the change, in no more steps than it may take.
+use Rattle.std.proofs.Common.{sym, subst, arith}
+use Rattle.ec_parts.specs.StandFor.{StandForBoth, view_of}
+use Rattle.ec_sweep.proofs.SameButRoom.{IsPlanned-same, IsReady-planned, StandForBoth-same}
+use Rattle.ec_sweep.proofs.StepBound.{length-flat_map_take, removed-few}
+use Rattle.ec_sweep.proofs.Through.{IsPlanned-through}
+use Rattle.ec_sweep.proofs.planning.plan.Goals as goal
+
+pub returns-clause-ready : goal.returns-clause-ready
+returns-clause-ready g c = λ new tally underway.
+    let rank = g.T.Moment.rank in
+    let sweeping = c.in-Ok.ensures.swept new tally underway in
+    let planned = IsPlanned-through rank c.args.parts.now.checked new (view_of c.args.parts.now) tally c.args.change c.in-Ok.sweep c.len.ensures.order c.len-2.ensures.slots underway sweeping
+    c.in-Ok.ensures.done in
+    let same = IsPlanned-same rank c.args.parts.now.checked (view_of c.args.parts.now) (view_of c.make_room.new.parts) c.make_room.ensures.same new c.args.change c.in-Ok.sweep.looked c.in-Ok.sweep.planned planned in
+    IsReady-planned rank c.args.parts.now.checked new (view_of c.make_room.new.parts) (record { change = c.args.change; looked = c.in-Ok.sweep.looked; planned = c.in-Ok.sweep.planned }) same
+    c.in-Ok-make_room.ensures.events c.in-Ok-make_room.ensures.marks c.in-Ok-make_room.ensures.intervals
+
+pub returns-clause-steps : goal.returns-clause-steps
+returns-clause-steps g c = λ new tally underway.
+    let sweeping = c.in-Ok.ensures.swept new tally underway in
+    let planned = IsPlanned-through g.T.Moment.rank c.args.parts.now.checked new (view_of c.args.parts.now) tally c.args.change c.in-Ok.sweep c.len.ensures.order c.len-2.ensures.slots underway sweeping
+    c.in-Ok.ensures.done in
+    let steps = c.in-Ok.ensures.steps in
+    let seen = planned.seen in
+    let few = removed-few g.T.Moment.rank c.args.change sweeping.r c.in-Ok.sweep.progress sweeping.found.progress_is in
+    let entries = length-flat_map_take c.in-Ok.sweep.progress.added c.args.change.entries in
+    omega (arith, steps, seen, few, entries)
+
+pub make_room-requires : goal.make_room-requires
+make_room-requires g c = record { windows = (c.in-Ok.ensures.swept c.requires.new c.requires.tally c.requires.underway).found.planned_up_to.windows }
+
+pub returns-in_default-make_room-clause-stands : goal.returns-in_default-make_room-clause-stands
+returns-in_default-make_room-clause-stands g c = λ now soon tally both.
+    subst (λ theory. StandForBoth g.T.Moment.rank theory now soon (view_of c.make_room.new.parts) tally) (sym c.make_room.ensures.checked)
+    (StandForBoth-same g.T.Moment.rank c.args.parts.now.checked (view_of c.args.parts.now) (view_of c.make_room.new.parts) c.make_room.ensures.same now soon tally both)
+
+pub returns-clause-stands : goal.returns-clause-stands
+returns-clause-stands g c = λ now soon tally both.
+    subst (λ theory. StandForBoth g.T.Moment.rank theory now soon (view_of c.make_room.new.parts) tally) (sym c.make_room.ensures.checked)
+    (StandForBoth-same g.T.Moment.rank c.args.parts.now.checked (view_of c.args.parts.now) (view_of c.make_room.new.parts) c.make_room.ensures.same now soon tally both)

@@ -1,0 +1,42 @@
+-- Once the last room is made, all the room is there.
+use Rattle.std.proofs.Common.{◌≤◌, subst}
+use Rattle.indexmap.proofs.MapLemmas.{OnOk-map}
+use Rattle.ec_parts.specs.StandFor.{view_of}
+use Rattle.ec_sweep.proofs.MadeRooms.{HasRoomForIntervals-made, HasRoomForMarks-made}
+use Rattle.ec_sweep.proofs.rooms.make_room.Goals as goal
+
+pub returns-clause-marks : goal.returns-clause-marks
+returns-clause-marks g c =
+    OnOk-map c.reserve_clashes.result _ _
+    (λ clash_room.
+    HasRoomForMarks-made g.T.Moment.rank (view_of c.args.parts.now)
+    (record {
+      store = c.reserve.new.self;
+      table = c.args.parts.now.props;
+      neighbours = c.args.parts.now.neighbours;
+      entries = c.prepare.new.self;
+      points = c.reserve_clashes.new.self;
+      initiations = c.make_room_for_initiations.new.initiations;
+      intervals = c.make_room_for_intervals.new.intervals;
+    })
+    c.args.planned.now c.requires.windows c.make_room_for_marks.new.points c.make_room_for_marks.ensures.grown c.reserve_clashes.ensures.rows c.in_ok-make_room_for_marks.ensures.room
+    (subst (λ n. n ≤ c.reserve_clashes.new.self.clash_room) c.len-2.ensures.len clash_room) c.make_room_for_initiations.ensures.grown c.in_ok-make_room_for_initiations.ensures.room)
+    c.reserve_clashes.ensures.room
+
+pub returns-clause-intervals : goal.returns-clause-intervals
+returns-clause-intervals g c =
+    OnOk-map c.reserve_clashes.result _ _
+    (λ clash_room.
+    HasRoomForIntervals-made g.T.Moment.rank (view_of c.args.parts.now)
+    (record {
+      store = c.reserve.new.self;
+      table = c.args.parts.now.props;
+      neighbours = c.args.parts.now.neighbours;
+      entries = c.prepare.new.self;
+      points = c.reserve_clashes.new.self;
+      initiations = c.make_room_for_initiations.new.initiations;
+      intervals = c.make_room_for_intervals.new.intervals;
+    })
+    c.args.planned.now c.requires.windows c.make_room_for_marks.new.points c.make_room_for_marks.ensures.grown c.reserve_clashes.ensures.rows c.in_ok-make_room_for_marks.ensures.room
+    c.in_ok-make_room_for_intervals.ensures.room)
+    c.reserve_clashes.ensures.room

@@ -1,0 +1,20 @@
+-- Each row that is passed gets its room, and those that were passed keep theirs.
+use Rattle.std.proofs.Common.{arith, length, subst}
+use Rattle.ec_points.specs.Table.{marks_at}
+use Rattle.ec_sweep.specs.Rooms.{HasRoomToMove}
+use Rattle.ec_sweep.proofs.GrownRooms.{AreIntervalsGrown-chain, HasRoomToMove-grown, each_up_to-all, each_up_to-more}
+use Rattle.ec_sweep.proofs.rooms.make_room_for_intervals.Goals as goal
+
+pub loop-i-preserved : goal.loop-i-preserved
+loop-i-preserved g c = record {
+  grown = AreIntervalsGrown-chain c.args.intervals.now c.loop-i.intervals c.make_room_to_move.new.intervals c.loop-i.invariant.grown c.make_room_to_move.ensures.grown;
+  room = each_up_to-more c.args.touched.now (λ n t. HasRoomToMove n (length (marks_at n c.args.points.now)) t c.loop-i.intervals)
+      (λ n t. HasRoomToMove n (length (marks_at n c.args.points.now)) t c.make_room_to_move.new.intervals) c.loop-i.i c.row-row.result.0.0 c.row-row.result.1
+      (λ n t. HasRoomToMove-grown n (length (marks_at n c.args.points.now)) t c.loop-i.intervals c.make_room_to_move.new.intervals c.make_room_to_move.ensures.grown)
+      c.loop-i.invariant.room c.row-row.ensures
+      (subst (λ m. HasRoomToMove c.row-row.result.0.0 m c.row-row.result.1 c.make_room_to_move.new.intervals) c.mark_count.ensures c.in_ok-make_room_to_move.ensures.room);
+}
+
+pub returns-clause-room : goal.returns-clause-room
+returns-clause-room g c n touched is =
+    each_up_to-all c.args.touched.now (λ m t. HasRoomToMove m (length (marks_at m c.args.points.now)) t c.loop-i.intervals) n touched (λ k m t lt at. c.loop-i.invariant.room k m t (omega (arith, c.len-i-end.ensures.len)) at) is

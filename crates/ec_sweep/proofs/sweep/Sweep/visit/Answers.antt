@@ -1,0 +1,35 @@
+-- A visit: nothing that is due is due before it; the sweep has come up to just before it, and the look and the settling take it up to it.
+use Rattle.std.proofs.Common.{refl, ap, ◌∙◌}
+use Rattle.ec_numbered.specs.PropSet.{has_number}
+use Rattle.ec_parts.specs.StandFor.{view_of}
+use Rattle.ec_sweep.proofs.NextInstant.{due-later}
+use Rattle.ec_sweep.proofs.OneVisit.{CanLookAt-next, CanSettleAt-looked, IsSweeping-visited}
+use Rattle.ec_sweep.proofs.sweep.Sweep.visit.Goals as goal
+
+pub take_due-requires : goal.take_due-requires
+take_due-requires g c = due-later g.T.Moment.rank c.args.self.now.agenda (g.T.Moment.rank c.args.at) c.requires.first.due
+
+pub look-requires : goal.look-requires
+look-requires g c =
+    let leads = c.requires.leads in
+    CanLookAt-next g.T.Moment.rank c.args.parts.now.checked leads.new (view_of c.args.parts.now) leads.tally c.args.change.now c.args.self.now (g.T.Moment.rank c.args.at)
+    c.len.ensures.order c.len-2.ensures.slots leads.underway (c.requires.sweeping leads.new leads.tally leads.underway) c.requires.first c.requires.there
+    c.deref.result.now (λ n. ap (has_number n) c.deref.ensures.value ∙ c.in_ok-due.ensures.due n)
+
+pub settle_all-requires : goal.settle_all-requires
+settle_all-requires g c =
+    let leads = c.requires.leads in
+    CanSettleAt-looked g.T.Moment.rank c.args.parts.now.checked leads.new (view_of c.args.parts.now) leads.tally c.args.change.now c.args.self.now (g.T.Moment.rank c.args.at)
+    c.len.ensures.order c.len-2.ensures.slots leads.underway (c.requires.sweeping leads.new leads.tally leads.underway) c.requires.first c.requires.there
+    c.deref.result.now (λ n. ap (has_number n) c.deref.ensures.value ∙ c.in_ok-due.ensures.due n)
+    c.look.new.looked c.in_ok-turns.turns.items c.deref-2.result.now c.deref-2.ensures.value c.in_ok-turns.ensures.looked
+    c.deref-3.result.now (λ n. ap (has_number n) c.deref-3.ensures.value ∙ c.in_ok-due.ensures.due n) c.take_due.new.agenda c.in_ok-due.ensures.behind
+
+pub returns-clause-sweeping : goal.returns-clause-sweeping
+returns-clause-sweeping g c = λ new tally underway.
+    IsSweeping-visited g.T.Moment.rank c.args.parts.now.checked new (view_of c.args.parts.now) tally c.args.change.now c.args.self.now (g.T.Moment.rank c.args.at)
+    c.len.ensures.order c.len-2.ensures.slots underway (c.requires.sweeping new tally underway) c.requires.first c.requires.there
+    c.deref.result.now (λ n. ap (has_number n) c.deref.ensures.value ∙ c.in_ok-due.ensures.due n)
+    c.look.new.looked c.in_ok-turns.turns.items c.deref-2.result.now c.deref-2.ensures.value c.in_ok-turns.ensures.looked
+    c.deref-3.result.now (λ n. ap (has_number n) c.deref-3.ensures.value ∙ c.in_ok-due.ensures.due n) c.take_due.new.agenda c.in_ok-due.ensures.behind
+    c.settle_all.new.agenda c.settle_all.new.dirty c.settle_all.new.planned c.in_ok-settle_all.ensures c.look.new.progress c.in_ok-turns.ensures.progress c.args.at refl

@@ -1,0 +1,28 @@
+-- One list more is evaluated.
+use Rattle.std.proofs.Common.{◌<◌, ◌+◌, ◌++◌, length, drop, flat_map, ap, subst, ◌∙◌, length-append, arith}
+use Rattle.ec_sweep.specs.Acting.{IsWordOf, added_turns, up_turns}
+use Rattle.ec_sweep.proofs.AddedWords.{AddsWords-next}
+use Rattle.ec_sweep.proofs.Turning.{drop-next, flat_map-next}
+use Rattle.ec_sweep.proofs.turned.turn_up_added.Goals as goal
+
+pub loop-list-preserved : goal.loop-list-preserved
+loop-list-preserved g c =
+    let within : c.loop-list.list-index < length c.args.lists.now = omega arith in
+    let rest = ap (λ ls. length (flat_map (λ list. list) ls)) (drop-next c.args.lists.now c.loop-list.list-index c.list-item.result within c.list-item.is)
+    ∙ length-append c.list-item.result (flat_map (λ list. list) (drop (c.loop-list.list-index + 1) c.args.lists.now)) in
+    record {
+      words =
+          AddsWords-next (g.C.Current.is_current c.args.current.now) (g.T.Moment.rank c.args.at) c.args.lists.now c.loop-list.list-index c.list-item.result c.in_ok-word.word c.args.bits.now
+          c.loop-list.bits c.push.new.self within c.list-item.is c.loop-list.invariant.words
+          (subst (λ list. IsWordOf (g.C.Current.is_current c.args.current.now) (g.T.Moment.rank c.args.at) list c.in_ok-word.word) c.as_slice.ensures.items c.in_ok-word.ensures.word)
+          c.in_ok-push.ensures.ok;
+      told =
+          flat_map-next c.args.lists.now c.loop-list.list-index c.list-item.result within c.list-item.is (up_turns (g.C.Current.is_current c.args.current.now) (g.T.Moment.rank c.args.at))
+          (c.args.turns.now.items ++ added_turns (g.C.Current.is_current c.args.current.now) (g.T.Moment.rank c.args.at) c.args.lists.now) c.loop-list.turns.items c.turn_up.new.turns.items c.loop-list.invariant.told
+          (c.in_ok-word.ensures.turns
+          ∙ ap (λ list. c.loop-list.turns.items ++ up_turns (g.C.Current.is_current c.args.current.now) (g.T.Moment.rank c.args.at) list) c.as_slice.ensures.items);
+      counted =
+          let more = c.in_ok-word.ensures.steps in
+          let same = ap length c.as_slice.ensures.items in
+          let before = c.loop-list.invariant.counted in omega (arith, more, same, before, rest);
+    }

@@ -1,0 +1,12 @@
+-- The word is put in its own place.
+use Rattle.std.proofs.Common.{◌≡◌, cond, Some, subst}
+use Rattle.std.specs.Prelude.{◌==◌}
+use Rattle.ec_sweep.specs.Words.{word_at}
+use Rattle.ec_sweep.proofs.WordRows.{word_at-other}
+use Rattle.ec_sweep.proofs.words.Words.note.Goals as goal
+
+pub returns-in_ok-insert-clause-others : goal.returns-in_ok-insert-clause-others
+returns-in_ok-insert-clause-others c = λ n apart.
+    word_at-other c.args.slot.0 n c.with_bit.result c.args.self.now c.insert.new.self.entries
+    (subst (λ rows. word_at n c.insert.new.self.entries ≡ cond (c.args.slot.0 == n) (Some c.with_bit.result) (word_at n rows)) c.self.view_is (c.in_ok-insert.ensures.updates.0 n))
+    apart

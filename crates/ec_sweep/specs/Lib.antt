@@ -1,0 +1,12 @@
+pub mod State
+pub mod Visiting
+pub mod Planning
+pub mod Planned
+pub mod Rooms
+pub mod Sweeping
+pub mod Settling
+pub mod Hits
+pub mod Words
+pub mod Acting
+pub mod Runs
+pub mod LookedBy

@@ -1,0 +1,66 @@
+//! The next time at which anything bears on a property: it has a mark there, or an entry there reads it.
+ghost use Rattle.std.specs.Prelude.{◌≡◌, ◌⊎◌, ◌<ℤ◌, ◌≤ℤ◌, ℤ, Some, IsTrue, IfSome, IsSomeAnd};
+ghost use Rattle.ec_points.specs.Table.{marks_at};
+ghost use Rattle.ec_rows.specs.Marks.{has_mark};
+ghost use Rattle.ec_sweep.specs.Settling.{BearsAt, IsReadAt};
+
+use ec_entries::Entries;
+use ec_moment::Moment;
+use ec_parts::Parts;
+use ec_points::Points;
+use ec_rows::{MarkRow, SpanRow, TimeRow};
+use ec_terms::PropId;
+
+/// The earlier of two times, where there are two.
+pub(crate) fn earlier<T: Moment>(first: Option<T>, second: Option<T>) -> Option<T>
+    ensures one { IfSome result (λ time. (first ≡ Some time) ⊎ (second ≡ Some time)) }
+    ensures before_first { IfSome first (λ time. IsSomeAnd result (λ least. T.rank least ≤ℤ T.rank time)) }
+    ensures before_second { IfSome second (λ time. IsSomeAnd result (λ least. T.rank least ≤ℤ T.rank time)) }
+{
+    match first {
+        None => second,
+        Some(a) => match second {
+            None => Some(a),
+            Some(b) => {
+                if b.order(&a).is_lt() {
+                    Some(b)
+                } else {
+                    Some(a)
+                }
+            }
+        },
+    }
+}
+
+/// The time of the first mark of a property behind a time.
+fn next_mark<T: Moment, M: MarkRow<T>>(points: &Points<T, M>, p: PropId, at: T) -> Option<T>
+    ensures some { IfSome result (λ next. (T.rank at <ℤ T.rank next) × IsTrue (has_mark T.rank (T.rank next) (marks_at p.0 points.now))) }
+    ensures least { (u : ℤ) → T.rank at <ℤ u → IsTrue (has_mark T.rank u (marks_at p.0 points.now)) → IsSomeAnd result (λ next. T.rank next ≤ℤ u) }
+{
+    let row = points.row(p)?;
+    let place = row.next_after(at)?;
+    Some(row.get(place).at)
+}
+
+/// The time of the first entry behind a time that reads a property.
+fn next_entry<T: Moment>(entries: &Entries<T>, p: PropId, at: T) -> Option<T>
+    ensures some { IfSome result (λ next. (T.rank at <ℤ T.rank next) × IsReadAt T.rank entries.now.slots p.0 (T.rank next)) }
+    ensures least { (u : ℤ) → T.rank at <ℤ u → IsReadAt T.rank entries.now.slots p.0 u → IsSomeAnd result (λ next. T.rank next ≤ℤ u) }
+{
+    entries.next_dependent_after(p, at)
+}
+
+/// The next time behind one at which anything bears on a property. `None` exactly where nothing does.
+pub(crate) fn next_time<T: Moment, M: MarkRow<T>, I: SpanRow<T>, X: TimeRow<T>>(
+    parts: &Parts<T, M, I, X>,
+    p: PropId,
+    at: T,
+) -> Option<T>
+    ensures some { IfSome result (λ next. (T.rank at <ℤ T.rank next) × BearsAt T.rank parts.now.points parts.now.entries.slots p.0 (T.rank next)) }
+    ensures least { (u : ℤ) → T.rank at <ℤ u → BearsAt T.rank parts.now.points parts.now.entries.slots p.0 u → IsSomeAnd result (λ next. T.rank next ≤ℤ u) }
+{
+    earlier(
+        next_mark(&parts.points, p, at),
+        next_entry(&parts.entries, p, at),
+    )
+}

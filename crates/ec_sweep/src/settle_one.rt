@@ -1,0 +1,157 @@
+//! The settling of one property at an instant.
+ghost use Rattle.std.specs.Prelude.{◌≡◌, ◌==◌, ◌<ℤ◌, ℕ, ℤ, false, OnOk};
+ghost use Rattle.ec_points.specs.Changes.{has_change};
+ghost use Rattle.ec_rows.specs.Marks.{is_counted};
+ghost use Rattle.ec_revise.specs.Tallied.{HasRoomFor};
+ghost use Rattle.ec_sweep.specs.State.{dirty_at};
+ghost use Rattle.ec_sweep.specs.Settling.{AddsDue, BearsAt, IsDueWithin, LeavesNumber, PlansMark, SettlesNumber, currencies_at, old_mark, starts_of, touch_of};
+
+use crate::dirty::Dirty;
+use crate::next_time::next_time;
+use ec_agenda::Agenda;
+use ec_axioms::Current;
+use ec_delta::{Planned, Touch};
+use ec_moment::Moment;
+use ec_parts::Parts;
+use ec_points::Points;
+use ec_revise::{Currencies, Settled, Tallied, settle};
+use ec_rows::{Mark, MarkRow, SpanRow, TimeRow};
+use ec_terms::{NoMemory, PropId};
+
+/// The old mark of a property at a time: three zeros, if it has none.
+fn old_mark<T: Moment, M: MarkRow<T>>(points: &Points<T, M>, p: PropId, at: T) -> Mark<T>
+    ensures { result ≡ old_mark T.rank points.now at p.0 }
+{
+    match points.mark_at(p, at) {
+        Some(mark) => Mark {
+            at,
+            inits: mark.inits,
+            terms: mark.terms,
+            clashes: mark.clashes,
+        },
+        None => Mark {
+            at,
+            inits: 0,
+            terms: 0,
+            clashes: 0,
+        },
+    }
+}
+
+/// Whether a property is current at a time, in the old list and in the new one.
+fn currencies<T: Moment, M: MarkRow<T>>(
+    points: &Points<T, M>,
+    dirty: &Dirty,
+    p: PropId,
+    at: T,
+) -> Currencies
+    ensures { result ≡ currencies_at T.rank points.now at p.0 (dirty_at p.0 dirty.now) }
+{
+    let in_old = points.current(p, at);
+    Currencies {
+        in_old,
+        in_new: dirty.get(p).unwrap_or(in_old),
+    }
+}
+
+/// Whether some count of a mark is not zero.
+fn counts<T: Moment>(mark: &Mark<T>) -> bool
+    ensures { result ≡ is_counted mark.now }
+{
+    mark.inits > 0 || mark.terms > 0 || mark.clashes > 0
+}
+
+/// The mark with its initiations alone.
+fn starts_of<T: Moment>(mark: &Mark<T>) -> Mark<T>
+    ensures { result ≡ starts_of mark.now }
+{
+    Mark {
+        at: mark.at,
+        inits: mark.inits,
+        terms: 0,
+        clashes: 0,
+    }
+}
+
+/// The change of a mark, as it is noted.
+fn touch_of<T: Moment>(old: &Mark<T>, settled: &Settled<T>) -> Touch<T>
+    ensures { result ≡ touch_of old.now settled.now }
+{
+    let had = counts(old);
+    let has = counts(&settled.mark);
+    let had_starts = old.inits > 0;
+    let has_starts = settled.mark.inits > 0;
+    Touch {
+        at: settled.mark.at,
+        grows: !had && has,
+        starts: !had_starts && has_starts,
+        matters: settled.matters,
+    }
+}
+
+/// Plans the new mark of a property, if it is another one than the old. `Err`: memory ran out, or a count is at its end.
+fn plan_mark<T: Moment>(
+    planned: &mut Planned<T>,
+    p: PropId,
+    old: &Mark<T>,
+    settled: &Settled<T>,
+) -> Result<(), NoMemory>
+    requires mark_free { has_change T.rank p.0 (T.rank settled.now.mark.at) planned.old.marks ≡ false }
+    requires initiation_free { has_change T.rank p.0 (T.rank settled.now.mark.at) planned.old.initiations ≡ false }
+    ensures { OnOk result (PlansMark p old.now settled.now planned.old planned.new) }
+{
+    if !settled.is_changed {
+        return Ok(());
+    }
+    planned.marks.push(p, settled.mark, 0)?;
+    if old.inits != settled.mark.inits {
+        planned.initiations.push(p, starts_of(&settled.mark), 0)?;
+    }
+    planned.touched.note(p, &touch_of(old, settled))
+}
+
+/// Makes a property due at the next time at which anything bears on it. `Err`: memory ran out.
+fn make_due<T: Moment, M: MarkRow<T>, I: SpanRow<T>, X: TimeRow<T>>(
+    parts: &Parts<T, M, I, X>,
+    p: PropId,
+    at: T,
+    agenda: &mut Agenda<T>,
+) -> Result<(), NoMemory>
+    ensures adds { OnOk result (AddsDue T.rank parts.now.points parts.now.entries.slots (T.rank at) (λ n. p.0 == n) agenda.old agenda.new) }
+    ensures due { OnOk result ((u : ℤ) → T.rank at <ℤ u → BearsAt T.rank parts.now.points parts.now.entries.slots p.0 u → IsDueWithin T.rank agenda.new p.0 (T.rank at) u) }
+{
+    if let Some(next) = next_time(parts, p, at) {
+        agenda.add(next, p)?;
+    }
+    Ok(())
+}
+
+/// Settles a property at an instant, by what is tallied of it. `Err`: memory ran out, and what is noted is of no further use.
+pub(crate) fn settle_one<T: Moment, M: MarkRow<T>, I: SpanRow<T>, X: TimeRow<T>>(
+    parts: &Parts<T, M, I, X>,
+    p: PropId,
+    tallied: &Tallied,
+    at: T,
+    dirty: &mut Dirty,
+    agenda: &mut Agenda<T>,
+    planned: &mut Planned<T>,
+) -> Result<(), NoMemory>
+    requires room { HasRoomFor (old_mark T.rank parts.now.points at p.0) tallied.now }
+    requires mark_free { has_change T.rank p.0 (T.rank at) planned.old.marks ≡ false }
+    requires initiation_free { has_change T.rank p.0 (T.rank at) planned.old.initiations ≡ false }
+    ensures settles { OnOk result (SettlesNumber T.rank parts.now.points parts.now.entries.slots at p tallied.now
+        (record { dirty = dirty.old; agenda = agenda.old; planned = planned.old }) (record { dirty = dirty.new; agenda = agenda.new; planned = planned.new })) }
+    ensures leaves { OnOk result ((n : ℕ) → (p.0 == n) ≡ false → LeavesNumber n
+        (record { dirty = dirty.old; agenda = agenda.old; planned = planned.old }) (record { dirty = dirty.new; agenda = agenda.new; planned = planned.new })) }
+    ensures dues { OnOk result (AddsDue T.rank parts.now.points parts.now.entries.slots (T.rank at) (λ n. p.0 == n) agenda.old agenda.new) }
+{
+    let old = old_mark(&parts.points, p, at);
+    let current = currencies(&parts.points, dirty, p, at);
+    let settled = settle(&old, tallied, current);
+    plan_mark(planned, p, &old, &settled)?;
+    dirty.set(p, settled.dirty)?;
+    if settled.dirty.is_some() {
+        make_due(parts, p, at, agenda)?;
+    }
+    Ok(())
+}
