@@ -10,6 +10,8 @@ mod interval_reply;
 mod marked;
 mod property_reply;
 mod stretches;
+#[cfg(test)]
+mod tests;
 mod text;
 
 pub use broken_reply::broken;
