@@ -53,7 +53,7 @@ pub record IsTakenOut {T : Type 0} (theory : Theory) (p : PropId) (before after 
   pub intervals : AreNoIntervals p before.intervals after.intervals
 
 -- what nothing mentions is not live
-unmentioned-not_live : (theory : Theory) (events : List PlainEvent) (t : Ground) → Some 0 ≡ Some (mention_count theory events t + held_mention theory t) → is_live theory events t ≡ false
+pub unmentioned-not_live : (theory : Theory) (events : List PlainEvent) (t : Ground) → Some 0 ≡ Some (mention_count theory events t + held_mention theory t) → is_live theory events t ≡ false
 unfolding is_live
 unmentioned-not_live theory events t none =
     ap (λ b. is_initial theory t || b) (sym (nat_lt-filter (term_eq t) (mentions_of theory events)))

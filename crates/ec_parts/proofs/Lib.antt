@@ -8,6 +8,7 @@ pub mod AscendingNumbers
 pub mod InitialTables
 pub mod NoEvents
 pub mod Forgotten
+pub mod InSlots
 pub mod GatheredRows
 pub mod MarkSums
 pub mod GatheredMarks

@@ -10,6 +10,7 @@ mod laws;
 mod links;
 mod mention;
 mod parts;
+mod slots;
 mod tables;
 mod tally;
 
@@ -18,5 +19,6 @@ pub use forgetting::forget;
 pub use initials::new_parts;
 pub use laws::initials_are_listed_law;
 pub use parts::Parts;
+pub use slots::{mention_slot, note_props, release_slot};
 pub use tables::{mention_all, release_all};
 pub use tally::Tally;
