@@ -1,0 +1,8 @@
+pub mod FoundEvents
+pub mod LetIn
+pub mod WalkSteps
+pub mod Batches
+pub mod Standings
+pub mod Forgetting
+pub mod Undoing
+pub mod Attempts

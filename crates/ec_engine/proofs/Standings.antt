@@ -1,0 +1,40 @@
+-- An engine of no event, and what its parts stand for.
+use Rattle.std.proofs.Common.{◌≡◌, ℤ, List, [], sym, ap, subst, ◌∙◌, arith}
+use Rattle.ec_terms.specs.declared.theory.Theory.{Theory}
+use Rattle.ec_axioms.specs.Calculus.{PlainEvent}
+use Rattle.ec_axioms.specs.Links.{link_count, mentions_of}
+use Rattle.ec_events.specs.Store.{history_of}
+use Rattle.ec_parts.specs.declared.tally.Tally.{Tally}
+use Rattle.ec_parts.specs.StandFor.{StandFor, View}
+use Rattle.ec_engine.specs.Limits.{IsWithinLimits}
+use Rattle.ec_engine.specs.Standing.{IsEngine, IsStanding, Standing}
+
+-- no events are within the limits
+IsWithinLimits-none : (theory : Theory) → IsWithinLimits theory []
+unfolding mentions_of link_count
+IsWithinLimits-none theory = record { few_events = omega arith; few_mentions = omega arith; few_links = omega arith }
+
+-- an engine of no event
+pub IsEngine-new : {T : Type 0} (rank : T → ℤ) (checked theory rules : Theory) (view : View T) (tally : Tally) → StandFor rank checked [] view tally → theory ≡ checked → rules ≡ checked
+    → IsEngine rank theory rules view tally
+IsEngine-new rank checked theory rules view tally stand same same_rules =
+    let events : [] ≡ history_of rank view.store.events = sym stand.both.caches.events_of in
+    record {
+      stand = subst (λ es. StandFor rank theory es view tally) events (subst (λ t. StandFor rank t [] view tally) (sym same) stand);
+      within = subst (λ es. IsWithinLimits theory es) events (IsWithinLimits-none theory);
+      same_rules = same_rules ∙ sym same;
+    }
+
+-- it is seen as the theory and no event
+pub seen-new : {T : Type 0} (rank : T → ℤ) (checked theory : Theory) (view : View T) (tally : Tally) → StandFor rank checked [] view tally → theory ≡ checked
+    → (let made : Theory → List PlainEvent → Standing = λ t es. record { theory = t; events = es } in made theory (history_of rank view.store.events) ≡ made checked [])
+seen-new rank checked theory view tally stand same =
+    let made : Theory → List PlainEvent → Standing = λ t es. record { theory = t; events = es } in
+    ap (λ t. made t (history_of rank view.store.events)) same ∙ ap (made checked) stand.both.caches.events_of
+
+-- the parts of an engine stand for what it is seen as
+pub IsStanding-seen : {T : Type 0} (rank : T → ℤ) (theory rules : Theory) (view : View T) (tally : Tally) (seen : Standing) → IsEngine rank theory rules view tally
+    → (let made : Theory → List PlainEvent → Standing = λ t es. record { theory = t; events = es } in made theory (history_of rank view.store.events) ≡ seen)
+    → IsStanding rank seen.theory seen.events view
+IsStanding-seen rank theory rules view tally seen engine is =
+    subst (λ (s : Standing). IsStanding rank s.theory s.events view) is (record { tally = tally; stand = engine.stand; within = engine.within })

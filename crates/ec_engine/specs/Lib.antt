@@ -1,0 +1,10 @@
+pub mod Updates
+pub mod Limits
+pub mod Standing
+pub mod Net
+pub mod Limited
+pub mod Walk
+pub mod Through
+pub mod Idle
+pub mod Undo
+pub mod Attempt
