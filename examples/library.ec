@@ -1,4 +1,4 @@
-% A lending library. Its rules have contexts, so it can be checked, and is not served yet.
+% A lending library: members borrow what is not lent, and each book has one place.
 initiates borrow(M,B) has_book(M,B) if member(M), not lent(B).
 initiates borrow(M,B) lent(B) if member(M), not lent(B).
 terminates return(M,B) has_book(M,B).

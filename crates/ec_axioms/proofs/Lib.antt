@@ -1,4 +1,3 @@
-pub mod Runs
 pub mod Effects
 pub mod Rounds
 pub mod Ranks

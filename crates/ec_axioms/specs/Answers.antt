@@ -21,7 +21,6 @@ pub data PlainAnswer : Type 0 where
   refused_full_draft : PlainAnswer
   refused_order : PlainAnswer
   refused_memory : PlainAnswer
-  refused_unbuilt : PlainAnswer
   refused_update : Cut → PlainAnswer
   refused_commit : ℕ → Cut → PlainAnswer
 
@@ -54,7 +53,6 @@ answer_text refused_no_draft = codes "refused no-draft"
 answer_text refused_full_draft = codes "refused full-draft " ++ decimal MOST_DRAFTED
 answer_text refused_order = codes "refused order"
 answer_text refused_memory = codes "refused memory"
-answer_text refused_unbuilt = codes "refused unbuilt"
 answer_text (refused_update cut) = codes "refused " ++ cut_text cut
 answer_text (refused_commit k cut) = codes "refused commit " ++ decimal k ++ codes " " ++ cut_text cut
 

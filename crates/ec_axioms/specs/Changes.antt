@@ -10,7 +10,6 @@ use Rattle.ec_terms.specs.declared.theory.Theory.{Theory}
 use Rattle.ec_terms.specs.Term.{term_eq, name_cmp}
 use Rattle.ec_terms.specs.Domain.{GroundLiteral}
 use Rattle.ec_axioms.specs.declared.event.Cut.{Cut}
-use Rattle.ec_axioms.specs.declared.event.Cut.TheVariants.{Duplicate, Unknown}
 use Rattle.ec_axioms.specs.declared.event.Seen.{Seen}
 use Rattle.ec_axioms.specs.Timeline.{Begin, before_all, begin_at, Interval}
 use Rattle.ec_axioms.specs.Calculus.{PlainEvent, Effect, Currency, effects_of, is_active, is_current, intervals_of}
@@ -45,12 +44,6 @@ with_event e (f ∷ events) = if comes_before e f then e ∷ f ∷ events else f
 unfoldable pub without_event : List ℕ → List PlainEvent → List PlainEvent
 without_event id events = filter (λ e. not (bytes_eq e.id id)) events
 
--- The list after an update, or what it is refused for: an assert is refused where its identity is present, a retract where
--- it is absent.
-unfoldable pub update_of : List PlainEvent → PlainUpdate → Result (List PlainEvent) Cut
-update_of events (asserting e) = if has_id e.id events then Err (Duplicate e.id) else Ok (with_event e events)
-update_of events (retracting id) = if has_id id events then Ok (without_event id events) else Err (Unknown id)
-
 -- what one of several updates is refused for, with its place
 abbrev pub PlacedCut : Type 0
 PlacedCut = ℕ × Cut
@@ -59,15 +52,6 @@ PlacedCut = ℕ × Cut
 abbrev pub after_update : ℕ → Result (List PlainEvent) Cut → (List PlainEvent → Result (List PlainEvent) PlacedCut) → Result (List PlainEvent) PlacedCut
 after_update place (Ok events) rest = rest events
 after_update place (Err cut) rest = Err (place, cut)
-
--- the list after updates that are applied in order and numbered from `place` on, or the first refusal with its place
-unfoldable pub update_from : ℕ → List PlainEvent → List PlainUpdate → Result (List PlainEvent) PlacedCut
-update_from place events [] = Ok events
-update_from place events (update ∷ updates) = after_update place (update_of events update) (λ after. update_from (place + 1) after updates)
-
--- the list after all updates in order, or the first refusal with its place from 1
-abbrev pub update_all : List PlainEvent → List PlainUpdate → Result (List PlainEvent) PlacedCut
-update_all events updates = update_from 1 events updates
 
 -- ---- what changed between two lists
 

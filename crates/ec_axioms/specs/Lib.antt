@@ -8,7 +8,6 @@ pub mod Laws
 pub mod Lines
 pub mod Commands
 pub mod Answers
-pub mod Replies
 pub mod Events
 pub mod Plain
 pub mod QueryTexts

@@ -1,11 +1,13 @@
 -- The list that a batch leaves, update by update.
-use Rattle.std.proofs.Common.{◌≡◌, ◌+◌, ℕ, List, [], ◌∷◌, ◌++◌, length, suc, refl, ap, ap₂, ◌∙◌, arith}
+use Rattle.std.proofs.Common.{◌≡◌, ◌+◌, ℕ, true, List, [], ◌∷◌, ◌++◌, length, suc, refl, ap, ap₂, ◌∙◌, arith}
 use Rattle.std.specs.Prelude.{Result, Ok, Err, MatchResult}
 use Rattle.ec_terms.specs.declared.theory.Theory.{Theory}
 use Rattle.ec_axioms.specs.declared.event.Cut.{Cut}
 use Rattle.ec_axioms.specs.Calculus.{PlainEvent}
 use Rattle.ec_axioms.specs.Changes.{PlainUpdate, after_update}
-use Rattle.ec_engine.specs.Updates.{updated, updated_from}
+use Rattle.ec_replies.specs.Runs.{may_want_by}
+use Rattle.ec_replies.specs.Updates.{updated, updated_from}
+use Rattle.ec_engine.specs.Revise.{batch_may_want_memory}
 
 -- the first updates of a batch leave a list, and the rest goes on from it
 pub updated_from-front : (theory : Theory) (place : ℕ) (soon mid : List PlainEvent) (front rest : List PlainUpdate) → updated_from theory place soon front ≡ Ok mid
@@ -42,3 +44,31 @@ updated_from-refused theory place soon mid cut front rest update is next =
 pub goes_ok : {A E : Type 0} (r : Result A E) (P : A → Type 0) → MatchResult r P (λ e. ⊥) → (a : A) × (r ≡ Ok a) × P a
 goes_ok (Ok a) P so = (a, refl, so)
 goes_ok (Err e) P so = absurd so
+
+-- ---- where memory may run out for a batch
+
+-- where it may for the next update
+pub batch_may_want-next : (theory : Theory) (soon mid : List PlainEvent) (front rest : List PlainUpdate) (update : PlainUpdate) → updated_from theory 1 soon front ≡ Ok mid
+    → may_want_by (updated theory mid update) ≡ true → batch_may_want_memory theory soon (front ++ update ∷ rest) ≡ true
+unfolding batch_may_want_memory updated_from
+batch_may_want-next theory soon mid [] [] update is may =
+    let same : soon ≡ mid = cc in ap (λ es. may_want_by (updated theory es update)) same ∙ may
+batch_may_want-next theory soon mid [] (next ∷ rest) update is may = refl
+batch_may_want-next theory soon mid (first ∷ []) rest update is may = refl
+batch_may_want-next theory soon mid (first ∷ second ∷ front) rest update is may = refl
+
+-- and where all of it is accepted
+pub batch_may_want-accepted : (theory : Theory) (before after : List PlainEvent) (updates : List PlainUpdate) → updated_from theory 1 before updates ≡ Ok after
+    → batch_may_want_memory theory before updates ≡ true
+unfolding batch_may_want_memory updated_from
+batch_may_want-accepted theory before after [] is = refl
+batch_may_want-accepted theory before after (update ∷ []) is = by_first (updated theory before update) is
+  where
+    by_first : (r : Result (List PlainEvent) Cut) → after_update 1 r (λ es. Ok es) ≡ Ok after → may_want_by r ≡ true
+    by_first (Ok es) so = refl
+    by_first (Err cut) so = cc
+batch_may_want-accepted theory before after (update ∷ next ∷ updates) is = refl
+
+-- a result is not both
+pub not_both : {A E : Type 0} (r : Result A E) (a : A) (e : E) → r ≡ Ok a → r ≡ Err e → ⊥
+not_both r a e ok err = cc

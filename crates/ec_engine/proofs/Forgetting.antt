@@ -62,3 +62,14 @@ keeps_live theory events table listed id t kept is passed one =
     by_test true b live was is_one = live
     by_test false false live was is_one = absurd (false≢true is_one)
     by_test false true live was is_one = live-mentioned theory events t (λ none. passed was (kept.mentions id t is ∙ sym none))
+
+-- what is kept is live or passes a test, where it was live, was passed, or passes the test
+pub keeps_live_or : (theory : Theory) (events : List PlainEvent) (table : List KeptProp) (listed other : Bool) (id : ℕ) (t : Ground) → AreKept theory events table → term_at id table ≡ Some t
+    → (listed ≡ true → mentions_at id table ≡ Some 0 → ⊥) → IsTrue (is_live theory events t || (listed || other)) → IsTrue (is_live theory events t || other)
+keeps_live_or theory events table listed other id t kept is passed one =
+    by_test (is_live theory events t) listed refl refl one
+  where
+    by_test : (a b : Bool) → is_live theory events t ≡ a → listed ≡ b → (a || (b || other)) ≡ true → (is_live theory events t || other) ≡ true
+    by_test true b live was is_one = ap (λ a. a || other) live
+    by_test false true live was is_one = ap (λ a. a || other) (live-mentioned theory events t (λ none. passed was (kept.mentions id t is ∙ sym none)))
+    by_test false false live was is_one = ap (λ a. a || other) live ∙ is_one

@@ -24,7 +24,7 @@ use Rattle.ec_parts.specs.StandFor.{View, StandForBoth}
 use Rattle.ec_parts.proofs.CachesKept.{shown_entries-moved}
 use Rattle.ec_parts.proofs.TablesOfEvents.{has_first}
 use Rattle.ec_engine.specs.Limited.{ComesIn}
-use Rattle.ec_engine.specs.Updates.{with_few_mentions}
+use Rattle.ec_replies.specs.Updates.{with_few_mentions}
 use Rattle.ec_engine.proofs.FoundEvents.{event_with-put, found-has_event, without-with_event}
 
 -- ---- how many mentions entries make

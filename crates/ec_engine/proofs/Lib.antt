@@ -6,3 +6,10 @@ pub mod Standings
 pub mod Forgetting
 pub mod Undoing
 pub mod Attempts
+pub mod Revising
+pub mod SortedLists
+pub mod NetChanges
+pub mod UndoingChange
+pub mod WorkDone
+pub mod Carried
+pub mod Built

@@ -10,19 +10,18 @@ use Rattle.ec_engine.specs.Limits.{IsWithinLimits}
 use Rattle.ec_engine.specs.Standing.{IsEngine, IsStanding, Standing}
 
 -- no events are within the limits
-IsWithinLimits-none : (theory : Theory) → IsWithinLimits theory []
+pub IsWithinLimits-none : (theory : Theory) → IsWithinLimits theory []
 unfolding mentions_of link_count
 IsWithinLimits-none theory = record { few_events = omega arith; few_mentions = omega arith; few_links = omega arith }
 
 -- an engine of no event
-pub IsEngine-new : {T : Type 0} (rank : T → ℤ) (checked theory rules : Theory) (view : View T) (tally : Tally) → StandFor rank checked [] view tally → theory ≡ checked → rules ≡ checked
-    → IsEngine rank theory rules view tally
-IsEngine-new rank checked theory rules view tally stand same same_rules =
+pub IsEngine-new : {T : Type 0} (rank : T → ℤ) (checked theory : Theory) (view : View T) (tally : Tally) → StandFor rank checked [] view tally → theory ≡ checked
+    → IsEngine rank theory view tally
+IsEngine-new rank checked theory view tally stand same =
     let events : [] ≡ history_of rank view.store.events = sym stand.both.caches.events_of in
     record {
       stand = subst (λ es. StandFor rank theory es view tally) events (subst (λ t. StandFor rank t [] view tally) (sym same) stand);
       within = subst (λ es. IsWithinLimits theory es) events (IsWithinLimits-none theory);
-      same_rules = same_rules ∙ sym same;
     }
 
 -- it is seen as the theory and no event
@@ -33,8 +32,15 @@ seen-new rank checked theory view tally stand same =
     ap (λ t. made t (history_of rank view.store.events)) same ∙ ap (made checked) stand.both.caches.events_of
 
 -- the parts of an engine stand for what it is seen as
-pub IsStanding-seen : {T : Type 0} (rank : T → ℤ) (theory rules : Theory) (view : View T) (tally : Tally) (seen : Standing) → IsEngine rank theory rules view tally
+pub IsStanding-seen : {T : Type 0} (rank : T → ℤ) (theory : Theory) (view : View T) (tally : Tally) (seen : Standing) → IsEngine rank theory view tally
     → (let made : Theory → List PlainEvent → Standing = λ t es. record { theory = t; events = es } in made theory (history_of rank view.store.events) ≡ seen)
     → IsStanding rank seen.theory seen.events view
-IsStanding-seen rank theory rules view tally seen engine is =
+IsStanding-seen rank theory view tally seen engine is =
     subst (λ (s : Standing). IsStanding rank s.theory s.events view) is (record { tally = tally; stand = engine.stand; within = engine.within })
+
+-- parts that stand for a list within the limits are those of an engine
+pub IsEngine-standing : {T : Type 0} (rank : T → ℤ) (theory : Theory) (events : List PlainEvent) (view : View T) (tally : Tally) → StandFor rank theory events view tally → IsWithinLimits theory events
+    → IsEngine rank theory view tally
+IsEngine-standing rank theory events view tally stand within =
+    let same : events ≡ history_of rank view.store.events = sym stand.both.caches.events_of in
+    record { stand = subst (λ es. StandFor rank theory es view tally) same stand; within = subst (λ es. IsWithinLimits theory es) same within }

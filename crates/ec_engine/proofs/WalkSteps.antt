@@ -48,7 +48,8 @@ use Rattle.ec_engine.specs.declared.net.Net.{Net}
 use Rattle.ec_engine.specs.declared.walk.Walk.{Walk}
 use Rattle.ec_engine.specs.Limits.{IsWithinLimits}
 use Rattle.ec_engine.specs.Net.{is_present_by, net_in, old_slot_by}
-use Rattle.ec_engine.specs.Updates.{asserted, retracted, with_few_mentions}
+use Rattle.ec_replies.specs.Runs.{may_want_by}
+use Rattle.ec_replies.specs.Updates.{asserted, retracted, with_few_mentions}
 use Rattle.ec_engine.specs.Walk.{AreLiveOrListed, HasWalkedTo, IsNet, IsNetTo, added_event, event_with}
 use Rattle.ec_engine.proofs.FoundEvents.{event_with-put, event_with-taken, found-has_event, found-id, has_id-found, length-with_event, length-without_event}
 
@@ -115,7 +116,7 @@ number_of_term table id p ps one is there =
 -- ---- limits
 
 -- fewer mentions make no more links
-links_of-front : (theory : Theory) (front mentions : List Ground) → links_of theory mentions ≤ links_of theory (front ++ mentions)
+pub links_of-front : (theory : Theory) (front mentions : List Ground) → links_of theory mentions ≤ links_of theory (front ++ mentions)
 links_of-front theory [] mentions = omega arith
 links_of-front theory (p ∷ front) mentions =
     let rest = links_of-front theory front mentions in
@@ -375,7 +376,7 @@ pub record IsStoredUnder {T : Type 0} (rank : T → ℤ) (theory : Theory) (soon
   pub shown : shown_entries view.table kept.list ≡ Some (entries_of theory event.term)
 
 -- the event of a slot stands under its own identity
-stored_event : {T : Type 0} (rank : T → ℤ) (events : List (Kept T)) (id : List ℕ) (slot : Slot) → All (λ kept. event_at kept.0 events ≡ Some kept.1) events → slot_of id events ≡ Some slot
+pub stored_event : {T : Type 0} (rank : T → ℤ) (events : List (Kept T)) (id : List ℕ) (slot : Slot) → All (λ kept. event_at kept.0 events ≡ Some kept.1) events → slot_of id events ≡ Some slot
     → (event : Event T) × (event_at slot events ≡ Some event) × (event_with id (history_of rank events) ≡ Some (event_of rank event))
 stored_event {T} rank events id slot slots is = by_find (find (λ kept. bytes_eq kept.1.id id) events) refl is
   where
@@ -456,3 +457,23 @@ stored_in {rank = rank} {theory = theory} {view = view} both id slot slots is =
     let stored = stored_event rank view.store.events id slot slots is in
     let there = entered_at rank theory (history_of rank view.store.events) view.table (event_at slot view.store.events) (kept_at slot.0 view.entries.slots) stored.0 stored.1 (both.caches.entries_of slot) in
     record { kept = there.0; event = event_of rank stored.0; kept_is = there.1; found = stored.2; shown = there.2 }
+
+-- ---- where memory may run out
+
+-- for an event that only the limits may refuse
+may_want-limits : (theory : Theory) (events : List PlainEvent) → may_want_by (with_few_mentions theory events) ≡ true
+unfolding with_few_mentions
+may_want-limits theory events = by_tests (nat_lt most_mentions (length (mentions_of theory events))) (nat_lt most_links (link_count theory events))
+  where
+    by_tests : (mentions links : Bool) → may_want_by (cond mentions (Err FullMentions) (cond links (Err FullLinks) (Ok events))) ≡ true
+    by_tests true links = refl
+    by_tests false true = refl
+    by_tests false false = refl
+
+-- for an event whose identity is absent, where there are not too many events
+pub may_want-asserted : (theory : Theory) (soon : List PlainEvent) (e : PlainEvent) → has_id e.id soon ≡ false → length soon + 1 ≤ most_events → may_want_by (asserted theory soon e) ≡ true
+may_want-asserted theory soon e absent room = ap may_want_by (asked_limits theory soon e absent room) ∙ may_want-limits theory (with_event e soon)
+
+-- for the retraction of a present event
+pub may_want-retracted : (soon : List PlainEvent) (id : List ℕ) → has_id id soon ≡ true → may_want_by (retracted soon id) ≡ true
+may_want-retracted soon id there = ap may_want_by (retracted_present soon id there)

@@ -1,4 +1,3 @@
-pub mod Updates
 pub mod Limits
 pub mod Standing
 pub mod Net
@@ -8,3 +7,8 @@ pub mod Through
 pub mod Idle
 pub mod Undo
 pub mod Attempt
+pub mod NetChange
+pub mod UndoChange
+pub mod Revise
+pub mod CarriedOut
+pub mod Build

@@ -10,7 +10,7 @@ use Rattle.ec_context.specs.declared.entry.Entry.{Entry}
 use Rattle.ec_context.specs.Entries.{shown_entries}
 use Rattle.ec_parts.specs.declared.tally.Tally.{Tally}
 use Rattle.ec_parts.specs.StandFor.{View, StandForBoth}
-use Rattle.ec_engine.specs.Updates.{with_few_mentions}
+use Rattle.ec_replies.specs.Updates.{with_few_mentions}
 
 -- The parts stand for two lists, and an event of these entries, whose identity is absent, is to come into the second, a
 -- history with no more mentions than there may be.

@@ -1,5 +1,5 @@
 -- What an engine stands for: a theory and a list of events within the limits.
-use Rattle.std.specs.Prelude.{◌≡◌, ℤ, List}
+use Rattle.std.specs.Prelude.{ℤ, List}
 use Rattle.ec_terms.specs.declared.theory.Theory.{Theory}
 use Rattle.ec_axioms.specs.Calculus.{PlainEvent}
 use Rattle.ec_events.specs.Store.{history_of}
@@ -18,9 +18,7 @@ pub record IsStanding {T : Type 0} (rank : T → ℤ) (theory : Theory) (events 
   pub stand : StandFor rank theory events view tally
   pub within : IsWithinLimits theory events
 
--- the fields of an engine: the parts stand for the list of their store, which is within the limits, and the rules are those of
--- the theory
-pub record IsEngine {T : Type 0} (rank : T → ℤ) (theory rules : Theory) (view : View T) (tally : Tally) : Type 0 where
+-- the fields of an engine: the parts stand for the list of their store, which is within the limits
+pub record IsEngine {T : Type 0} (rank : T → ℤ) (theory : Theory) (view : View T) (tally : Tally) : Type 0 where
   pub stand : StandFor rank theory (history_of rank view.store.events) view tally
   pub within : IsWithinLimits theory (history_of rank view.store.events)
-  pub same_rules : rules ≡ theory

@@ -2,6 +2,7 @@
 -- touched identity are taken out, then those that stood there are put back.
 use Rattle.std.specs.Prelude.{◌≡◌, ◌≤◌, ℕ, ℤ, Bool, not, List, filter, length, Option, Some, None, IfSome, IsTrue, bytes_eq}
 use Rattle.std.specs.List.{list_any}
+use Rattle.ec_terms.specs.declared.ids.Slot.{Slot}
 use Rattle.ec_terms.specs.declared.theory.Theory.{Theory}
 use Rattle.ec_terms.specs.Domain.{entries_of}
 use Rattle.ec_axioms.specs.Calculus.{PlainEvent}
@@ -50,22 +51,22 @@ abbrev pub put_back : Option PlainEvent → List PlainEvent → List PlainEvent
 put_back None events = events
 put_back (Some e) events = with_event e events
 
--- the tables are of a history without an identity, and what the store has under it may come in
-pub record IsRestorable {T : Type 0} (rank : T → ℤ) (theory : Theory) (view : View T) (tally : Tally) (net : Net T) (soon : List PlainEvent) (id : List ℕ) : Type 0 where
+-- the tables are of a history without an identity, and what the store has under it, in this slot, may come in
+pub record IsRestorable {T : Type 0} (rank : T → ℤ) (theory : Theory) (view : View T) (tally : Tally) (slot : Option Slot) (soon : List PlainEvent) (id : List ℕ) : Type 0 where
   pub both : StandForBoth rank theory (history_of rank view.store.events) soon view tally
-  pub old : net.old ≡ slot_of id view.store.events
+  pub old : slot ≡ slot_of id view.store.events
   pub few : length (mentions_of theory (put_back (event_with id (history_of rank view.store.events)) soon)) ≤ most_mentions
 
 -- of some such history
-pub record MayRestore {T : Type 0} (rank : T → ℤ) (theory : Theory) (view : View T) (tally : Tally) (net : Net T) : Type 0 where
+pub record MayRestore {T : Type 0} (rank : T → ℤ) (theory : Theory) (view : View T) (tally : Tally) (slot : Option Slot) : Type 0 where
   pub soon : List PlainEvent
   pub id : List ℕ
-  pub restorable : IsRestorable rank theory view tally net soon id
+  pub restorable : IsRestorable rank theory view tally slot soon id
 
 -- they become those of the history with it
-abbrev pub Restores : {T : Type 0} → (T → ℤ) → Theory → Net T → View T → Tally → View T → Tally → Type 0
-Restores rank theory net before old after new =
-    (soon : List PlainEvent) (id : List ℕ) → IsRestorable rank theory before old net soon id
+abbrev pub Restores : {T : Type 0} → (T → ℤ) → Theory → Option Slot → View T → Tally → View T → Tally → Type 0
+Restores rank theory slot before old after new =
+    (soon : List PlainEvent) (id : List ℕ) → IsRestorable rank theory before old slot soon id
     → StandForBoth rank theory (history_of rank before.store.events) (put_back (event_with id (history_of rank before.store.events)) soon) after new
 
 -- ---- from end to end

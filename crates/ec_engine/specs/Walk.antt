@@ -22,7 +22,8 @@ use Rattle.ec_engine.specs.declared.walk.Stop.{Stop}
 use Rattle.ec_engine.specs.declared.walk.Stop.TheVariants.{Refused, Memory}
 use Rattle.ec_engine.specs.Limits.{IsWithinLimits}
 use Rattle.ec_engine.specs.Net.{net_in}
-use Rattle.ec_engine.specs.Updates.{updated}
+use Rattle.ec_replies.specs.Runs.{may_want_by}
+use Rattle.ec_replies.specs.Updates.{updated}
 
 -- the event of an identity, if it is present
 abbrev pub event_with : List ℕ → List PlainEvent → Option PlainEvent
@@ -64,9 +65,9 @@ pub record HasWalked {T : Type 0} (rank : T → ℤ) (theory : Theory) (view : V
   pub soon : List PlainEvent
   pub to : HasWalkedTo rank theory view.store.events soon view tally walk
 
--- How a walk goes on from a list by an update: to the list after it; or the update is refused, or memory ran out, and the
--- walk stays at the list.
+-- How a walk goes on from a list by an update: to the list after it; or the update is refused, or memory ran out, as it never
+-- does where another refusal is always told, and the walk stays at the list.
 abbrev pub GoesOn : {T A : Type 0} → (T → ℤ) → Theory → List (Kept T) → List PlainEvent → PlainUpdate → View T → Tally → Walk T → Result A Stop → Type 0
 GoesOn rank theory events soon update view tally walk (Ok done) = MatchResult (updated theory soon update) (λ after. HasWalkedTo rank theory events after view tally walk) (λ cut. ⊥)
 GoesOn rank theory events soon update view tally walk (Err (Refused cut)) = (updated theory soon update ≡ Err cut) × HasWalkedTo rank theory events soon view tally walk
-GoesOn rank theory events soon update view tally walk (Err Memory) = HasWalkedTo rank theory events soon view tally walk
+GoesOn rank theory events soon update view tally walk (Err Memory) = IsTrue (may_want_by (updated theory soon update)) × HasWalkedTo rank theory events soon view tally walk

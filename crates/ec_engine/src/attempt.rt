@@ -13,7 +13,6 @@ use crate::through::walk_through;
 use crate::undo::undo;
 use crate::walk::Walk;
 use ec_axioms::{Steps, Update};
-use ec_context::Rules;
 use ec_moment::Moment;
 use ec_parts::{Parts, Tally};
 use ec_rows::{MarkRow, SpanRow, TimeRow};
@@ -22,7 +21,7 @@ use std::alloc::Global;
 use std::sync::ledger::Ledger;
 
 /// A walk that has not gone anywhere. It takes no memory.
-fn start<T: Moment, M: MarkRow<T>, I: SpanRow<T>, X: TimeRow<T>>(
+pub(crate) fn start<T: Moment, M: MarkRow<T>, I: SpanRow<T>, X: TimeRow<T>>(
     alloc: Global,
     parts: &Parts<T, M, I, X>,
     tally: &Tally,
@@ -45,13 +44,11 @@ fn start<T: Moment, M: MarkRow<T>, I: SpanRow<T>, X: TimeRow<T>>(
 /// out; then the parts stand for the list of the store as before.
 pub(crate) fn attempt<T: Moment, M: MarkRow<T>, I: SpanRow<T>, X: TimeRow<T>, L: Ledger>(
     alloc: Global,
-    rules: &Rules,
     parts: &mut Parts<T, M, I, X>,
     tally: &mut Tally,
     batch: &[Update<T>],
     steps: &mut Steps<L>,
 ) -> Result<Walk<T>, Refusal>
-    requires theory { rules.now ≡ parts.old.checked }
     requires stand { StandFor T.rank parts.old.checked (history_of T.rank parts.old.store.events) (view_of parts.old) tally.old }
     requires within { IsWithinLimits parts.old.checked (history_of T.rank parts.old.store.events) }
     requires few { length batch.now < 2 ^ 32 }
@@ -63,7 +60,7 @@ pub(crate) fn attempt<T: Moment, M: MarkRow<T>, I: SpanRow<T>, X: TimeRow<T>, L:
     ensures all_steps { steps.new ≤ steps.old + 2 * length batch.now }
 {
     let mut walk = start(alloc, parts, tally);
-    match walk_through(alloc, rules, parts, tally, &mut walk, batch, steps) {
+    match walk_through(alloc, parts, tally, &mut walk, batch, steps) {
         Ok(()) => Ok(walk),
         Err(refusal) => {
             undo(parts, tally, &walk, steps);

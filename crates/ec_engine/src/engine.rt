@@ -1,8 +1,18 @@
 //! The engine.
-ghost use Rattle.std.specs.Prelude.{◌≡◌, [], IfOk};
+ghost use Rattle.std.specs.Prelude.{◌≡◌, ◌+◌, ◌≤◌, ◌<◌, ◌^◌, [], IfOk, length, map};
+ghost use Rattle.ec_axioms.specs.Changes.{entry_count};
+ghost use Rattle.ec_axioms.specs.Events.{event_of, plain_update};
 ghost use Rattle.ec_parts.specs.StandFor.{view_of};
+ghost use Rattle.ec_engine.specs.Build.{HaveOwnIds, history_from};
+ghost use Rattle.ec_engine.specs.Limits.{IsWithinLimits};
+ghost use Rattle.ec_engine.specs.Revise.{IsRevised, most_steps};
 ghost use Rattle.ec_engine.specs.Standing.{IsStanding};
 
+use crate::attempt::attempt;
+use crate::building::fill;
+use crate::carrying::carry_out;
+use crate::refusal::Refusal;
+use ec_axioms::{Event, Seen, Steps, Update};
 use ec_check::Checked;
 use ec_context::Rules;
 use ec_moment::Moment;
@@ -11,14 +21,14 @@ use ec_rows::{MarkRow, SpanRow, TimeRow};
 use ec_terms::NoMemory;
 use std::alloc::Global;
 use std::marker::Model;
+use std::sync::ledger::Ledger;
 
-/// The parts for one list of events under a theory. The list has no more events, mentions and links than there may be.
+/// A list of events under a theory, with all that follows from it. The list has no more events, mentions and links than there may be.
 /// Contracts see the theory and the list.
 #[derive(Drop)]
 pub struct Engine<T: Moment, M: MarkRow<T>, I: SpanRow<T>, X: TimeRow<T>> {
     parts: Parts<T, M, I, X>,
     tally: Tally,
-    rules: Rules,
     alloc: Global,
 }
 
@@ -31,24 +41,43 @@ impl<T: Moment, M: MarkRow<T>, I: SpanRow<T>, X: TimeRow<T>> Model for Engine<T,
 
     ghost view = { λ engine. record { theory = engine.parts.checked; events = history_of T.rank engine.parts.store.events } };
 
-    ghost invariant = { λ engine. IsEngine T.rank engine.parts.checked engine.rules (view_of engine.parts) engine.tally };
+    ghost invariant = { λ engine. IsEngine T.rank engine.parts.checked (view_of engine.parts) engine.tally };
 }
 
 impl<T: Moment, M: MarkRow<T>, I: SpanRow<T>, X: TimeRow<T>> Engine<T, M, I, X> {
-    /// An engine of no event, under a theory and its rules. `Err`: memory ran out.
-    pub fn new(
-        alloc: Global,
-        checked: Checked,
-        rules: Rules,
-    ) -> Result<Engine<T, M, I, X>, NoMemory>
-        requires { rules ≡ checked }
+    /// An engine of no event, under a theory. `Err`: memory ran out.
+    pub fn new(alloc: Global, checked: Checked) -> Result<Engine<T, M, I, X>, NoMemory>
         ensures { IfOk result (λ engine. engine ≡ record { theory = checked; events = [] }) }
     {
-        let (parts, tally) = new_parts(alloc, checked)?;
+        let rules = Rules::new(alloc, checked)?;
+        let (parts, tally) = new_parts(alloc, rules)?;
         Ok(Engine {
             parts,
             tally,
-            rules,
+            alloc,
+        })
+    }
+
+    /// An engine of the history that some events make, in whatever order they come, under a theory. `Err`: memory ran out.
+    ///
+    /// Each entry of the events is at most one step, and so is each event.
+    pub fn build<L: Ledger>(
+        alloc: Global,
+        checked: Checked,
+        list: &[Event<T>],
+        steps: &mut Steps<L>,
+    ) -> Result<Engine<T, M, I, X>, NoMemory>
+        requires own { HaveOwnIds (map (event_of T.rank) list.now) }
+        requires within { IsWithinLimits checked (history_from (map (event_of T.rank) list.now)) }
+        ensures built { IfOk result (λ engine. engine ≡ record { theory = checked; events = history_from (map (event_of T.rank) list.now) }) }
+        ensures steps { steps.new ≤ steps.old + entry_count checked (history_from (map (event_of T.rank) list.now)) + length list.now }
+    {
+        let rules = Rules::new(alloc, checked)?;
+        let (mut parts, mut tally) = new_parts(alloc, rules)?;
+        fill(alloc, &mut parts, &mut tally, list, steps)?;
+        Ok(Engine {
+            parts,
+            tally,
             alloc,
         })
     }
@@ -60,5 +89,30 @@ impl<T: Moment, M: MarkRow<T>, I: SpanRow<T>, X: TimeRow<T>> Engine<T, M, I, X> 
     {
         let _ = &self.tally;
         &self.parts
+    }
+
+    /// Applies a batch of updates in order, all of it or nothing, and counts what it changed. `Err`: the first update that is
+    /// refused, with its place from 1, or memory ran out; then the list is as it was. Of a batch of one update, these refusals
+    /// take no memory and are always told: its identity is present, its identity is absent, there are too many events.
+    ///
+    /// The steps follow what the batch changes, and not how long the list is.
+    pub fn revise<L: Ledger>(
+        &mut self,
+        batch: &[Update<T>],
+        steps: &mut Steps<L>,
+    ) -> Result<Seen, Refusal>
+        requires few { length batch.now < 2 ^ 32 }
+        ensures revised { IsRevised self.old.theory self.old.events (map (plain_update T.rank) batch.now) result self.new.events }
+        ensures theory { self.new.theory ≡ self.old.theory }
+        ensures steps { steps.new ≤ steps.old + most_steps self.old.theory self.old.events (map (plain_update T.rank) batch.now) }
+    {
+        let walk = match attempt(self.alloc, &mut self.parts, &mut self.tally, batch, steps) {
+            Ok(walk) => walk,
+            Err(refusal) => return Err(refusal),
+        };
+        let Ok(seen) = carry_out(self.alloc, &mut self.parts, &mut self.tally, walk, steps) else {
+            return Err(Refusal::Memory);
+        };
+        Ok(seen)
     }
 }

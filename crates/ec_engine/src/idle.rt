@@ -5,7 +5,7 @@ ghost use Rattle.ec_numbered.specs.PropSet.{has_number};
 ghost use Rattle.ec_parts.specs.declared.tally.Tally.{Tally};
 ghost use Rattle.ec_parts.specs.StandFor.{StandForBoth, view_of};
 ghost use Rattle.ec_props.specs.Table.{mentions_at, prop_at};
-ghost use Rattle.ec_engine.specs.Idle.{ForgetsListed, StandForSome};
+ghost use Rattle.ec_engine.specs.Idle.{ForgetsListed, LeavesUnlisted, StandForSome};
 
 use ec_moment::Moment;
 use ec_parts::{Parts, forget};
@@ -39,6 +39,7 @@ pub(crate) fn forget_idle<T: Moment, M: MarkRow<T>, I: SpanRow<T>, X: TimeRow<T>
 )
     requires { StandForSome T.rank parts.old.checked (view_of parts.old) }
     ensures stands { ForgetsListed T.rank parts.old.checked (λ id. has_number id list.now) (view_of parts.old) (view_of parts.new) }
+    ensures unlisted { LeavesUnlisted T.rank parts.old.checked (λ id. has_number id list.now) (view_of parts.old) (view_of parts.new) }
     ensures theory { parts.new.checked ≡ parts.old.checked }
 {
     for p in list {

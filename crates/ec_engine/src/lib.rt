@@ -1,14 +1,20 @@
-//! The engine: the parts for one list of events, changed by batches of updates.
+//! The engine: a list of events under a theory, changed by batches of updates.
 #![tactic(auto)]
 
 mod attempt;
+mod building;
+mod carrying;
 mod engine;
 mod idle;
 mod limited;
 mod net;
+mod net_change;
 mod refusal;
+#[cfg(test)]
+mod tests;
 mod through;
 mod undo;
+mod undo_change;
 mod walk;
 pub mod worked;
 

@@ -10,7 +10,6 @@ ghost use Rattle.ec_engine.specs.Through.{GoesThrough};
 use crate::refusal::Refusal;
 use crate::walk::{Stop, Walk, update};
 use ec_axioms::{Steps, Update};
-use ec_context::Rules;
 use ec_moment::Moment;
 use ec_parts::{Parts, Tally};
 use ec_rows::{MarkRow, SpanRow, TimeRow};
@@ -21,14 +20,12 @@ use std::sync::ledger::Ledger;
 /// was then.
 pub(crate) fn walk_through<T: Moment, M: MarkRow<T>, I: SpanRow<T>, X: TimeRow<T>, L: Ledger>(
     alloc: Global,
-    rules: &Rules,
     parts: &mut Parts<T, M, I, X>,
     tally: &mut Tally,
     walk: &mut Walk<T>,
     batch: &[Update<T>],
     steps: &mut Steps<L>,
 ) -> Result<(), Refusal>
-    requires theory { rules.now ≡ parts.old.checked }
     requires walked { HasWalked T.rank parts.old.checked (view_of parts.old) tally.old walk.old }
     requires few { length batch.now < 2 ^ 32 }
     ensures goes { (soon : List PlainEvent) → HasWalkedTo T.rank parts.old.checked parts.old.store.events soon (view_of parts.old) tally.old walk.old →
@@ -41,7 +38,7 @@ pub(crate) fn walk_through<T: Moment, M: MarkRow<T>, I: SpanRow<T>, X: TimeRow<T
     let mut place: u32 = 0;
     for one in batch {
         place += 1;
-        match update(alloc, rules, parts, tally, walk, one, steps) {
+        match update(alloc, parts, tally, walk, one, steps) {
             Ok(()) => {}
             Err(Stop::Refused(cut)) => return Err(Refusal::Update { place, cut }),
             Err(Stop::Memory) => return Err(Refusal::Memory),

@@ -17,6 +17,7 @@ use ec_axioms::Steps;
 use ec_moment::Moment;
 use ec_parts::{Parts, Tally, mention_slot, release_all};
 use ec_rows::{MarkRow, SpanRow, TimeRow};
+use ec_terms::Slot;
 use std::sync::ledger::Ledger;
 
 /// Releases what the event mentions that stands under an identity in the list to come, if there is one. It takes no memory.
@@ -36,22 +37,22 @@ fn release_new<T: Moment, M: MarkRow<T>, I: SpanRow<T>, X: TimeRow<T>>(
     }
 }
 
-/// Mentions again what the event mentions that the store has under an identity, if there is one. To read its entries is one
+/// Mentions again what the event mentions that the store has in a slot, if there is one. To read its entries is one
 /// step. It takes no memory.
-fn restore_old<T: Moment, M: MarkRow<T>, I: SpanRow<T>, X: TimeRow<T>, L: Ledger>(
+pub(crate) fn restore_old<T: Moment, M: MarkRow<T>, I: SpanRow<T>, X: TimeRow<T>, L: Ledger>(
     parts: &mut Parts<T, M, I, X>,
     tally: &mut Tally,
-    net: &Net<T>,
+    slot: Option<Slot>,
     steps: &mut Steps<L>,
 )
-    requires { MayRestore T.rank parts.old.checked (view_of parts.old) tally.old net.now }
-    ensures back { Restores T.rank parts.old.checked net.now (view_of parts.old) tally.old (view_of parts.new) tally.new }
+    requires { MayRestore T.rank parts.old.checked (view_of parts.old) tally.old slot }
+    ensures back { Restores T.rank parts.old.checked slot (view_of parts.old) tally.old (view_of parts.new) tally.new }
     ensures terms { (id : ℕ) → term_at id parts.new.props ≡ term_at id parts.old.props }
     ensures rest { parts.new ≡ record parts.old { props = parts.new.props } }
     ensures steps { steps.new ≤ steps.old + 1 }
 {
     let _ = parts.store.len();
-    match net.old {
+    match slot {
         None => {}
         Some(slot) => mention_slot(parts, tally, slot, steps),
     }
@@ -96,7 +97,7 @@ fn restore_nets<T: Moment, M: MarkRow<T>, I: SpanRow<T>, X: TimeRow<T>, L: Ledge
     let _ = nets.len();
     for i in 0..nets.len() {
         match nets.get_index(i) {
-            Some((_, net)) => restore_old(parts, tally, net, steps),
+            Some((_, net)) => restore_old(parts, tally, net.old, steps),
             None => unreachable!(),
         }
     }

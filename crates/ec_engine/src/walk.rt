@@ -12,7 +12,6 @@ ghost use Rattle.ec_engine.specs.Walk.{GoesOn, HasWalked, HasWalkedTo};
 use crate::limited::take_in;
 use crate::net::{Added, Net, Nets, is_present, make_room, old_slot, put};
 use ec_axioms::{Cut, Event, MOST_EVENTS, Steps, Update};
-use ec_context::Rules;
 use ec_moment::Moment;
 use ec_parts::{Parts, Tally, enter, note_props, release_all, release_slot};
 use ec_rows::{MarkRow, SpanRow, TimeRow};
@@ -52,15 +51,13 @@ fn copy_of<T: Moment>(alloc: Global, event: &Event<T>) -> Result<Event<T>, NoMem
 }
 
 /// Asserts an event: it is in the list to come, and its entries are mentioned in the tables.
-fn assert_event<T: Moment, M: MarkRow<T>, I: SpanRow<T>, X: TimeRow<T>>(
+pub(crate) fn assert_event<T: Moment, M: MarkRow<T>, I: SpanRow<T>, X: TimeRow<T>>(
     alloc: Global,
-    rules: &Rules,
     parts: &mut Parts<T, M, I, X>,
     tally: &mut Tally,
     walk: &mut Walk<T>,
     event: &Event<T>,
 ) -> Result<(), Stop>
-    requires theory { rules.now ≡ parts.old.checked }
     requires walked { HasWalked T.rank parts.old.checked (view_of parts.old) tally.old walk.old }
     ensures goes { (soon : List PlainEvent) → HasWalkedTo T.rank parts.old.checked parts.old.store.events soon (view_of parts.old) tally.old walk.old →
         GoesOn T.rank parts.old.checked parts.old.store.events soon (asserting (event_of T.rank event.now)) (view_of parts.new) tally.new walk.new result }
@@ -80,7 +77,7 @@ fn assert_event<T: Moment, M: MarkRow<T>, I: SpanRow<T>, X: TimeRow<T>>(
     let Ok(copy) = copy_of(alloc, event) else {
         return Err(Stop::Memory);
     };
-    let Ok(entries) = enter(alloc, rules, parts, event, &mut walk.fresh) else {
+    let Ok(entries) = enter(alloc, parts, event, &mut walk.fresh) else {
         return Err(Stop::Memory);
     };
     if let Err(cut) = take_in(parts, tally, &entries) {
@@ -129,7 +126,7 @@ fn retract_stored<T: Moment, M: MarkRow<T>, I: SpanRow<T>, X: TimeRow<T>, L: Led
     Ok(())
 }
 
-/// Retracts an event that the walk put in.
+/// Retracts the event of an identity that the walk touched.
 fn retract_added<T: Moment, M: MarkRow<T>, I: SpanRow<T>, X: TimeRow<T>>(
     parts: &mut Parts<T, M, I, X>,
     tally: &mut Tally,
@@ -145,25 +142,26 @@ fn retract_added<T: Moment, M: MarkRow<T>, I: SpanRow<T>, X: TimeRow<T>>(
     ensures len { index_map_len walk.new.nets ≤ index_map_len walk.old.nets + 1 }
 {
     let _ = parts.props.len();
+    if !is_present(&walk.nets, &parts.store, id) {
+        return Err(Stop::Refused(Cut::Unknown(id.copied())));
+    }
     let Ok(()) = make_room(&mut walk.nets) else {
         return Err(Stop::Memory);
     };
     let Some(net) = walk.nets.get(id) else {
         unreachable!();
     };
-    match &net.new {
-        None => Err(Stop::Refused(Cut::Unknown(id.copied()))),
-        Some(added) => {
-            let Ok(()) = note_props(&mut walk.dying, &added.entries) else {
-                return Err(Stop::Memory);
-            };
-            release_all(parts, tally, &added.entries);
-            let old = net.old;
-            put(&mut walk.nets, id.copied(), Net { old, new: None });
-            walk.events -= 1;
-            Ok(())
-        }
-    }
+    let Some(added) = &net.new else {
+        unreachable!();
+    };
+    let Ok(()) = note_props(&mut walk.dying, &added.entries) else {
+        return Err(Stop::Memory);
+    };
+    release_all(parts, tally, &added.entries);
+    let old = net.old;
+    put(&mut walk.nets, id.copied(), Net { old, new: None });
+    walk.events -= 1;
+    Ok(())
 }
 
 /// Retracts the event of an identity.
@@ -194,14 +192,12 @@ fn retract_event<T: Moment, M: MarkRow<T>, I: SpanRow<T>, X: TimeRow<T>, L: Ledg
 /// Goes on by one update. `Err`: it is refused, or memory ran out; the walk stays where it was.
 pub(crate) fn update<T: Moment, M: MarkRow<T>, I: SpanRow<T>, X: TimeRow<T>, L: Ledger>(
     alloc: Global,
-    rules: &Rules,
     parts: &mut Parts<T, M, I, X>,
     tally: &mut Tally,
     walk: &mut Walk<T>,
     update: &Update<T>,
     steps: &mut Steps<L>,
 ) -> Result<(), Stop>
-    requires theory { rules.now ≡ parts.old.checked }
     requires walked { HasWalked T.rank parts.old.checked (view_of parts.old) tally.old walk.old }
     ensures goes { (soon : List PlainEvent) → HasWalkedTo T.rank parts.old.checked parts.old.store.events soon (view_of parts.old) tally.old walk.old →
         GoesOn T.rank parts.old.checked parts.old.store.events soon (plain_update T.rank update.now) (view_of parts.new) tally.new walk.new result }
@@ -211,7 +207,7 @@ pub(crate) fn update<T: Moment, M: MarkRow<T>, I: SpanRow<T>, X: TimeRow<T>, L: 
     ensures steps { steps.new ≤ steps.old + 1 }
 {
     match update {
-        Update::Assert(event) => assert_event(alloc, rules, parts, tally, walk, event),
+        Update::Assert(event) => assert_event(alloc, parts, tally, walk, event),
         Update::Retract(id) => retract_event(parts, tally, walk, id, steps),
     }
 }

@@ -6,7 +6,7 @@ ghost use Rattle.ec_axioms.specs.Calculus.{PlainEvent};
 ghost use Rattle.ec_axioms.specs.Changes.{asserting, has_id, retracting};
 ghost use Rattle.ec_axioms.specs.Links.{most_events};
 ghost use Rattle.ec_axioms.specs.Examples.{event, plug_a, plugged_and_pushed, push_a, theory_a};
-ghost use Rattle.ec_engine.specs.Updates.{asserted, updated_by};
+ghost use Rattle.ec_replies.specs.Updates.{asserted, updated_by};
 
 /// A batch is applied in order; its first refusal is told with its place.
 pub fn batches_are_applied_in_order()

@@ -26,8 +26,6 @@ pub enum Answer {
     FullDraft,
     Order,
     Memory,
-    /// The command is well formed, and is not served yet.
-    Unbuilt,
     /// An update was refused.
     Update(Cut),
     /// The update at this place of a draft, from 1, was refused.

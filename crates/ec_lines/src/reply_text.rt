@@ -172,7 +172,6 @@ impl ReplyText {
             }
             Answer::Order => self.push(b"refused order"),
             Answer::Memory => self.push(b"refused memory"),
-            Answer::Unbuilt => self.push(b"refused unbuilt"),
             Answer::Update(cut) => {
                 self.push(b"refused ");
                 self.push_cut(cut);

@@ -255,7 +255,7 @@ fn counts_are_shown_by_their_names(rt: HostRuntime) -> Result<(), Fail> {
 }
 
 /// Answers with the session of their line and their text.
-const ANSWERS: [(Option<u8>, Answer, &[u8]); 17] = [
+const ANSWERS: [(Option<u8>, Answer, &[u8]); 16] = [
     (Some(0), Answer::Ok, b"@0 ok\n"),
     (None, Answer::Yes, b"yes\n"),
     (Some(63), Answer::No, b"@63 no\n"),
@@ -273,7 +273,6 @@ const ANSWERS: [(Option<u8>, Answer, &[u8]); 17] = [
     (None, Answer::FullDraft, b"refused full-draft 1024\n"),
     (None, Answer::Order, b"refused order\n"),
     (None, Answer::Memory, b"refused memory\n"),
-    (None, Answer::Unbuilt, b"refused unbuilt\n"),
     (
         None,
         Answer::Update(Cut::FullEvents),

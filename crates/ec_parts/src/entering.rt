@@ -11,7 +11,7 @@ ghost use Rattle.ec_parts.specs.StandFor.{view_of};
 use crate::adopting::adopt;
 use crate::parts::Parts;
 use ec_axioms::Event;
-use ec_context::{EntryList, Rules, entries_of};
+use ec_context::{EntryList, entries_of};
 use ec_moment::Moment;
 use ec_rows::{MarkRow, SpanRow, TimeRow};
 use ec_terms::{NoMemory, PropId};
@@ -22,12 +22,10 @@ use std::alloc::Global;
 /// `fresh`.
 pub fn enter<T: Moment, M: MarkRow<T>, I: SpanRow<T>, X: TimeRow<T>>(
     alloc: Global,
-    rules: &Rules,
     parts: &mut Parts<T, M, I, X>,
     event: &Event<T>,
     fresh: &mut Vec<PropId>,
 ) -> Result<EntryList, NoMemory>
-    requires theory { rules.now ≡ parts.old.checked }
     requires stand { StandForSome T.rank parts.old.checked (view_of parts.old) }
     ensures entries { IfOk result (λ list. shown_entries parts.new.props list ≡ Some (all_entries parts.old.checked event.now.term)) }
     ensures kept { IfOk result (λ list. All (IsKeptEntry parts.new.props) list) }
@@ -41,7 +39,7 @@ pub fn enter<T: Moment, M: MarkRow<T>, I: SpanRow<T>, X: TimeRow<T>>(
     ensures more { (id : ℕ) → IsTrue (has_number id fresh.old.items) → IsTrue (has_number id fresh.new.items) }
 {
     let mut waiting = Vec::new(alloc);
-    let list = entries_of(alloc, rules, event, &mut parts.props, &mut waiting)?;
+    let list = entries_of(alloc, &parts.checked, event, &mut parts.props, &mut waiting)?;
     adopt(alloc, parts, &mut waiting, fresh)?;
     Ok(list)
 }

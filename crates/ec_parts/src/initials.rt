@@ -15,7 +15,7 @@ ghost use Rattle.ec_parts.specs.StandFor.{StandFor, view_of};
 
 use crate::parts::Parts;
 use crate::tally::Tally;
-use ec_check::Checked;
+use ec_context::Rules;
 use ec_entries::Entries;
 use ec_events::EventStore;
 use ec_exclusive::Neighbours;
@@ -185,7 +185,7 @@ fn initial_rows<T: Moment, M: MarkRow<T>, I: SpanRow<T>>(
 /// all events. `Err`: memory ran out.
 pub fn new_parts<T: Moment, M: MarkRow<T>, I: SpanRow<T>, X: TimeRow<T>>(
     alloc: Global,
-    checked: Checked,
+    checked: Rules,
 ) -> Result<(Parts<T, M, I, X>, Tally), NoMemory>
     ensures stand { IfOk result (λ made. StandFor T.rank checked [] (view_of made.0) made.1) }
     ensures theory { IfOk result (λ made. made.0.checked ≡ checked) }

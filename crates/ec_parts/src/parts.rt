@@ -1,4 +1,4 @@
-use ec_check::Checked;
+use ec_context::Rules;
 use ec_entries::Entries;
 use ec_events::EventStore;
 use ec_exclusive::Neighbours;
@@ -12,7 +12,8 @@ use ec_rows::{MarkRow, SpanRow, TimeRow};
 /// another; the caches, all that follow but `store`, say what the calculus makes of the events in `store`.
 #[derive(Drop)]
 pub struct Parts<T: Moment, M: MarkRow<T>, I: SpanRow<T>, X: TimeRow<T>> {
-    pub checked: Checked,
+    /// The theory, with its rules by the events that they are for.
+    pub checked: Rules,
     pub store: EventStore<T, X>,
     pub props: PropTable,
     pub neighbours: Neighbours,

@@ -1,22 +1,24 @@
 -- How the serving of an input ends.
-use Rattle.std.proofs.Common.{◌≡◌, ◌≤◌, ℕ, Bool, true, false, ◌⊎◌, List, [], ◌∷◌, ◌++◌, length, append-nil, refl, sym, subst, inl, inr}
+use Rattle.std.proofs.Common.{◌≡◌, ◌≤◌, ◌<◌, ℕ, arith, Bool, true, false, ◌⊎◌, List, [], ◌∷◌, ◌++◌, length, refl, sym, subst, inl, inr}
 use Rattle.std.specs.Prelude.{Option}
 use Rattle.ec_axioms.specs.Lines.{lines_of, whole_lines}
-use Rattle.ec_axioms.specs.Replies.{State}
+use Rattle.ec_replies.specs.State.{State}
+use Rattle.ec_replies.specs.Replies.{Language}
+use Rattle.ec_sessions.specs.Handling.{IsHandled}
+use Rattle.ec_server.specs.Answered.{IsServing, HasQuit, AnswersLines, AnswersPart}
 use Rattle.ec_lines.specs.FeedState.{FeedState, IsReady, Finishes}
-use Rattle.ec_server.specs.declared.handled.Handled.{Handled}
-use Rattle.ec_server.specs.declared.handled.Handled.TheVariants.{Go, Bye, WriteFault}
+use Rattle.ec_sessions.specs.declared.handled.Handled.{Handled}
+use Rattle.ec_sessions.specs.declared.handled.Handled.TheVariants.{Go, Bye, WriteFault}
 use Rattle.ec_outside.specs.Counts.{Rose}
-use Rattle.ec_outside.specs.Streams.{Kept}
+use Rattle.ec_outside.specs.Streams.{IsAtEnd, Kept}
 use Rattle.ec_outside.proofs.Counts.{Rose-earlier}
-use Rattle.ec_server.specs.declared.handled.Ending.{Ending}
-use Rattle.ec_server.specs.declared.handled.Ending.TheVariants.{End, Quit, Limit, ReadFault, WriteFault as Broken}
+use Rattle.ec_server.specs.declared.ending.Ending.{Ending}
+use Rattle.ec_server.specs.declared.ending.Ending.TheVariants.{End, Quit, Limit, ReadFault, WriteFault as Broken}
 use Rattle.ec_server.specs.Ending.{IsEnding, HasEnded, SaysServed}
 use Rattle.ec_server.specs.ExitStatus.{status_of}
-use Rattle.ec_server.specs.Handling.{Language, IsHandled, IsServing, HasQuit, AnswersLines, AnswersPart}
 use Rattle.ec_server.specs.Serving.{IsLast}
-use Rattle.ec_server.proofs.Serving.{AnswersLines-line, AnswersLines-so_far, AnswersLines-kept, AnswersLines-quit, HasQuit-kept}
-use Rattle.ec_server.proofs.PartialReplies.{AnswersPart-all, AnswersPart-kept, AnswersPart-line}
+use Rattle.ec_server.proofs.Serving.{AnswersLines-line, AnswersLines-so_far, AnswersLines-kept, HasQuit-kept}
+use Rattle.ec_server.proofs.PartialReplies.{AnswersPart-all, AnswersPart-kept, AnswersPart-line, AnswersPart-quit}
 
 -- where handing on failed or did not, the serving ended so or the sink failed
 pub ending_either : {R : Type 0} (ending : Ending) → (ending ≡ End) ⊎ ((ending ≡ Broken) × R) → (ending ≡ End) ⊎ (ending ≡ Broken)
@@ -66,9 +68,20 @@ module _ {K : Type 0} (stands : K → List ℕ → Type 0) (language : Language)
   answered_and_handed_on faults WriteFault ending lines start now next answers other kept either = absurd (other refl)
 
   -- the sink failed
-  pub IsEnding-broken : (limit : ℕ) (left : Option (List ℕ)) (taken : List ℕ) (start now : K) → length taken ≤ limit → AnswersPart stands language (lines_of taken) start now
+  pub IsEnding-broken : (limit : ℕ) (left : Option (List ℕ)) (taken : List ℕ) (start now : K) → length taken ≤ limit → AnswersPart stands language (whole_lines taken) start now
       → IsEnding stands language Broken limit left taken start now
-  IsEnding-broken limit left taken start now within part = record { within = within; says = part }
+  IsEnding-broken limit left taken start now within part = record { within = within; says = inl part }
+
+  -- nothing is left, and all lines are answered or the sink failed within their replies
+  pub IsEnding-last : (ending : Ending) (limit : ℕ) (left : Option (List ℕ)) (taken : List ℕ) (start now : K) → IsAtEnd left → length taken < limit
+      → ((ending ≡ End) × AnswersLines stands language (lines_of taken) start now) ⊎ ((ending ≡ Broken) × AnswersPart stands language (lines_of taken) start now)
+      → IsEnding stands language ending limit left taken start now
+  IsEnding-last ending limit left taken start now at_end below (inl ended) =
+      subst (λ (e : Ending). IsEnding stands language e limit left taken start now) (sym ended.0)
+      (record { within = omega (arith, below); says = record { at_end = at_end; below = below; answers = ended.1 } })
+  IsEnding-last ending limit left taken start now at_end below (inr failed) =
+      subst (λ (e : Ending). IsEnding stands language e limit left taken start now) (sym failed.0)
+      (record { within = omega (arith, below); says = inr (at_end, failed.1) })
 
   -- `quit` is among the bytes taken, and the output was handed on or the sink failed
   pub IsEnding-quit : {R : Type 0} (ending : Ending) (limit : ℕ) (left : Option (List ℕ)) (taken : List ℕ) (start now next : K) → (ending ≡ Quit) ⊎ ((ending ≡ Broken) × R)
@@ -77,7 +90,7 @@ module _ {K : Type 0} (stands : K → List ℕ → Type 0) (language : Language)
       subst (λ (e : Ending). IsEnding stands language e limit left taken start next) (sym quits) (record { within = within; says = HasQuit-kept has kept })
   IsEnding-quit ending limit left taken start now next (inr failed) within has kept =
       subst (λ (e : Ending). IsEnding stands language e limit left taken start next) (sym failed.0)
-      (IsEnding-broken limit left taken start next within (AnswersPart-kept (AnswersPart-all (AnswersLines-quit [] (sym (append-nil taken)) has)) kept))
+      (IsEnding-broken limit left taken start next within (AnswersPart-kept (AnswersPart-quit has) kept))
 
 -- what an ending says is what its status says
 pub SaysServed-of : {S K : Type 0} (left : S → Option (List ℕ)) (read_faults : S → ℕ) (stands : K → List ℕ → Type 0) (write_faults : K → ℕ) (language : Language) (limit : ℕ)

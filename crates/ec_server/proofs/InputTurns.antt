@@ -1,14 +1,20 @@
 -- How far an input is served, turn by turn.
-use Rattle.std.proofs.Common.{◌≡◌, ℕ, ◌+◌, ◌≤◌, List, [], ◌++◌, length, sym, refl, subst, arith, length-append}
+use Rattle.std.proofs.Common.{◌≡◌, ℕ, ◌+◌, ◌≤◌, List, [], ◌++◌, length, take, append-nil, sym, refl, ap, ◌∙◌, subst, arith, length-append}
 use Rattle.std.specs.Prelude.{Option}
 use Rattle.ec_axioms.specs.Lines.{cut_of}
-use Rattle.ec_axioms.specs.Replies.{State, empty_state}
+use Rattle.ec_replies.specs.State.{State, empty_state}
+use Rattle.ec_replies.specs.Replies.{Language}
+use Rattle.ec_server.specs.Answered.{IsServing}
 use Rattle.ec_lines.specs.FeedState.{FeedState, IsPart}
 use Rattle.ec_outside.specs.Streams.{Took, Kept}
 use Rattle.ec_outside.proofs.Streams.{Took-then, Took-nil, Kept-refl}
-use Rattle.ec_server.specs.Handling.{Language, IsServing}
 use Rattle.ec_server.specs.Serving.{IsAt}
 use Rattle.ec_server.proofs.Serving.{IsServing-start, IsServing-kept}
+
+-- a read that gave nothing took nothing
+pub Took-none : {a b c : Option (List ℕ)} {taken : List ℕ} (buffer : List ℕ) (count : ℕ) → Took a b taken → Took b c (take count buffer) → count ≡ 0 → Took a c taken
+Took-none {a} {c = c} {taken = taken} buffer count first second none =
+    subst (λ (t : List ℕ). Took a c t) (ap (λ (n : ℕ). taken ++ take n buffer) none ∙ append-nil taken) (Took-then first second)
 
 -- So many bytes of the limit are left; the bytes taken so far are served, and no count of faults has fallen.
 pub record IsTaking {S K : Type 0} (left : S → Option (List ℕ)) (read_faults : S → ℕ) (stands : K → List ℕ → Type 0) (write_faults : K → ℕ) (language : Language)

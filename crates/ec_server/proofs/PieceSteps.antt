@@ -2,11 +2,13 @@
 use Rattle.std.proofs.Common.{◌≡◌, ℕ, ◌-◌, ◌≤◌, Bool, true, false, List, [], ◌∷◌, ◌++◌, length, take, drop, refl, sym, ap, ◌∙◌, subst, append_assoc, append-nil, take-append-drop, arith}
 use Rattle.std.proofs.lemmas.List.{take_rest}
 use Rattle.ec_axioms.specs.Lines.{cut_of, whole_lines}
-use Rattle.ec_axioms.specs.Replies.{State}
+use Rattle.ec_replies.specs.State.{State}
+use Rattle.ec_replies.specs.Replies.{Language}
+use Rattle.ec_sessions.specs.Handling.{IsHandled}
+use Rattle.ec_server.specs.Answered.{IsServing}
 use Rattle.ec_lines.specs.FeedState.{FeedState, IsPart, IsReady, Advances}
-use Rattle.ec_server.specs.declared.handled.Handled.{Handled}
-use Rattle.ec_server.specs.declared.handled.Handled.TheVariants.{Go, Bye, WriteFault}
-use Rattle.ec_server.specs.Handling.{Language, IsHandled, IsServing}
+use Rattle.ec_sessions.specs.declared.handled.Handled.{Handled}
+use Rattle.ec_sessions.specs.declared.handled.Handled.TheVariants.{Go, Bye, WriteFault}
 use Rattle.ec_server.specs.Serving.{IsAt, IsPieceHandled}
 use Rattle.ec_server.proofs.PartialReplies.{AnswersPart-line}
 use Rattle.ec_server.proofs.Serving.{IsServing-piece, IsServing-line, HasQuit-line}

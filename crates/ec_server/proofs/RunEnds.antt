@@ -1,359 +1,384 @@
 -- What a command says by its status is what the run says by its exit status.
-use Rattle.std.proofs.Common.{◌≡◌, ◌≤◌, ◌⊎◌, ◌↔◌, ℕ, true, false, List, [], length, take, drop, Option, Some, None, IsSome, refl, ap, subst, inl, inr, arith}
+use Rattle.std.proofs.Common.{◌≡◌, ◌≤◌, ◌⊎◌, ◌↔◌, ℕ, true, false, List, [], length, take, drop, Option, Some, None, IsSome, refl, sym, ap, ◌∙◌, subst, inl, inr, append-nil, arith}
 use Rattle.ec_terms.specs.declared.theory.Theory.{Theory}
-use Rattle.ec_moment.specs.Number.{number_value}
 use Rattle.ec_axioms.specs.Lines.{lines_of, whole_lines}
-use Rattle.ec_axioms.specs.Replies.{has_quit}
 use Rattle.ec_outside.specs.Counts.{Rose}
-use Rattle.ec_outside.specs.Files.{Files, HasFile, IsMissing, IsTooLong}
+use Rattle.ec_outside.specs.Files.{Files, IsMissing, IsTooLong}
 use Rattle.ec_outside.specs.Streams.{Appended, AppendedPart, IsAtEnd, Took}
 use Rattle.ec_outside.proofs.Streams.{Took-nil}
+use Rattle.ec_replies.specs.Runs.{has_quit, is_quit}
 use Rattle.ec_server.specs.declared.status.Status.{Status}
 use Rattle.ec_server.specs.declared.status.Status.TheVariants as status
-use Rattle.ec_server.specs.CommandEnds.{HasChecked, HasServed, SaysAccepted, SaysRefused, Wrote}
-use Rattle.ec_server.specs.Ending.{GoesOn, SaysServed}
+use Rattle.ec_server.specs.Answered.{AnswersLines, AnswersPart, in_ticks}
+use Rattle.ec_server.specs.ByShape.{HasLongTheory, IsReady, IsRefused, LacksFile, Serves, TellsFiles, TellsServed, WrotePart, takes_input}
+use Rattle.ec_server.specs.CommandEnds.{Wrote}
+use Rattle.ec_server.specs.Ending.{GoesOn, IsBroken}
+use Rattle.ec_server.specs.Ends.{Ends}
 use Rattle.ec_server.specs.ExitStatus.{code_of}
-use Rattle.ec_server.specs.Handling.{AnswersLines, AnswersPart, in_ticks}
 use Rattle.ec_server.specs.InputLimits.{most_input, IsShort, IsLong, StopsAtLimit}
-use Rattle.ec_server.specs.TheoryFiles.{HasTheory, IsNoTheory, IsNotServed, IsRefused, accepted_line, is_served, most_theory_bytes, theory_line}
-use Rattle.ec_server.specs.Words.{Shape, check_theory, serve_theory, theory_name}
-use Rattle.ec_server.proofs.StatusCodes.{status_same, either_code, check_name, serve_name, shape_same, shape_is_there, by_either, first_of_two, second_of_two}
-use Rattle.ec_server.proofs.TheoryTexts.{HasFile-told, HasFile-not_missing, HasTheory-not_refused, HasTheory-served, IsNoTheory-file, IsNotServed-file}
-use Rattle.ec_server.proofs.WholeInput.{lines_done, read_done, stops_at_limit, left_at_limit, short_not_limit, long_not_done, taken_within}
+use Rattle.ec_server.specs.LineFiles.{most_replayed}
+use Rattle.ec_server.specs.Soaking.{IsSoakLine}
+use Rattle.ec_server.specs.TheoryFiles.{HasTheory, accepted_line, theory_line}
+use Rattle.ec_server.specs.Words.{Shape, check_theory, replay_lines, serve_theory, soak_lines, usage_line}
+use Rattle.ec_server.proofs.PartialReplies.{AnswersPart-longer}
+use Rattle.ec_server.proofs.CommandEnds.{IsInputStatus, IsUntouched, done_if_short, limit_if_long, line_done, never_replayed, no_line, no_refusal, no_replay, only_memory, refuses_with, replay_done, replay_long, same_line, same_refusal, same_replay, same_serve, told_refused}
+use Rattle.ec_server.proofs.StatusCodes.{by_either, either_code, first_of_two, second_of_two, some_of, status_same}
+use Rattle.ec_server.proofs.TheoryTexts.{HasTheory-not_refused}
+use Rattle.ec_server.proofs.WholeInput.{left_at_limit, lines_done, read_done, stops_at_limit, taken_within}
 
--- ---- where there is no theory
+-- whether a line is `quit` is the same with every theory
+same_quit : (theory other : Theory) (lines : List (List ℕ)) → has_quit (in_ticks theory) lines ≡ false → has_quit (in_ticks other) lines ≡ false
+unfolding is_quit
+same_quit theory other lines going = going
 
-module _ {K : Type 0} (stands : K → List ℕ → Type 0) (faults : K → ℕ) (told : Option Files) (name : List ℕ) (before after : ℕ) (old new : K) (Refuses : List ℕ → Type 0)
-    (bytes : List ℕ) (file : HasFile told name bytes) (fine : ¬ Rose before after) where
-  not_unread : Rose before after ⊎ IsMissing told name → ⊥
-  not_unread (inl rose) = fine rose
-  not_unread (inr missing) = HasFile-not_missing file missing
+same_short : (theory other : Theory) (text : List ℕ) → IsShort (in_ticks theory) most_input text → IsShort (in_ticks other) most_input text
+unfolding is_quit
+same_short theory other text short = short
 
-  -- of a file that was read, the line was told, or memory ran out
-  told_or_memory : (s : Status) → SaysRefused stands faults told name before after old new Refuses s → (s ≡ status.BadTheory) ⊎ (s ≡ status.NoMemory)
-  told_or_memory status.Done says = absurd says
-  told_or_memory status.NoShape says = absurd says
-  told_or_memory status.BadTheory says = inl refl
-  told_or_memory status.ReadFault says = absurd says
-  told_or_memory status.WriteFault says = absurd says
-  told_or_memory status.NoMemory says = inr refl
-  told_or_memory status.FolderFault says = absurd (not_unread says.1)
-  told_or_memory status.LimitReached says = absurd says
+-- ---- how a run ends
 
-  -- where nothing refuses it, memory ran out
-  only_memory : ((text : List ℕ) → Refuses text → ⊥) → (s : Status) → SaysRefused stands faults told name before after old new Refuses s → s ≡ status.NoMemory
-  only_memory never status.Done says = absurd says
-  only_memory never status.NoShape says = absurd says
-  only_memory never status.BadTheory says = absurd (never says.text (says.why (HasFile-told file)))
-  only_memory never status.ReadFault says = absurd says
-  only_memory never status.WriteFault says = absurd says
-  only_memory never status.NoMemory says = refl
-  only_memory never status.FolderFault says = absurd (not_unread says.1)
-  only_memory never status.LimitReached says = absurd says
+module _ {S K : Type 0} {left : S → Option (List ℕ)} {read_faults : S → ℕ} {stands : K → List ℕ → Type 0} {write_faults : K → ℕ}
+    {told : Option Files} {before after : ℕ} {input_before input : S} {output_before output : K} where
+  -- how a run ends is what the words ask for
+  pub Ends-asked : {asks words : Option Shape} {ended : Status} → asks ≡ words → Ends left read_faults stands write_faults told before after input_before input output_before output words ended → Ends left read_faults stands write_faults told before after input_before input output_before output asks ended
+  Ends-asked {ended = ended} same ends = subst (λ (a : Option Shape). Ends left read_faults stands write_faults told before after input_before input output_before output a ended) (sym same) ends
 
--- ---- where an input was served
+  -- words with a shape are no words without one
+  shaped : (shape : Shape) → Ends left read_faults stands write_faults told before after input_before input output_before output (Some shape) status.NoShape → ⊥
+  shaped (check_theory name) ends = (first_of_two ends.says.0.says (λ none. none.0)).2
+  shaped (serve_theory name) ends = (first_of_two ends.says.says (λ none. none.0)).2
+  shaped (replay_lines name lines) ends = by_either (first_of_two ends.says.0.says (λ none. none.0)).2 (λ read. read.2) (λ unread. unread)
+  shaped (soak_lines lines seed) ends = ends.says.0
 
-module _ {S K : Type 0} (left : S → Option (List ℕ)) (read_faults : S → ℕ) (stands : K → List ℕ → Type 0) (write_faults : K → ℕ) (theory : Theory) (text : List ℕ)
-    (input_before input : S) (output_before output : K) (is_text : left input_before ≡ Some text)
-    (reads : ¬ Rose (read_faults input_before) (read_faults input)) (writes : ¬ Rose (write_faults output_before) (write_faults output)) where
-  -- a short input was read to its end or to `quit`
-  done_if_short : IsShort (in_ticks theory) most_input text → (s : Status) → SaysServed left read_faults stands write_faults (in_ticks theory) most_input input_before input output_before output s → (s ≡ status.Done) ⊎ (s ≡ status.NoMemory)
-  done_if_short short status.Done says = inl refl
-  done_if_short short status.NoShape says = absurd says
-  done_if_short short status.BadTheory says = absurd says
-  done_if_short short status.ReadFault says = absurd (reads (says.read_fault refl))
-  done_if_short short status.WriteFault says = absurd (writes (says.write_fault refl))
-  done_if_short short status.NoMemory says = inr refl
-  done_if_short short status.FolderFault says = absurd says
-  done_if_short short status.LimitReached says = absurd (short_not_limit says text is_text short)
+-- ---- the run
 
-  -- a long one up to the limit
-  limit_if_long : most_input ≤ length text → has_quit number_value (whole_lines (take most_input text)) ≡ false → (s : Status) → SaysServed left read_faults stands write_faults (in_ticks theory) most_input input_before input output_before output s
-      → (s ≡ status.LimitReached) ⊎ (s ≡ status.NoMemory)
-  limit_if_long long going status.Done says = absurd (long_not_done says text is_text long going)
-  limit_if_long long going status.NoShape says = absurd says
-  limit_if_long long going status.BadTheory says = absurd says
-  limit_if_long long going status.ReadFault says = absurd (reads (says.read_fault refl))
-  limit_if_long long going status.WriteFault says = absurd (writes (says.write_fault refl))
-  limit_if_long long going status.NoMemory says = inr refl
-  limit_if_long long going status.FolderFault says = absurd says
-  limit_if_long long going status.LimitReached says = inl refl
-
--- ---- runs that serve
-
--- the words ask to serve a theory, and the exit status is that of serving it
-pub record IsServeRun {S K : Type 0} (left : S → Option (List ℕ)) (read_faults : S → ℕ) (stands : K → List ℕ → Type 0) (write_faults : K → ℕ)
+-- the exit status is that of a run which ended so
+pub record IsRan {S K : Type 0} (left : S → Option (List ℕ)) (read_faults : S → ℕ) (stands : K → List ℕ → Type 0) (write_faults : K → ℕ)
     (told : Option Files) (before after : ℕ) (input_before input : S) (output_before output : K) (asks : Option Shape) (code : ℕ) : Type 0 where
-  pub name : List ℕ
   pub ended : Status
-  pub asked : asks ≡ Some (serve_theory name)
   pub is : code ≡ code_of ended
-  pub served : HasServed left read_faults stands write_faults told name before after input_before input output_before output ended
+  pub ends : Ends left read_faults stands write_faults told before after input_before input output_before output asks ended
 
 module _ {S K : Type 0} {left : S → Option (List ℕ)} {read_faults : S → ℕ} {stands : K → List ℕ → Type 0} {write_faults : K → ℕ}
     {told : Option Files} {before after : ℕ} {input_before input : S} {output_before output : K} {asks : Option Shape} {code : ℕ} where
-  pub serve_run : {name : List ℕ} {ended : Status} → asks ≡ Some (serve_theory name) → code ≡ code_of ended
-      → HasServed left read_faults stands write_faults told name before after input_before input output_before output ended → IsServeRun left read_faults stands write_faults told before after input_before input output_before output asks code
-  serve_run {name} {ended} asked is served = record { name = name; ended = ended; asked = asked; is = is; served = served }
+  -- what the run says by the status that is known
+  ends_by : IsRan left read_faults stands write_faults told before after input_before input output_before output asks code → (t : Status) → code ≡ code_of t → Ends left read_faults stands write_faults told before after input_before input output_before output asks t
+  ends_by run t is = subst (λ (s : Status). Ends left read_faults stands write_faults told before after input_before input output_before output asks s) (status_same t run.is is) run.ends
 
-  -- what the run says under the name and by the status that are known
-  served_at : IsServeRun left read_faults stands write_faults told before after input_before input output_before output asks code → (t : Status) (name : List ℕ) → asks ≡ Some (serve_theory name) → code ≡ code_of t
-      → HasServed left read_faults stands write_faults told name before after input_before input output_before output t
-  served_at run t name asked is =
-      subst (λ (s : Status). HasServed left read_faults stands write_faults told name before after input_before input output_before output s) (status_same t run.is is)
-      (subst (λ (n : List ℕ). HasServed left read_faults stands write_faults told n before after input_before input output_before output run.ended) (serve_name run.asked asked) run.served)
+  -- and by the shape
+  ends_at : IsRan left read_faults stands write_faults told before after input_before input output_before output asks code → (t : Status) → code ≡ code_of t → (shape : Shape) → asks ≡ Some shape → Ends left read_faults stands write_faults told before after input_before input output_before output (Some shape) t
+  ends_at run t is shape asked = subst (λ (a : Option Shape). Ends left read_faults stands write_faults told before after input_before input output_before output a t) asked (ends_by run t is)
 
-  pub serve_replies : IsServeRun left read_faults stands write_faults told before after input_before input output_before output asks code → code ≡ 0 → (name text : List ℕ) → asks ≡ Some (serve_theory name) → IsSome told → left input_before ≡ Some text
-      → (theory : Theory) × HasTheory told name theory × AnswersLines stands (in_ticks theory) (lines_of text) output_before output
+  ends_of : (run : IsRan left read_faults stands write_faults told before after input_before input output_before output asks code) → (shape : Shape) → asks ≡ Some shape → Ends left read_faults stands write_faults told before after input_before input output_before output (Some shape) run.ended
+  ends_of run shape asked = subst (λ (a : Option Shape). Ends left read_faults stands write_faults told before after input_before input output_before output a run.ended) asked run.ends
+
+  -- ---- 0
+
+  pub replies : IsRan left read_faults stands write_faults told before after input_before input output_before output asks code → code ≡ 0 → (shape : Shape) → asks ≡ Some shape → TellsServed told (left input_before) shape
+      → (theory : Theory) × (text : List ℕ) × Serves told (left input_before) shape theory text × AnswersLines stands (in_ticks theory) (lines_of text) output_before output
   unfolding code_of
-  serve_replies run is name text asked tells is_text =
-      let has = first_of_two (served_at run status.Done name asked is).says (λ none. none.0) in
-      (has.0, has.1 tells, lines_done has.3 text is_text)
+  replies run is shape asked tells = by_shape shape (ends_at run status.Done is shape asked) tells
+    where
+      by_shape : (shape : Shape) → Ends left read_faults stands write_faults told before after input_before input output_before output (Some shape) status.Done → TellsServed told (left input_before) shape
+          → (theory : Theory) × (text : List ℕ) × Serves told (left input_before) shape theory text × AnswersLines stands (in_ticks theory) (lines_of text) output_before output
+      by_shape (check_theory name) ends tells = absurd tells
+      by_shape (serve_theory name) ends tells =
+          let with = first_of_two ends.says.says (λ none. none.0) in
+          let text = some_of (left input_before) tells.1 in
+          (with.0, text.0, (with.1 tells.0, text.1), lines_done with.2 text.0 text.1)
+      by_shape (replay_lines name lines) ends tells =
+          let with = first_of_two ends.says.0.says (λ none. none.0) in
+          let read = first_of_two with.2 (λ unread. unread) in
+          (with.0, read.0, (with.1 tells, read.1 tells), read.2)
+      by_shape (soak_lines lines seed) ends tells = absurd tells
 
-  pub serve_ended : IsServeRun left read_faults stands write_faults told before after input_before input output_before output asks code → code ≡ 0 → (name : List ℕ) → asks ≡ Some (serve_theory name)
-      → (taken : List ℕ) × Took (left input_before) (left input) taken × (IsAtEnd (left input) ⊎ (has_quit number_value (whole_lines taken) ≡ true))
+  pub completes : IsRan left read_faults stands write_faults told before after input_before input output_before output asks code → (shape : Shape) → asks ≡ Some shape → IsReady told (left input_before) shape → ¬ Rose before after
+      → ¬ Rose (read_faults input_before) (read_faults input) → ¬ Rose (write_faults output_before) (write_faults output) → (code ≡ 0) ⊎ (code ≡ 6)
   unfolding code_of
-  serve_ended run is name asked =
-      let has = first_of_two (served_at run status.Done name asked is).says (λ none. none.0) in
-      read_done has.3
+  completes run shape asked ready fine reads writes = either_code status.Done status.NoMemory run.is (by_shape shape (ends_of run shape asked) ready)
+    where
+      by_shape : (shape : Shape) → Ends left read_faults stands write_faults told before after input_before input output_before output (Some shape) run.ended → IsReady told (left input_before) shape → (run.ended ≡ status.Done) ⊎ (run.ended ≡ status.NoMemory)
+      by_shape (check_theory name) ends ready =
+          by_either ends.says.0.says
+          (λ with. line_done stands write_faults output_before output writes (λ text. text ≡ accepted_line with.0) run.ended with.2)
+          (λ none. inr (only_memory stands write_faults told name before after output_before output ready.1.bytes ready.1.file fine
+          (λ text why. HasTheory-not_refused ready.1 why) run.ended none.0))
+      by_shape (serve_theory name) ends ready =
+          by_either ends.says.says
+          (λ with. done_if_short left read_faults stands write_faults with.0 ready.1 input_before input output_before output ready.3 reads writes (same_short ready.0 with.0 ready.1 ready.4) run.ended with.2)
+          (λ none. inr (only_memory stands write_faults told name before after output_before output ready.2.bytes ready.2.file fine
+          (λ text why. HasTheory-not_refused ready.2 why) run.ended none.0))
+      by_shape (replay_lines name lines) ends ready =
+          by_either ends.says.0.says
+          (λ with. replay_done stands write_faults output_before output writes told lines before after with.0 fine ready.1 ready.3 run.ended with.2)
+          (λ none. inr (only_memory stands write_faults told name before after output_before output ready.2.bytes ready.2.file fine
+          (λ text why. HasTheory-not_refused ready.2 why) run.ended none.0))
+      by_shape (soak_lines lines seed) ends ready = line_done stands write_faults output_before output writes (IsSoakLine lines seed) run.ended ends.says.0
 
-  pub serve_theory_of : IsServeRun left read_faults stands write_faults told before after input_before input output_before output asks code → (code ≡ 0) ⊎ (code ≡ 8) → (name : List ℕ) → asks ≡ Some (serve_theory name) → IsSome told
-      → (theory : Theory) × HasTheory told name theory × (is_served theory ≡ true)
+  pub ended : IsRan left read_faults stands write_faults told before after input_before input output_before output asks code → code ≡ 0 → (name : List ℕ) → asks ≡ Some (serve_theory name)
+      → (theory : Theory) × (IsSome told → HasTheory told name theory)
+      × ((taken : List ℕ) × Took (left input_before) (left input) taken × (IsAtEnd (left input) ⊎ (has_quit (in_ticks theory) (whole_lines taken) ≡ true)))
   unfolding code_of
-  serve_theory_of run (inl is) name asked tells =
-      let has = first_of_two (served_at run status.Done name asked is).says (λ none. none.0) in
-      (has.0, has.1 tells, has.2)
-  serve_theory_of run (inr is) name asked tells =
-      let has = first_of_two (served_at run status.LimitReached name asked is).says (λ none. none.0) in
-      (has.0, has.1 tells, has.2)
+  ended run is name asked =
+      let with = first_of_two (ends_at run status.Done is (serve_theory name) asked).says.says (λ none. none.0) in
+      (with.0, with.1, read_done with.2)
 
-  pub serve_limit : IsServeRun left read_faults stands write_faults told before after input_before input output_before output asks code → code ≡ 8 → (name text : List ℕ) → asks ≡ Some (serve_theory name) → IsSome told → left input_before ≡ Some text
-      → (theory : Theory) × HasTheory told name theory × StopsAtLimit stands (in_ticks theory) most_input text output_before output
-  unfolding code_of
-  serve_limit run is name text asked tells is_text =
-      let has = first_of_two (served_at run status.LimitReached name asked is).says (λ none. none.0) in
-      (has.0, has.1 tells, stops_at_limit has.3 text is_text)
-
-  pub serve_rest : IsServeRun left read_faults stands write_faults told before after input_before input output_before output asks code → code ≡ 8 → (text : List ℕ) → left input_before ≡ Some text → left input ≡ Some (drop most_input text)
-  unfolding code_of
-  serve_rest run is text is_text =
-      let has = first_of_two (served_at run status.LimitReached run.name run.asked is).says (λ none. none.0) in
-      left_at_limit has.3 text is_text
-
-  pub serve_whole : IsServeRun left read_faults stands write_faults told before after input_before input output_before output asks code → code ≡ 4 → (name : List ℕ) → asks ≡ Some (serve_theory name) → IsSome told
-      → (theory : Theory) × HasTheory told name theory × ((taken : List ℕ) × Took (left input_before) (left input) taken × GoesOn stands (in_ticks theory) taken output_before output)
-  unfolding code_of
-  serve_whole run is name asked tells =
-      let has = first_of_two (served_at run status.ReadFault name asked is).says (λ none. none.0) in
-      (has.0, has.1 tells, (has.3.taken, has.3.took, has.3.ended.says))
-
-  pub serve_part : IsServeRun left read_faults stands write_faults told before after input_before input output_before output asks code → code ≡ 5 → (name : List ℕ) → asks ≡ Some (serve_theory name) → IsSome told
-      → (theory : Theory) × HasTheory told name theory × ((taken : List ℕ) × Took (left input_before) (left input) taken × AnswersPart stands (in_ticks theory) (lines_of taken) output_before output)
-  unfolding code_of
-  serve_part run is name asked tells =
-      let has = first_of_two (served_at run status.WriteFault name asked is).says (λ none. none.0) in
-      (has.0, has.1 tells, (has.3.taken, has.3.took, has.3.ended.says))
-
-  pub serve_read_fault : IsServeRun left read_faults stands write_faults told before after input_before input output_before output asks code → code ≡ 4 → Rose (read_faults input_before) (read_faults input)
-  unfolding code_of
-  serve_read_fault run is =
-      let has = first_of_two (served_at run status.ReadFault run.name run.asked is).says (λ none. none.0) in
-      has.3.read_fault refl
-
-  pub serve_write_fault : IsServeRun left read_faults stands write_faults told before after input_before input output_before output asks code → code ≡ 5 → Rose (write_faults output_before) (write_faults output)
-  unfolding code_of
-  serve_write_fault run is =
-      let has = first_of_two (served_at run status.WriteFault run.name run.asked is).says (λ none. none.0) in
-      has.3.write_fault refl
-
-  pub serve_refused : IsServeRun left read_faults stands write_faults told before after input_before input output_before output asks code → code ≡ 3 → (shape : Shape) → asks ≡ Some shape → IsSome told
-      → (text : List ℕ) × IsRefused shape told text × Wrote stands write_faults output_before output (theory_line text)
-  unfolding code_of
-  serve_refused run is shape asked tells =
-      let none = second_of_two (served_at run status.BadTheory run.name run.asked is).says (λ has. has.3) in
-      subst (λ (s : Shape). (text : List ℕ) × IsRefused s told text × Wrote stands write_faults output_before output (theory_line text)) (shape_same run.asked asked)
-      (none.0.text, none.0.why tells, none.0.wrote)
-
-  pub serve_long_file : IsServeRun left read_faults stands write_faults told before after input_before input output_before output asks code → code ≡ 3 → (shape : Shape) → asks ≡ Some shape → IsTooLong told (theory_name shape) most_theory_bytes → ¬ Rose before after
-  unfolding code_of
-  serve_long_file run is shape asked =
-      let none = second_of_two (served_at run status.BadTheory run.name run.asked is).says (λ has. has.3) in
-      subst (λ (s : Shape). IsTooLong told (theory_name s) most_theory_bytes → ¬ Rose before after) (shape_same run.asked asked) none.0.long
-
-  pub serve_folder_fault : IsServeRun left read_faults stands write_faults told before after input_before input output_before output asks code → code ≡ 7 → (shape : Shape) × (asks ≡ Some shape) × (Rose before after ⊎ IsMissing told (theory_name shape))
-  unfolding code_of
-  serve_folder_fault run is =
-      let none = second_of_two (served_at run status.FolderFault run.name run.asked is).says (λ has. has.3) in
-      (serve_theory run.name, run.asked, none.0.1)
-
-  pub serve_untouched : IsServeRun left read_faults stands write_faults told before after input_before input output_before output asks code → (code ≡ 6) ⊎ (code ≡ 7) → (output ≡ output_before) × (input ≡ input_before)
-  unfolding code_of
-  serve_untouched run (inl is) =
-      by_either (served_at run status.NoMemory run.name run.asked is).says (λ has. has.3) (λ none. (none.0, none.1))
-  serve_untouched run (inr is) =
-      let none = second_of_two (served_at run status.FolderFault run.name run.asked is).says (λ has. has.3) in
-      (none.0.0, none.1)
-
-  never_shapeless : IsServeRun left read_faults stands write_faults told before after input_before input output_before output asks code → code ≡ 2 → ⊥
-  unfolding code_of
-  never_shapeless run is = (first_of_two (served_at run status.NoShape run.name run.asked is).says (λ none. none.0)).3
-
-  pub serve_unread : IsServeRun left read_faults stands write_faults told before after input_before input output_before output asks code → (code ≡ 2) ⊎ (code ≡ 3) → input ≡ input_before
-  unfolding code_of
-  serve_unread run (inl is) = absurd (never_shapeless run is)
-  serve_unread run (inr is) =
-      let none = second_of_two (served_at run status.BadTheory run.name run.asked is).says (λ has. has.3) in
-      none.1
-
-  pub serve_no_shape : IsServeRun left read_faults stands write_faults told before after input_before input output_before output asks code → (code ≡ 2) ↔ (asks ≡ None)
-  serve_no_shape run = ((λ is. absurd (never_shapeless run is)), (λ none. absurd (shape_is_there run.asked none)))
-
-  pub serve_usage : IsServeRun left read_faults stands write_faults told before after input_before input output_before output asks code → (text : List ℕ) → code ≡ 2 → Wrote stands write_faults output_before output text
-  serve_usage run text is = absurd (never_shapeless run is)
-
-  pub serve_within : IsServeRun left read_faults stands write_faults told before after input_before input output_before output asks code → (taken : List ℕ) × Took (left input_before) (left input) taken × (length taken ≤ most_input)
-  serve_within run =
-      by_either run.served.says (λ has. taken_within left read_faults stands write_faults (in_ticks has.0) most_input input_before input output_before output run.ended has.3) (λ none. ([], Took-nil (ap left none.1), omega arith))
-
-  pub serve_serves : IsServeRun left read_faults stands write_faults told before after input_before input output_before output asks code → (name text : List ℕ) (theory : Theory) → asks ≡ Some (serve_theory name) → HasTheory told name theory → is_served theory ≡ true → left input_before ≡ Some text
-      → IsShort (in_ticks theory) most_input text → ¬ Rose before after → ¬ Rose (read_faults input_before) (read_faults input) → ¬ Rose (write_faults output_before) (write_faults output)
-      → (code ≡ 0) ⊎ (code ≡ 6)
-  unfolding code_of
-  serve_serves run name text theory asked has served is_text short fine reads writes =
-      let there : HasTheory told run.name theory = subst (λ (n : List ℕ). HasTheory told n theory) (serve_name asked run.asked) has in
-      either_code status.Done status.NoMemory run.is (by_either run.served.says
-      (λ with. done_if_short left read_faults stands write_faults with.0 text input_before input output_before output is_text reads writes short run.ended with.3)
-      (λ none. inr (only_memory stands write_faults told run.name before after output_before output (IsNotServed told run.name) there.bytes there.file fine
-      (λ said why. HasTheory-served there served why) run.ended none.0)))
-
-  pub serve_stops : IsServeRun left read_faults stands write_faults told before after input_before input output_before output asks code → (name text : List ℕ) (theory : Theory) → asks ≡ Some (serve_theory name) → HasTheory told name theory → is_served theory ≡ true → left input_before ≡ Some text
-      → IsLong (in_ticks theory) most_input text → ¬ Rose before after → ¬ Rose (read_faults input_before) (read_faults input) → ¬ Rose (write_faults output_before) (write_faults output)
-      → (code ≡ 8) ⊎ (code ≡ 6)
-  unfolding code_of
-  serve_stops run name text theory asked has served is_text long fine reads writes =
-      let there : HasTheory told run.name theory = subst (λ (n : List ℕ). HasTheory told n theory) (serve_name asked run.asked) has in
-      either_code status.LimitReached status.NoMemory run.is (by_either run.served.says
-      (λ with. limit_if_long left read_faults stands write_faults with.0 text input_before input output_before output is_text reads writes long.long long.going run.ended with.3)
-      (λ none. inr (only_memory stands write_faults told run.name before after output_before output (IsNotServed told run.name) there.bytes there.file fine
-      (λ said why. HasTheory-served there served why) run.ended none.0)))
-
-  pub serve_refuses : IsServeRun left read_faults stands write_faults told before after input_before input output_before output asks code → (shape : Shape) (text : List ℕ) → asks ≡ Some shape → IsRefused shape told text → ¬ Rose before after → (code ≡ 3) ⊎ (code ≡ 6)
-  unfolding code_of
-  serve_refuses run shape text asked refused fine =
-      let here : IsNotServed told run.name text = subst (λ (s : Shape). IsRefused s told text) (shape_same asked run.asked) refused in
-      let file = IsNotServed-file here in
-      either_code status.BadTheory status.NoMemory run.is (by_either run.served.says
-      (λ with. absurd (HasTheory-served (with.1 (HasFile-told file.1)) with.2 here))
-      (λ none. told_or_memory stands write_faults told run.name before after output_before output (IsNotServed told run.name) file.0 file.1 fine run.ended none.0))
-
--- ---- runs that check
-
-module _ {K : Type 0} (stands : K → List ℕ → Type 0) (write_faults : K → ℕ) (output_before output : K) where
-  -- a theory is accepted where nothing fails
-  accepts_with : ¬ Rose (write_faults output_before) (write_faults output) → (s : Status) (theory : Theory) → SaysAccepted stands write_faults output_before output theory s → s ≡ status.Done
-  accepts_with writes status.Done theory says = refl
-  accepts_with writes status.NoShape theory says = absurd says
-  accepts_with writes status.BadTheory theory says = absurd says
-  accepts_with writes status.ReadFault theory says = absurd says
-  accepts_with writes status.WriteFault theory says = absurd (writes says.0)
-  accepts_with writes status.NoMemory theory says = absurd says
-  accepts_with writes status.FolderFault theory says = absurd says
-  accepts_with writes status.LimitReached theory says = absurd says
-
--- the words ask to check a theory, and the exit status is that of checking it
-pub record IsCheckRun {K : Type 0} (stands : K → List ℕ → Type 0) (write_faults : K → ℕ) (told : Option Files) (before after : ℕ) (output_before output : K)
-    (asks : Option Shape) (code : ℕ) : Type 0 where
-  pub name : List ℕ
-  pub ended : Status
-  pub asked : asks ≡ Some (check_theory name)
-  pub is : code ≡ code_of ended
-  pub checked : HasChecked stands write_faults told name before after output_before output ended
-
-module _ {K : Type 0} {stands : K → List ℕ → Type 0} {write_faults : K → ℕ} {told : Option Files} {before after : ℕ} {output_before output : K}
-    {asks : Option Shape} {code : ℕ} where
-  pub check_run : {name : List ℕ} {ended : Status} → asks ≡ Some (check_theory name) → code ≡ code_of ended
-      → HasChecked stands write_faults told name before after output_before output ended → IsCheckRun stands write_faults told before after output_before output asks code
-  check_run {name} {ended} asked is checked = record { name = name; ended = ended; asked = asked; is = is; checked = checked }
-
-  checked_at : IsCheckRun stands write_faults told before after output_before output asks code → (t : Status) (name : List ℕ) → asks ≡ Some (check_theory name) → code ≡ code_of t
-      → HasChecked stands write_faults told name before after output_before output t
-  checked_at run t name asked is =
-      subst (λ (s : Status). HasChecked stands write_faults told name before after output_before output s) (status_same t run.is is)
-      (subst (λ (n : List ℕ). HasChecked stands write_faults told n before after output_before output run.ended) (check_name run.asked asked) run.checked)
-
-  pub check_accepted : IsCheckRun stands write_faults told before after output_before output asks code → code ≡ 0 → (name : List ℕ) → asks ≡ Some (check_theory name) → IsSome told
+  pub accepted : IsRan left read_faults stands write_faults told before after input_before input output_before output asks code → code ≡ 0 → (name : List ℕ) → asks ≡ Some (check_theory name) → IsSome told
       → (theory : Theory) × HasTheory told name theory × Appended stands output_before output (accepted_line theory)
   unfolding code_of
-  check_accepted run is name asked tells =
-      let has = first_of_two (checked_at run status.Done name asked is).says (λ none. none) in
-      (has.0, has.1 tells, has.2)
+  accepted run is name asked tells =
+      let with = first_of_two (ends_at run status.Done is (check_theory name) asked).says.0.says (λ none. none.0) in
+      (with.0, with.1 tells, subst (λ (t : List ℕ). Appended stands output_before output t) with.2.1 with.2.2)
 
-  pub check_accepted_part : IsCheckRun stands write_faults told before after output_before output asks code → code ≡ 5 → (name : List ℕ) → asks ≡ Some (check_theory name) → IsSome told
-      → (theory : Theory) × HasTheory told name theory × AppendedPart stands output_before output (accepted_line theory)
+  pub soaks : IsRan left read_faults stands write_faults told before after input_before input output_before output asks code → code ≡ 0 → (lines seed : ℕ) → asks ≡ Some (soak_lines lines seed) → (text : List ℕ) × IsSoakLine lines seed text × Appended stands output_before output text
   unfolding code_of
-  check_accepted_part run is name asked tells =
-      let has = first_of_two (checked_at run status.WriteFault name asked is).says (λ none. none) in
-      (has.0, has.1 tells, has.2.1)
+  soaks run is lines seed asked = (ends_at run status.Done is (soak_lines lines seed) asked).says.0
 
-  pub check_write_fault : IsCheckRun stands write_faults told before after output_before output asks code → code ≡ 5 → Rose (write_faults output_before) (write_faults output)
+  -- ---- 2
+
+  pub no_shape : IsRan left read_faults stands write_faults told before after input_before input output_before output asks code → (code ≡ 2) ↔ (asks ≡ None)
   unfolding code_of
-  check_write_fault run is = let has = first_of_two (checked_at run status.WriteFault run.name run.asked is).says (λ none. none) in has.2.0
+  no_shape run = ((λ is. by_words asks refl (ends_by run status.NoShape is)), (λ none. shapeless none))
+    where
+      by_words : (words : Option Shape) → asks ≡ words → Ends left read_faults stands write_faults told before after input_before input output_before output asks status.NoShape → asks ≡ None
+      by_words None same ends = same
+      by_words (Some shape) same ends = absurd (shaped shape (subst (λ (a : Option Shape). Ends left read_faults stands write_faults told before after input_before input output_before output a status.NoShape) same ends))
 
-  pub check_refused : IsCheckRun stands write_faults told before after output_before output asks code → code ≡ 3 → (shape : Shape) → asks ≡ Some shape → IsSome told
+      shapeless : asks ≡ None → code ≡ 2
+      shapeless none = let ends = subst (λ (a : Option Shape). Ends left read_faults stands write_faults told before after input_before input output_before output a run.ended) none run.ends in run.is ∙ ap code_of ends.says.0
+
+  pub usage : IsRan left read_faults stands write_faults told before after input_before input output_before output asks code → code ≡ 2 → Wrote stands write_faults output_before output usage_line
+  usage run is = let ends = subst (λ (a : Option Shape). Ends left read_faults stands write_faults told before after input_before input output_before output a run.ended) ((no_shape run).0 is) run.ends in ends.says.1
+
+  -- with any other status the words have a shape
+  shape_there : IsRan left read_faults stands write_faults told before after input_before input output_before output asks code → (t : Status) → (t ≡ status.NoShape → ⊥) → code ≡ code_of t → (shape : Shape) × (asks ≡ Some shape) × Ends left read_faults stands write_faults told before after input_before input output_before output (Some shape) t
+  shape_there run t other is = by_words asks refl (ends_by run t is)
+    where
+      by_words : (words : Option Shape) → asks ≡ words → Ends left read_faults stands write_faults told before after input_before input output_before output asks t → (shape : Shape) × (asks ≡ Some shape) × Ends left read_faults stands write_faults told before after input_before input output_before output (Some shape) t
+      by_words None same ends = let none = subst (λ (a : Option Shape). Ends left read_faults stands write_faults told before after input_before input output_before output a t) same ends in absurd (other none.says.0)
+      by_words (Some shape) same ends = (shape, same, subst (λ (a : Option Shape). Ends left read_faults stands write_faults told before after input_before input output_before output a t) same ends)
+
+  -- ---- 3
+
+  pub refused : IsRan left read_faults stands write_faults told before after input_before input output_before output asks code → code ≡ 3 → (shape : Shape) → asks ≡ Some shape → IsSome told
       → (text : List ℕ) × IsRefused shape told text × Wrote stands write_faults output_before output (theory_line text)
   unfolding code_of
-  check_refused run is shape asked tells =
-      let none = second_of_two (checked_at run status.BadTheory run.name run.asked is).says (λ has. has.2) in
-      subst (λ (s : Shape). (text : List ℕ) × IsRefused s told text × Wrote stands write_faults output_before output (theory_line text)) (shape_same run.asked asked)
-      (none.text, none.why tells, none.wrote)
+  refused run is shape asked tells = by_shape shape (ends_at run status.BadTheory is shape asked)
+    where
+      by_shape : (shape : Shape) → Ends left read_faults stands write_faults told before after input_before input output_before output (Some shape) status.BadTheory → (text : List ℕ) × IsRefused shape told text × Wrote stands write_faults output_before output (theory_line text)
+      by_shape (check_theory name) ends = told_refused stands write_faults told _ before after output_before output (λ theory says. says) tells ends.says.0
+      by_shape (serve_theory name) ends = told_refused stands write_faults told _ before after output_before output (λ theory says. says) tells ends.says
+      by_shape (replay_lines name lines) ends = told_refused stands write_faults told _ before after output_before output (never_replayed stands write_faults told lines before after output_before output) tells ends.says.0
+      by_shape (soak_lines lines seed) ends = absurd ends.says.0
 
-  pub check_long_file : IsCheckRun stands write_faults told before after output_before output asks code → code ≡ 3 → (shape : Shape) → asks ≡ Some shape → IsTooLong told (theory_name shape) most_theory_bytes → ¬ Rose before after
+  pub refuses : IsRan left read_faults stands write_faults told before after input_before input output_before output asks code → (shape : Shape) (text : List ℕ) → asks ≡ Some shape → IsRefused shape told text → ¬ Rose before after → (code ≡ 3) ⊎ (code ≡ 6)
   unfolding code_of
-  check_long_file run is shape asked =
-      let none = second_of_two (checked_at run status.BadTheory run.name run.asked is).says (λ has. has.2) in
-      subst (λ (s : Shape). IsTooLong told (theory_name s) most_theory_bytes → ¬ Rose before after) (shape_same run.asked asked) none.long
+  refuses run shape text asked why fine = either_code status.BadTheory status.NoMemory run.is (by_shape shape (ends_of run shape asked) why)
+    where
+      by_shape : (shape : Shape) → Ends left read_faults stands write_faults told before after input_before input output_before output (Some shape) run.ended → IsRefused shape told text → (run.ended ≡ status.BadTheory) ⊎ (run.ended ≡ status.NoMemory)
+      by_shape (check_theory name) ends why = refuses_with stands write_faults told _ before after output_before output fine why ends.says.0
+      by_shape (serve_theory name) ends why = refuses_with stands write_faults told _ before after output_before output fine why ends.says
+      by_shape (replay_lines name lines) ends why = refuses_with stands write_faults told _ before after output_before output fine why ends.says.0
+      by_shape (soak_lines lines seed) ends why = absurd why
 
-  pub check_folder_fault : IsCheckRun stands write_faults told before after output_before output asks code → code ≡ 7 → (shape : Shape) × (asks ≡ Some shape) × (Rose before after ⊎ IsMissing told (theory_name shape))
+  pub long_theory : IsRan left read_faults stands write_faults told before after input_before input output_before output asks code → code ≡ 3 → (shape : Shape) → asks ≡ Some shape → HasLongTheory shape told → ¬ Rose before after
   unfolding code_of
-  check_folder_fault run is =
-      let none = second_of_two (checked_at run status.FolderFault run.name run.asked is).says (λ has. has.2) in
-      (check_theory run.name, run.asked, none.1)
+  long_theory run is shape asked = by_shape shape (ends_at run status.BadTheory is shape asked)
+    where
+      by_shape : (shape : Shape) → Ends left read_faults stands write_faults told before after input_before input output_before output (Some shape) status.BadTheory → HasLongTheory shape told → ¬ Rose before after
+      by_shape (check_theory name) ends long = (second_of_two ends.says.0.says (λ with. with.2)).0.long long
+      by_shape (serve_theory name) ends long = (second_of_two ends.says.says (λ with. with.2)).0.long long
+      by_shape (replay_lines name lines) ends long = (second_of_two ends.says.0.says (λ with. never_replayed stands write_faults told lines before after output_before output with.0 with.2)).0.long long
+      by_shape (soak_lines lines seed) ends long = absurd long
 
-  pub check_untouched : IsCheckRun stands write_faults told before after output_before output asks code → (code ≡ 6) ⊎ (code ≡ 7) → output ≡ output_before
+  -- ---- 4 and 8
+
+  serving_alone : IsRan left read_faults stands write_faults told before after input_before input output_before output asks code → (s : Status) → IsInputStatus s → (s ≡ status.NoShape → ⊥) → code ≡ code_of s → (name : List ℕ) × (asks ≡ Some (serve_theory name))
+  serving_alone run s input_status other is = let there = shape_there run s other is in by_shape there.0 there.1 there.2
+    where
+      by_shape : (shape : Shape) → asks ≡ Some shape → Ends left read_faults stands write_faults told before after input_before input output_before output (Some shape) s → (name : List ℕ) × (asks ≡ Some (serve_theory name))
+      by_shape (check_theory name) asked ends = absurd (by_either ends.says.0.says (λ with. no_line stands write_faults output_before output _ s input_status with.2) (λ none. no_refusal stands write_faults told name before after output_before output s input_status none.0))
+      by_shape (serve_theory name) asked ends = (name, asked)
+      by_shape (replay_lines name lines) asked ends = absurd (by_either ends.says.0.says (λ with. no_replay stands write_faults told lines before after output_before output with.0 s input_status with.2) (λ none. no_refusal stands write_faults told name before after output_before output s input_status none.0))
+      by_shape (soak_lines lines seed) asked ends = absurd (no_line stands write_faults output_before output _ s input_status ends.says.0)
+
+  pub serves_alone : IsRan left read_faults stands write_faults told before after input_before input output_before output asks code → (code ≡ 4) ⊎ (code ≡ 8) → (name : List ℕ) × (asks ≡ Some (serve_theory name))
   unfolding code_of
-  check_untouched run (inl is) = second_of_two (checked_at run status.NoMemory run.name run.asked is).says (λ has. has.2)
-  check_untouched run (inr is) = (second_of_two (checked_at run status.FolderFault run.name run.asked is).says (λ has. has.2)).0
+  serves_alone run (inl is) = serving_alone run status.ReadFault tt (λ same. cc) is
+  serves_alone run (inr is) = serving_alone run status.LimitReached tt (λ same. cc) is
 
-  pub check_reads_nothing : IsCheckRun stands write_faults told before after output_before output asks code → (code ≡ 4) ⊎ (code ≡ 8) → ⊥
+  pub read_fault : IsRan left read_faults stands write_faults told before after input_before input output_before output asks code → code ≡ 4 → Rose (read_faults input_before) (read_faults input)
   unfolding code_of
-  check_reads_nothing run (inl is) = by_either (checked_at run status.ReadFault run.name run.asked is).says (λ has. has.2) (λ none. none)
-  check_reads_nothing run (inr is) = by_either (checked_at run status.LimitReached run.name run.asked is).says (λ has. has.2) (λ none. none)
+  read_fault run is =
+      let alone = serves_alone run (inl is) in
+      (first_of_two (ends_at run status.ReadFault is (serve_theory alone.0) alone.1).says.says (λ none. none.0)).2.read_fault refl
 
-  check_not_shapeless : IsCheckRun stands write_faults told before after output_before output asks code → code ≡ 2 → ⊥
+  pub whole : IsRan left read_faults stands write_faults told before after input_before input output_before output asks code → code ≡ 4 → (name : List ℕ) → asks ≡ Some (serve_theory name) → IsSome told
+      → (theory : Theory) × HasTheory told name theory × ((taken : List ℕ) × Took (left input_before) (left input) taken × GoesOn stands (in_ticks theory) taken output_before output)
   unfolding code_of
-  check_not_shapeless run is = by_either (checked_at run status.NoShape run.name run.asked is).says (λ has. has.2) (λ none. none)
+  whole run is name asked tells =
+      let with = first_of_two (ends_at run status.ReadFault is (serve_theory name) asked).says.says (λ none. none.0) in
+      (with.0, with.1 tells, (with.2.taken, with.2.took, with.2.ended.says))
 
-  pub check_no_shape : IsCheckRun stands write_faults told before after output_before output asks code → (code ≡ 2) ↔ (asks ≡ None)
-  check_no_shape run = ((λ is. absurd (check_not_shapeless run is)), (λ none. absurd (shape_is_there run.asked none)))
-
-  pub check_usage : IsCheckRun stands write_faults told before after output_before output asks code → (text : List ℕ) → code ≡ 2 → Wrote stands write_faults output_before output text
-  check_usage run text is = absurd (check_not_shapeless run is)
-
-  pub check_accepts : IsCheckRun stands write_faults told before after output_before output asks code → (name : List ℕ) (theory : Theory) → asks ≡ Some (check_theory name) → HasTheory told name theory → ¬ Rose before after
-      → ¬ Rose (write_faults output_before) (write_faults output) → (code ≡ 0) ⊎ (code ≡ 6)
+  pub limit : IsRan left read_faults stands write_faults told before after input_before input output_before output asks code → code ≡ 8 → (name : List ℕ) → asks ≡ Some (serve_theory name) → IsSome told
+      → (theory : Theory) × HasTheory told name theory
+      × ((text : List ℕ) → left input_before ≡ Some text → StopsAtLimit stands (in_ticks theory) most_input text output_before output)
   unfolding code_of
-  check_accepts run name theory asked has fine writes =
-      let there : HasTheory told run.name theory = subst (λ (n : List ℕ). HasTheory told n theory) (check_name asked run.asked) has in
-      either_code status.Done status.NoMemory run.is (by_either run.checked.says
-      (λ with. inl (accepts_with stands write_faults output_before output writes run.ended with.0 with.2))
-      (λ none. inr (only_memory stands write_faults told run.name before after output_before output (IsNoTheory told run.name) there.bytes there.file fine
-      (λ said why. HasTheory-not_refused there why) run.ended none)))
+  limit run is name asked tells =
+      let with = first_of_two (ends_at run status.LimitReached is (serve_theory name) asked).says.says (λ none. none.0) in
+      (with.0, with.1 tells, (λ text is_text. stops_at_limit with.2 text is_text))
 
-  pub check_refuses : IsCheckRun stands write_faults told before after output_before output asks code → (shape : Shape) (text : List ℕ) → asks ≡ Some shape → IsRefused shape told text → ¬ Rose before after → (code ≡ 3) ⊎ (code ≡ 6)
+  pub rest : IsRan left read_faults stands write_faults told before after input_before input output_before output asks code → code ≡ 8 → (text : List ℕ) → left input_before ≡ Some text → left input ≡ Some (drop most_input text)
   unfolding code_of
-  check_refuses run shape text asked refused fine =
-      let here : IsNoTheory told run.name text = subst (λ (s : Shape). IsRefused s told text) (shape_same asked run.asked) refused in
-      let file = IsNoTheory-file here in
-      either_code status.BadTheory status.NoMemory run.is (by_either run.checked.says
-      (λ with. absurd (HasTheory-not_refused (with.1 (HasFile-told file.1)) here))
-      (λ none. told_or_memory stands write_faults told run.name before after output_before output (IsNoTheory told run.name) file.0 file.1 fine run.ended none))
+  rest run is text is_text =
+      let alone = serves_alone run (inr is) in
+      left_at_limit (first_of_two (ends_at run status.LimitReached is (serve_theory alone.0) alone.1).says.says (λ none. none.0)).2 text is_text
+
+  pub stops : IsRan left read_faults stands write_faults told before after input_before input output_before output asks code → (name text : List ℕ) (theory : Theory) → asks ≡ Some (serve_theory name) → HasTheory told name theory → left input_before ≡ Some text
+      → IsLong (in_ticks theory) most_input text → ¬ Rose before after → ¬ Rose (read_faults input_before) (read_faults input)
+      → ¬ Rose (write_faults output_before) (write_faults output) → (code ≡ 8) ⊎ (code ≡ 6)
+  unfolding code_of
+  stops run name text theory asked has is_text long fine reads writes =
+      either_code status.LimitReached status.NoMemory run.is (by_either (ends_of run (serve_theory name) asked).says.says
+      (λ with. limit_if_long left read_faults stands write_faults with.0 text input_before input output_before output is_text reads writes (any_theory with.0) run.ended with.2)
+      (λ none. inr (only_memory stands write_faults told name before after output_before output has.bytes has.file fine
+      (λ said why. HasTheory-not_refused has why) run.ended none.0)))
+    where
+      any_theory : (other : Theory) → IsLong (in_ticks other) most_input text
+      any_theory other = record { long = long.long; going = same_quit theory other (whole_lines (take most_input text)) long.going }
+
+  -- ---- 5
+
+  pub write_fault : IsRan left read_faults stands write_faults told before after input_before input output_before output asks code → code ≡ 5 → Rose (write_faults output_before) (write_faults output)
+  unfolding code_of
+  write_fault run is = let there = shape_there run status.WriteFault (λ same. cc) is in by_shape there.0 there.2
+    where
+      by_shape : (shape : Shape) → Ends left read_faults stands write_faults told before after input_before input output_before output (Some shape) status.WriteFault → Rose (write_faults output_before) (write_faults output)
+      by_shape (check_theory name) ends = (first_of_two ends.says.0.says (λ none. none.0)).2.0
+      by_shape (serve_theory name) ends = (first_of_two ends.says.says (λ none. none.0)).2.write_fault refl
+      by_shape (replay_lines name lines) ends =
+          let with = first_of_two ends.says.0.says (λ none. none.0) in
+          let read = first_of_two with.2 (λ unread. unread) in read.2.0
+      by_shape (soak_lines lines seed) ends = ends.says.0.0
+
+  pub part : IsRan left read_faults stands write_faults told before after input_before input output_before output asks code → code ≡ 5 → (shape : Shape) → asks ≡ Some shape → TellsFiles told shape
+      → WrotePart stands told (left input_before) (left input) shape output_before output
+  unfolding code_of
+  part run is shape asked tells = by_shape shape (ends_at run status.WriteFault is shape asked) tells
+    where
+      lines_part : (theory : Theory) (taken : List ℕ) → IsBroken stands (in_ticks theory) (left input) taken output_before output
+          → AnswersPart stands (in_ticks theory) (lines_of taken) output_before output
+      lines_part theory taken (inl some) = AnswersPart-longer taken [] (sym (append-nil taken)) some
+      lines_part theory taken (inr last) = last.1
+
+      by_shape : (shape : Shape) → Ends left read_faults stands write_faults told before after input_before input output_before output (Some shape) status.WriteFault → TellsFiles told shape
+          → WrotePart stands told (left input_before) (left input) shape output_before output
+      by_shape (check_theory name) ends tells =
+          let with = first_of_two ends.says.0.says (λ none. none.0) in
+          (with.0, with.1 tells, subst (λ (t : List ℕ). AppendedPart stands output_before output t) with.2.1.1 with.2.1.2)
+      by_shape (serve_theory name) ends tells =
+          let with = first_of_two ends.says.says (λ none. none.0) in
+          (with.0, with.1 tells, (with.2.taken, with.2.took, lines_part with.0 with.2.taken with.2.ended.says))
+      by_shape (replay_lines name lines) ends tells =
+          let with = first_of_two ends.says.0.says (λ none. none.0) in
+          let read = first_of_two with.2 (λ unread. unread) in
+          (with.0, with.1 tells, (read.0, read.1 tells, read.2.1))
+      by_shape (soak_lines lines seed) ends tells = ends.says.0.1
+
+  -- ---- 7 and 9
+
+  pub folder_fault : IsRan left read_faults stands write_faults told before after input_before input output_before output asks code → code ≡ 7 → (shape : Shape) × (asks ≡ Some shape) × (Rose before after ⊎ LacksFile shape told)
+  unfolding code_of
+  folder_fault run is = let there = shape_there run status.FolderFault (λ same. cc) is in (there.0, there.1, by_shape there.0 there.2)
+    where
+      by_lines : {name lines : List ℕ} → Rose before after ⊎ IsMissing told lines → Rose before after ⊎ (IsMissing told name ⊎ IsMissing told lines)
+      by_lines (inl rose) = inl rose
+      by_lines (inr missing) = inr (inr missing)
+
+      by_name : {name lines : List ℕ} → Rose before after ⊎ IsMissing told name → Rose before after ⊎ (IsMissing told name ⊎ IsMissing told lines)
+      by_name (inl rose) = inl rose
+      by_name (inr missing) = inr (inl missing)
+
+      by_shape : (shape : Shape) → Ends left read_faults stands write_faults told before after input_before input output_before output (Some shape) status.FolderFault → Rose before after ⊎ LacksFile shape told
+      by_shape (check_theory name) ends = (second_of_two ends.says.0.says (λ with. with.2)).0.1
+      by_shape (serve_theory name) ends = (second_of_two ends.says.says (λ with. with.2)).0.1
+      by_shape (replay_lines name lines) ends =
+          by_either ends.says.0.says (λ with. by_lines (second_of_two with.2 (λ read. read.2)).1) (λ none. by_name none.0.1)
+      by_shape (soak_lines lines seed) ends = absurd ends.says.0
+
+  pub long_lines : IsRan left read_faults stands write_faults told before after input_before input output_before output asks code → code ≡ 9 → (name lines : List ℕ) × (asks ≡ Some (replay_lines name lines))
+      × (IsSome told → ((theory : Theory) × HasTheory told name theory) × IsTooLong told lines most_replayed)
+  unfolding code_of
+  long_lines run is = let there = shape_there run status.LongLines (λ same. cc) is in by_shape there.0 there.1 there.2
+    where
+      by_shape : (shape : Shape) → asks ≡ Some shape → Ends left read_faults stands write_faults told before after input_before input output_before output (Some shape) status.LongLines
+          → (name lines : List ℕ) × (asks ≡ Some (replay_lines name lines)) × (IsSome told → ((theory : Theory) × HasTheory told name theory) × IsTooLong told lines most_replayed)
+      by_shape (check_theory name) asked ends = absurd (by_either ends.says.0.says (λ with. with.2) (λ none. none.0))
+      by_shape (serve_theory name) asked ends = absurd (by_either ends.says.says (λ with. with.2) (λ none. none.0))
+      by_shape (replay_lines name lines) asked ends =
+          let with = first_of_two ends.says.0.says (λ none. none.0) in
+          let unread = second_of_two with.2 (λ read. read.2) in
+          (name, lines, asked, (λ tells. ((with.0, with.1 tells), unread.1 tells)))
+      by_shape (soak_lines lines seed) asked ends = absurd ends.says.0
+
+  pub finds_long : IsRan left read_faults stands write_faults told before after input_before input output_before output asks code → (name lines : List ℕ) (theory : Theory) → asks ≡ Some (replay_lines name lines) → HasTheory told name theory
+      → IsTooLong told lines most_replayed → ¬ Rose before after → (code ≡ 9) ⊎ (code ≡ 6)
+  unfolding code_of
+  finds_long run name lines theory asked has long fine =
+      either_code status.LongLines status.NoMemory run.is (by_either (ends_of run (replay_lines name lines) asked).says.0.says
+      (λ with. replay_long stands write_faults told lines before after output_before output with.0 fine long run.ended with.2)
+      (λ none. inr (only_memory stands write_faults told name before after output_before output has.bytes has.file fine
+      (λ said why. HasTheory-not_refused has why) run.ended none.0)))
+
+  -- ---- what is taken and left
+
+  pub within : IsRan left read_faults stands write_faults told before after input_before input output_before output asks code → (taken : List ℕ) × Took (left input_before) (left input) taken × (length taken ≤ most_input)
+  within run = by_words asks run.ends
+    where
+      none_taken : input ≡ input_before → (taken : List ℕ) × Took (left input_before) (left input) taken × (length taken ≤ most_input)
+      none_taken same = ([], Took-nil (ap left same), omega arith)
+
+      by_words : (words : Option Shape) → Ends left read_faults stands write_faults told before after input_before input output_before output words run.ended → (taken : List ℕ) × Took (left input_before) (left input) taken × (length taken ≤ most_input)
+      by_words None ends = none_taken ends.says.2
+      by_words (Some (check_theory name)) ends = none_taken ends.says.1
+      by_words (Some (serve_theory name)) ends =
+          by_either ends.says.says (λ with. taken_within left read_faults stands write_faults (in_ticks with.0) most_input input_before input output_before output run.ended with.2)
+          (λ none. none_taken none.1)
+      by_words (Some (replay_lines name lines)) ends = none_taken ends.says.1
+      by_words (Some (soak_lines lines seed)) ends = none_taken ends.says.1
+
+  pub unasked : IsRan left read_faults stands write_faults told before after input_before input output_before output asks code → (shape : Shape) → asks ≡ Some shape → takes_input shape ≡ false → input ≡ input_before
+  unasked run shape asked takes = by_shape shape (ends_of run shape asked) takes
+    where
+      by_shape : (shape : Shape) → Ends left read_faults stands write_faults told before after input_before input output_before output (Some shape) run.ended → takes_input shape ≡ false → input ≡ input_before
+      by_shape (check_theory name) ends takes = ends.says.1
+      by_shape (serve_theory name) ends takes = cc
+      by_shape (replay_lines name lines) ends takes = ends.says.1
+      by_shape (soak_lines lines seed) ends takes = ends.says.1
+
+  touches_nothing : IsRan left read_faults stands write_faults told before after input_before input output_before output asks code → (s : Status) → IsUntouched s → (s ≡ status.NoShape → ⊥) → code ≡ code_of s → (output ≡ output_before) × (input ≡ input_before)
+  touches_nothing run s untouched other is = let there = shape_there run s other is in by_shape there.0 there.2
+    where
+      by_shape : (shape : Shape) → Ends left read_faults stands write_faults told before after input_before input output_before output (Some shape) s → (output ≡ output_before) × (input ≡ input_before)
+      by_shape (check_theory name) ends = (by_either ends.says.0.says (λ with. same_line stands write_faults output_before output _ s untouched with.2) (λ none. same_refusal stands write_faults told name before after output_before output s untouched none.0), ends.says.1)
+      by_shape (serve_theory name) ends =
+          by_either ends.says.says (λ with. same_serve left read_faults stands write_faults with.0 input_before input output_before output s untouched with.2) (λ none. (same_refusal stands write_faults told name before after output_before output s untouched none.0, none.1))
+      by_shape (replay_lines name lines) ends = (by_either ends.says.0.says (λ with. same_replay stands write_faults told lines before after output_before output with.0 s untouched with.2) (λ none. same_refusal stands write_faults told name before after output_before output s untouched none.0), ends.says.1)
+      by_shape (soak_lines lines seed) ends = (same_line stands write_faults output_before output _ s untouched ends.says.0, ends.says.1)
+
+  pub untouched : IsRan left read_faults stands write_faults told before after input_before input output_before output asks code → (code ≡ 6) ⊎ ((code ≡ 7) ⊎ (code ≡ 9)) → (output ≡ output_before) × (input ≡ input_before)
+  unfolding code_of
+  untouched run (inl is) = touches_nothing run status.NoMemory tt (λ same. cc) is
+  untouched run (inr (inl is)) = touches_nothing run status.FolderFault tt (λ same. cc) is
+  untouched run (inr (inr is)) = touches_nothing run status.LongLines tt (λ same. cc) is
+
+  pub unread : IsRan left read_faults stands write_faults told before after input_before input output_before output asks code → (code ≡ 2) ⊎ (code ≡ 3) → input ≡ input_before
+  unfolding code_of
+  unread run (inl is) = let ends = subst (λ (a : Option Shape). Ends left read_faults stands write_faults told before after input_before input output_before output a run.ended) ((no_shape run).0 is) run.ends in ends.says.2
+  unread run (inr is) = let there = shape_there run status.BadTheory (λ same. cc) is in by_shape there.0 there.2
+    where
+      by_shape : (shape : Shape) → Ends left read_faults stands write_faults told before after input_before input output_before output (Some shape) status.BadTheory → input ≡ input_before
+      by_shape (check_theory name) ends = ends.says.1
+      by_shape (serve_theory name) ends = (second_of_two ends.says.says (λ with. with.2)).1
+      by_shape (replay_lines name lines) ends = ends.says.1
+      by_shape (soak_lines lines seed) ends = ends.says.1

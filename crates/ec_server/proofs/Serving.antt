@@ -1,13 +1,16 @@
 -- How serving goes on: line by line, through flushes, and at its ends.
-use Rattle.std.proofs.Common.{◌≡◌, ℕ, Bool, true, false, ◌||◌, List, [], ◌∷◌, ◌++◌, map, ℤ, Option, refl, sym, ap, ◌∙◌, subst, append_assoc, append-nil}
+use Rattle.std.proofs.Common.{◌≡◌, ℕ, Bool, true, false, ◌||◌, List, [], ◌∷◌, ◌++◌, map, refl, sym, ap, ◌∙◌, subst, append_assoc, append-nil}
 use Rattle.std.proofs.lemmas.List.{map-append}
 use Rattle.ec_axioms.specs.Lines.{CutText, cut_of, whole_lines, lines_of, last_line, without_return}
-use Rattle.ec_axioms.specs.Replies.{State, empty_state, Run, is_quit, has_quit}
-use Rattle.ec_axioms.proofs.Runs.{step_run, run-append, run-quit}
+use Rattle.ec_replies.specs.State.{State, empty_state}
+use Rattle.ec_replies.specs.Runs.{Run, is_quit, has_quit}
+use Rattle.ec_replies.specs.Replies.{Language}
+use Rattle.ec_sessions.specs.Handling.{IsAnswered}
+use Rattle.ec_server.specs.Answered.{AnswersLines, IsServing, HasQuit}
+use Rattle.ec_replies.proofs.RunParts.{step_run, run-append, run-quit}
 use Rattle.ec_lines.proofs.CutLines.{behind, cut_of-append}
 use Rattle.ec_outside.specs.Streams.{Kept}
 use Rattle.ec_outside.proofs.Streams.{Appended-then, Appended-then-Kept, Appended-nil}
-use Rattle.ec_server.specs.Handling.{Language, IsAnswered, AnswersLines, IsServing, HasQuit}
 
 -- ---- lines
 
@@ -48,27 +51,27 @@ unfolding whole_lines cut_of
 whole_lines-nil = refl
 
 -- `quit` among the lines that another one follows
-has_quit-append : (spelt : List ℕ → Option ℤ) (lines : List (List ℕ)) (line : List ℕ) → has_quit spelt (lines ++ line ∷ []) ≡ (has_quit spelt lines || is_quit spelt line)
-has_quit-append spelt [] line = or_false (is_quit spelt line)
+has_quit-append : (language : Language) (lines : List (List ℕ)) (line : List ℕ) → has_quit language (lines ++ line ∷ []) ≡ (has_quit language lines || is_quit language line)
+has_quit-append language [] line = or_false (is_quit language line)
   where
     or_false : (b : Bool) → (b || false) ≡ b
     or_false true = refl
     or_false false = refl
-has_quit-append spelt (first ∷ lines) line =
-    ap (λ (b : Bool). is_quit spelt first || b) (has_quit-append spelt lines line)
-    ∙ or_assoc (is_quit spelt first) (has_quit spelt lines) (is_quit spelt line)
+has_quit-append language (first ∷ lines) line =
+    ap (λ (b : Bool). is_quit language first || b) (has_quit-append language lines line)
+    ∙ or_assoc (is_quit language first) (has_quit language lines) (is_quit language line)
   where
     or_assoc : (a b c : Bool) → (a || (b || c)) ≡ ((a || b) || c)
     or_assoc true b c = refl
     or_assoc false b c = refl
 
 -- `quit` stays among more lines
-pub has_quit-more : (spelt : List ℕ → Option ℤ) (lines more : List (List ℕ)) → has_quit spelt lines ≡ true → has_quit spelt (lines ++ more) ≡ true
-has_quit-more spelt [] more quits = cc
-has_quit-more spelt (line ∷ lines) more quits = by_test (is_quit spelt line) quits (has_quit-more spelt lines more)
+pub has_quit-more : (language : Language) (lines more : List (List ℕ)) → has_quit language lines ≡ true → has_quit language (lines ++ more) ≡ true
+has_quit-more language [] more quits = cc
+has_quit-more language (line ∷ lines) more quits = by_test (is_quit language line) quits (has_quit-more language lines more)
   where
-    by_test : (b : Bool) → (b || has_quit spelt lines) ≡ true → (has_quit spelt lines ≡ true → has_quit spelt (lines ++ more) ≡ true)
-        → (b || has_quit spelt (lines ++ more)) ≡ true
+    by_test : (b : Bool) → (b || has_quit language lines) ≡ true → (has_quit language lines ≡ true → has_quit language (lines ++ more) ≡ true)
+        → (b || has_quit language (lines ++ more)) ≡ true
     by_test true quits later = refl
     by_test false quits later = later quits
 
@@ -78,8 +81,8 @@ module _ {K : Type 0} {stands : K → List ℕ → Type 0} {language : Language}
   pub IsServing-start : (start : K) → Kept stands start start → IsServing stands language [] empty_state start start
   IsServing-start start kept = record {
     out = [];
-    run = subst (λ (lines : List (List ℕ)). Run language.theory language.spelt empty_state lines [] empty_state) (sym whole_lines-nil) (refl, refl);
-    going = ap (has_quit language.spelt) whole_lines-nil;
+    run = subst (λ (lines : List (List ℕ)). Run language empty_state lines [] empty_state) (sym whole_lines-nil) (refl, refl);
+    going = ap (has_quit language) whole_lines-nil;
     appended = Appended-nil kept;
   }
 
@@ -94,18 +97,18 @@ module _ {K : Type 0} {stands : K → List ℕ → Type 0} {language : Language}
       → IsServing stands language taken state start now → IsServing stands language longer state start now
   IsServing-piece {state = state} same serving = record {
     out = serving.out;
-    run = subst (λ (lines : List (List ℕ)). Run language.theory language.spelt empty_state lines serving.out state) (sym same) serving.run;
-    going = ap (has_quit language.spelt) same ∙ serving.going;
+    run = subst (λ (lines : List (List ℕ)). Run language empty_state lines serving.out state) (sym same) serving.run;
+    going = ap (has_quit language) same ∙ serving.going;
     appended = serving.appended;
   }
 
   -- the lines so far and one more are answered
   answers_more : {taken line : List ℕ} {state after : State} {start now next : K} {quits : Bool} (serving : IsServing stands language taken state start now)
       (answered : IsAnswered stands language quits line state after now next)
-      → Run language.theory language.spelt empty_state (whole_lines taken ++ line ∷ []) (serving.out ++ answered.text) after
+      → Run language empty_state (whole_lines taken ++ line ∷ []) (serving.out ++ answered.text) after
   answers_more {taken} {line} {state} {after} serving answered =
-      run-append language.theory language.spelt empty_state state after (whole_lines taken) (line ∷ []) serving.out answered.text serving.going serving.run
-      (step_run language.theory language.spelt state after line answered.text answered.step)
+      run-append language empty_state state after (whole_lines taken) (line ∷ []) serving.out answered.text serving.going serving.run
+      (step_run language state after line answered.text answered.step)
 
   -- bytes that end a line, which is answered and is not `quit`
   pub IsServing-line : {taken longer line : List ℕ} {state after : State} {start now next : K} → whole_lines longer ≡ whole_lines taken ++ line ∷ []
@@ -113,8 +116,8 @@ module _ {K : Type 0} {stands : K → List ℕ → Type 0} {language : Language}
       → IsServing stands language longer after start next
   IsServing-line {taken} {longer} {line} {after = after} same serving answered = record {
     out = serving.out ++ answered.text;
-    run = subst (λ (lines : List (List ℕ)). Run language.theory language.spelt empty_state lines (serving.out ++ answered.text) after) (sym same) (answers_more serving answered);
-    going = ap (has_quit language.spelt) same ∙ has_quit-append language.spelt (whole_lines taken) line ∙ ap (λ (b : Bool). b || is_quit language.spelt line) serving.going ∙ answered.quit;
+    run = subst (λ (lines : List (List ℕ)). Run language empty_state lines (serving.out ++ answered.text) after) (sym same) (answers_more serving answered);
+    going = ap (has_quit language) same ∙ has_quit-append language (whole_lines taken) line ∙ ap (λ (b : Bool). b || is_quit language line) serving.going ∙ answered.quit;
     appended = Appended-then serving.appended answered.appended;
   }
 
@@ -123,7 +126,7 @@ module _ {K : Type 0} {stands : K → List ℕ → Type 0} {language : Language}
       → IsServing stands language taken state start now → IsAnswered stands language quits line state after now next → AnswersLines stands language lines start next
   AnswersLines-line {after = after} same serving answered = record {
     out = serving.out ++ answered.text;
-    run = (after, subst (λ (lines : List (List ℕ)). Run language.theory language.spelt empty_state lines (serving.out ++ answered.text) after) (sym same) (answers_more serving answered));
+    run = (after, subst (λ (lines : List (List ℕ)). Run language empty_state lines (serving.out ++ answered.text) after) (sym same) (answers_more serving answered));
     appended = Appended-then serving.appended answered.appended;
   }
 
@@ -132,7 +135,7 @@ module _ {K : Type 0} {stands : K → List ℕ → Type 0} {language : Language}
       → IsServing stands language taken state start now → AnswersLines stands language lines start now
   AnswersLines-so_far {state = state} same serving = record {
     out = serving.out;
-    run = (state, subst (λ (lines : List (List ℕ)). Run language.theory language.spelt empty_state lines serving.out state) (sym same) serving.run);
+    run = (state, subst (λ (lines : List (List ℕ)). Run language empty_state lines serving.out state) (sym same) serving.run);
     appended = serving.appended;
   }
 
@@ -146,7 +149,7 @@ module _ {K : Type 0} {stands : K → List ℕ → Type 0} {language : Language}
     done = longer;
     rest = rest;
     split = split;
-    quit = ap (has_quit language.spelt) same ∙ has_quit-append language.spelt (whole_lines taken) line ∙ ap (λ (b : Bool). b || is_quit language.spelt line) serving.going ∙ answered.quit;
+    quit = ap (has_quit language) same ∙ has_quit-append language (whole_lines taken) line ∙ ap (λ (b : Bool). b || is_quit language line) serving.going ∙ answered.quit;
     answers = AnswersLines-line same serving answered;
   }
 
@@ -162,15 +165,15 @@ module _ {K : Type 0} {stands : K → List ℕ → Type 0} {language : Language}
         out = has.answers.out;
         run = (
           has.answers.run.0,
-          subst (λ (lines : List (List ℕ)). Run language.theory language.spelt empty_state lines has.answers.out has.answers.run.0) (sym (ap lines_of whole ∙ tail.1))
-              (run-quit language.theory language.spelt empty_state has.answers.run.0 (whole_lines has.done) tail.0 has.answers.out has.quit has.answers.run.1),
+          subst (λ (lines : List (List ℕ)). Run language empty_state lines has.answers.out has.answers.run.0) (sym (ap lines_of whole ∙ tail.1))
+              (run-quit language empty_state has.answers.run.0 (whole_lines has.done) tail.0 has.answers.out has.quit has.answers.run.1),
         );
         appended = has.answers.appended;
       }
 
   -- and `quit` is among the whole lines of all that was taken
-  pub has_quit-taken : {taken : List ℕ} {start now : K} → HasQuit stands language taken start now → has_quit language.spelt (whole_lines taken) ≡ true
+  pub has_quit-taken : {taken : List ℕ} {start now : K} → HasQuit stands language taken start now → has_quit language (whole_lines taken) ≡ true
   has_quit-taken has =
       let tail = whole_lines-append has.done has.rest in
-      ap (λ (t : List ℕ). has_quit language.spelt (whole_lines t)) has.split ∙ ap (has_quit language.spelt) tail.1
-      ∙ has_quit-more language.spelt (whole_lines has.done) tail.0 has.quit
+      ap (λ (t : List ℕ). has_quit language (whole_lines t)) has.split ∙ ap (has_quit language) tail.1
+      ∙ has_quit-more language (whole_lines has.done) tail.0 has.quit

@@ -1,9 +1,9 @@
--- Exit statuses and their numbers, and shapes and their names.
-use Rattle.std.proofs.Common.{◌≡◌, ◌==◌, ◌⊎◌, ℕ, List, Option, Some, None, refl, sym, ap, ◌∙◌, inl, inr, cond}
+-- Exit statuses and their numbers, and shapes.
+use Rattle.std.proofs.Common.{◌≡◌, ◌==◌, ◌⊎◌, ℕ, Option, Some, None, IsSome, refl, sym, ap, ◌∙◌, inl, inr, cond}
 use Rattle.ec_server.specs.declared.status.Status.{Status}
 use Rattle.ec_server.specs.declared.status.Status.TheVariants as status
 use Rattle.ec_server.specs.ExitStatus.{code_of}
-use Rattle.ec_server.specs.Words.{Shape, check_theory, serve_theory}
+use Rattle.ec_server.specs.Words.{Shape}
 
 -- ---- statuses
 
@@ -16,7 +16,8 @@ of_code code =
     (cond (code == 4) status.ReadFault
     (cond (code == 5) status.WriteFault
     (cond (code == 6) status.NoMemory
-    (cond (code == 7) status.FolderFault status.LimitReached))))))
+    (cond (code == 7) status.FolderFault
+    (cond (code == 8) status.LimitReached status.LongLines)))))))
 
 of_code-code : (s : Status) → of_code (code_of s) ≡ s
 unfolding code_of
@@ -28,6 +29,7 @@ of_code-code status.WriteFault = refl
 of_code-code status.NoMemory = refl
 of_code-code status.FolderFault = refl
 of_code-code status.LimitReached = refl
+of_code-code status.LongLines = refl
 
 -- statuses with one number are the same
 pub status_same : {code : ℕ} {s : Status} (t : Status) → code ≡ code_of s → code ≡ code_of t → s ≡ t
@@ -40,17 +42,8 @@ either_code a b is (inr other) = inr (is ∙ ap code_of other)
 
 -- ---- shapes
 
-pub check_name : {a b : List ℕ} {shape : Option Shape} → shape ≡ Some (check_theory a) → shape ≡ Some (check_theory b) → a ≡ b
-check_name one other = let both = sym one ∙ other in cc
-
-pub serve_name : {a b : List ℕ} {shape : Option Shape} → shape ≡ Some (serve_theory a) → shape ≡ Some (serve_theory b) → a ≡ b
-serve_name one other = let both = sym one ∙ other in cc
-
 pub shape_same : {a b : Shape} {shape : Option Shape} → shape ≡ Some a → shape ≡ Some b → a ≡ b
 shape_same one other = let both = sym one ∙ other in cc
-
-pub check_is_not_serve : {a b : List ℕ} {shape : Option Shape} → shape ≡ Some (check_theory a) → shape ≡ Some (serve_theory b) → ⊥
-check_is_not_serve one other = let both = sym one ∙ other in cc
 
 pub shape_is_there : {a : Shape} {shape : Option Shape} → shape ≡ Some a → shape ≡ None → ⊥
 shape_is_there one none = let both = sym one ∙ none in cc
@@ -69,13 +62,7 @@ pub second_of_two : {A B : Type 0} → A ⊎ B → (A → ⊥) → B
 second_of_two (inl a) never = absurd (never a)
 second_of_two (inr b) never = b
 
--- ---- words without a shape
-
--- the code of a run whose words have no shape is that of no other status
-pub no_shape_alone : {code : ℕ} {s : Status} (t : Status) → code ≡ code_of s → s ≡ status.NoShape → code ≡ code_of t → t ≡ status.NoShape
-no_shape_alone t is none other = sym (status_same t is other) ∙ none
-
-pub neither : {code : ℕ} {s : Status} (a b : Status) → code ≡ code_of s → s ≡ status.NoShape → (a ≡ status.NoShape → ⊥) → (b ≡ status.NoShape → ⊥)
-    → (code ≡ code_of a) ⊎ (code ≡ code_of b) → ⊥
-neither a b is none not_a not_b (inl one) = not_a (no_shape_alone a is none one)
-neither a b is none not_a not_b (inr other) = not_b (no_shape_alone b is none other)
+-- an option that has a value
+pub some_of : {A : Type 0} (option : Option A) → IsSome option → (a : A) × (option ≡ Some a)
+some_of (Some a) is = (a, refl)
+some_of None is = cc

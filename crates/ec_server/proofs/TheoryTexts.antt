@@ -1,6 +1,5 @@
 -- A text is a theory or has a fault, and never both; a folder has one file of a name.
-use Rattle.std.proofs.Common.{◌≡◌, ◌≤◌, ℕ, Bool, true, false, List, length, Option, Some, None, IsSome, sym, ap, ◌∙◌, subst, true≢false, arith}
-use Rattle.std.specs.Prelude.{codes}
+use Rattle.std.proofs.Common.{◌≡◌, ◌≤◌, ℕ, Bool, true, false, List, length, Option, Some, None, IsSome, sym, ap, ◌∙◌, subst, arith}
 use Rattle.std.specs.FinMap as map
 use Rattle.ec_terms.specs.declared.theory.Theory.{Theory}
 use Rattle.ec_tokens.specs.declared.fault.TokenFault.TheVariants as token
@@ -18,8 +17,8 @@ use Rattle.ec_server.specs.declared.theory_file.NoTheory.{NoTheory}
 use Rattle.ec_server.specs.declared.theory_file.NoTheory.TheVariants.{FolderFault, NoMemory, Said}
 use Rattle.ec_server.specs.declared.status.Status.{Status}
 use Rattle.ec_server.specs.CommandEnds.{SaysRefused}
-use Rattle.ec_server.specs.Loading.{IsBytesReason, IsReason, IsRefusal, most_said}
-use Rattle.ec_server.specs.TheoryFiles.{HasTheory, IsNoTheory, IsNotServed, too_long, faulty, no_theory, unbuilt, is_served, most_theory_bytes, fault_text, token_text, syntax_text}
+use Rattle.ec_server.specs.Loading.{IsBytesReason, IsReason, IsRefusal}
+use Rattle.ec_server.specs.TheoryFiles.{HasTheory, IsNoTheory, too_long, faulty, most_theory_bytes, fault_text, token_text, syntax_text}
 
 -- ---- texts
 
@@ -43,6 +42,13 @@ accepted_not_faulty {theory = theory} accepted text (refused.Wrong fault) has is
     let theories : has.theory ≡ theory = reading_same has.reads (subst (λ (l : Lexemes). Reads l theory) (sym same) accepted.reads) in
     let none : first_wrong has.theory ≡ None = ap first_wrong theories ∙ accepted.well_formed.no_fault in
     let wrong = sym has.wrong ∙ none in cc
+
+-- a text is at most one theory
+pub accepted_same : {bytes : List ℕ} {a b : Theory} → IsAccepted bytes a → IsAccepted bytes b → a ≡ b
+accepted_same {a = a} one other =
+    let both = sym one.cut ∙ other.cut in
+    let tokens : one.tokens ≡ other.tokens = cc in
+    reading_same (subst (λ (l : Lexemes). Reads l a) tokens one.reads) other.reads
 
 -- ---- files
 
@@ -71,40 +77,22 @@ HasFile-not_long {told} {name} {a} {most} has fits long =
     let more = long.long in
     omega (arith, size, fits, more)
 
--- a folder has one theory under a name
-pub HasTheory-same : {told : Option Files} {name : List ℕ} {a b : Theory} → HasTheory told name a → HasTheory told name b → a ≡ b
-HasTheory-same {told} {name} {a} {b} one other =
-    let bytes = HasFile-same one.file other.file in
-    let accepted : IsAccepted other.bytes a = subst (λ (t : List ℕ). IsAccepted t a) bytes one.accepted in
-    let cuts = sym accepted.cut ∙ other.accepted.cut in
-    let tokens : accepted.tokens ≡ other.accepted.tokens = cc in
-    reading_same (subst (λ (l : Lexemes). Reads l a) tokens accepted.reads) other.accepted.reads
-
 -- a file that has a theory is not refused as none
 pub HasTheory-not_refused : {told : Option Files} {name text : List ℕ} {theory : Theory} → HasTheory told name theory → IsNoTheory told name text → ⊥
 HasTheory-not_refused has (too_long long) = HasFile-not_long has.file has.fits long
 HasTheory-not_refused {theory = theory} has (faulty bytes text fault file fits wrong said) =
     accepted_not_faulty (subst (λ (b : List ℕ). IsAccepted b theory) (HasFile-same has.file file) has.accepted) text fault wrong said
 
--- nor, where the theory is served, as one that is not
-pub HasTheory-served : {told : Option Files} {name text : List ℕ} {theory : Theory} → HasTheory told name theory → is_served theory ≡ true → IsNotServed told name text → ⊥
-HasTheory-served has served (no_theory text none) = HasTheory-not_refused has none
-HasTheory-served has served (unbuilt theory other not_served) = true≢false (sym served ∙ ap is_served (HasTheory-same has other) ∙ not_served)
-
 -- what is refused is a file that the folder tells
 pub IsNoTheory-file : {told : Option Files} {name text : List ℕ} → IsNoTheory told name text → (bytes : List ℕ) × HasFile told name bytes
 IsNoTheory-file (too_long long) = (long.bytes, long.file)
 IsNoTheory-file (faulty bytes text fault file fits wrong said) = (bytes, file)
 
-pub IsNotServed-file : {told : Option Files} {name text : List ℕ} → IsNotServed told name text → (bytes : List ℕ) × HasFile told name bytes
-IsNotServed-file (no_theory text none) = IsNoTheory-file none
-IsNotServed-file (unbuilt theory has not_served) = (has.bytes, has.file)
-
 -- ---- why a file gave no theory
 
 -- what is said of the bytes of a file is said of the file
 pub IsReason-bytes : (told : Option Files) (name bytes : List ℕ) (before after : ℕ) → (IsSome told → HasFile told name bytes) → length bytes ≤ most_theory_bytes
-    → (reason : NoTheory) → IsBytesReason bytes reason → IsReason (IsNoTheory told name) told name before after reason
+    → (reason : NoTheory) → IsBytesReason bytes reason → IsReason told name before after reason
 IsReason-bytes told name bytes before after file fits FolderFault is = absurd is
 IsReason-bytes told name bytes before after file fits NoMemory is = tt
 IsReason-bytes told name bytes before after file fits (Said text) is = (
@@ -113,30 +101,14 @@ IsReason-bytes told name bytes before after file fits (Said text) is = (
   is.1,
 )
 
--- what is no theory is none to serve
-pub IsReason-to_serve : (told : Option Files) (name : List ℕ) (before after : ℕ) (reason : NoTheory) → IsReason (IsNoTheory told name) told name before after reason
-    → IsReason (IsNotServed told name) told name before after reason
-IsReason-to_serve told name before after FolderFault is = is
-IsReason-to_serve told name before after NoMemory is = is
-IsReason-to_serve told name before after (Said text) is = ((λ tells. no_theory text (is.0 tells)), is.1, is.2)
-
--- what is said of a theory that is not served so far
-pub IsReason-unbuilt : (told : Option Files) (name : List ℕ) (before after : ℕ) (theory : Theory) → (IsSome told → HasTheory told name theory) → is_served theory ≡ false
-    → (text : List ℕ) → text ≡ codes "unbuilt" → IsReason (IsNotServed told name) told name before after (Said text)
-IsReason-unbuilt told name before after theory has not_served text is = (
-  (λ tells. subst (λ (t : List ℕ). IsNotServed told name t) (sym is) (unbuilt theory (has tells) not_served)),
-  (λ long. let there = has (HasFile-told long.file) in absurd (HasFile-not_long there.file there.fits long)),
-  subst (λ (t : List ℕ). length t ≤ most_said) (sym is) (omega arith),
-)
-
 -- what the status of a run says that has no theory
-pub SaysRefused-of : {K : Type 0} (stands : K → List ℕ → Type 0) (faults : K → ℕ) (told : Option Files) (name : List ℕ) (before after : ℕ) (old new : K) (Refuses : List ℕ → Type 0)
-    (reason : NoTheory) (ended : Status) → IsReason Refuses told name before after reason → IsRefusal stands faults reason ended old new
-    → SaysRefused stands faults told name before after old new Refuses ended
-SaysRefused-of stands faults told name before after old new Refuses FolderFault ended why is =
-    subst (λ (s : Status). SaysRefused stands faults told name before after old new Refuses s) (sym is.0) (is.1, why)
-SaysRefused-of stands faults told name before after old new Refuses NoMemory ended why is =
-    subst (λ (s : Status). SaysRefused stands faults told name before after old new Refuses s) (sym is.0) is.1
-SaysRefused-of stands faults told name before after old new Refuses (Said text) ended why is =
-    subst (λ (s : Status). SaysRefused stands faults told name before after old new Refuses s) (sym is.0)
+pub SaysRefused-of : {K : Type 0} (stands : K → List ℕ → Type 0) (faults : K → ℕ) (told : Option Files) (name : List ℕ) (before after : ℕ) (old new : K)
+    (reason : NoTheory) (ended : Status) → IsReason told name before after reason → IsRefusal stands faults reason ended old new
+    → SaysRefused stands faults told name before after old new ended
+SaysRefused-of stands faults told name before after old new FolderFault ended why is =
+    subst (λ (s : Status). SaysRefused stands faults told name before after old new s) (sym is.0) (is.1, why)
+SaysRefused-of stands faults told name before after old new NoMemory ended why is =
+    subst (λ (s : Status). SaysRefused stands faults told name before after old new s) (sym is.0) is.1
+SaysRefused-of stands faults told name before after old new (Said text) ended why is =
+    subst (λ (s : Status). SaysRefused stands faults told name before after old new s) (sym is.0)
     (record { text = text; why = why.0; long = why.1; wrote = is.1 })

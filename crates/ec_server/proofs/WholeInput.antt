@@ -3,22 +3,23 @@ use Rattle.std.proofs.Common.{◌≡◌, ◌≤◌, ◌+◌, ◌-◌, ◌⊎◌,
 use Rattle.std.proofs.lemmas.List.{take_at, drop_at}
 use Rattle.std.proofs.Math.Seq.{take-append-add}
 use Rattle.ec_axioms.specs.Lines.{whole_lines, lines_of}
-use Rattle.ec_axioms.specs.Replies.{has_quit}
+use Rattle.ec_replies.specs.Runs.{has_quit}
+use Rattle.ec_replies.specs.Replies.{Language}
+use Rattle.ec_server.specs.Answered.{AnswersLines}
 use Rattle.ec_outside.specs.Streams.{Took, IsAtEnd}
 use Rattle.ec_outside.proofs.Streams.{Took-nil}
-use Rattle.ec_server.specs.declared.handled.Ending.TheVariants as ending
+use Rattle.ec_server.specs.declared.ending.Ending.TheVariants as ending
 use Rattle.ec_server.specs.declared.status.Status.{Status}
 use Rattle.ec_server.specs.declared.status.Status.TheVariants as status
 use Rattle.ec_server.specs.Ending.{HasEnded, SaysServed}
-use Rattle.ec_server.specs.Handling.{Language, AnswersLines}
 use Rattle.ec_server.specs.InputLimits.{IsShort, StopsAtLimit}
 use Rattle.ec_server.proofs.Serving.{AnswersLines-quit, whole_lines-append, has_quit-more, has_quit-taken}
 
 -- `quit` among the whole lines of a first part is among those of all
-has_quit-longer : (language : Language) (text more : List ℕ) → has_quit language.spelt (whole_lines text) ≡ true → has_quit language.spelt (whole_lines (text ++ more)) ≡ true
+has_quit-longer : (language : Language) (text more : List ℕ) → has_quit language (whole_lines text) ≡ true → has_quit language (whole_lines (text ++ more)) ≡ true
 has_quit-longer language text more quits =
     let tail = whole_lines-append text more in
-    ap (has_quit language.spelt) tail.1 ∙ has_quit-more language.spelt (whole_lines text) tail.0 quits
+    ap (has_quit language) tail.1 ∙ has_quit-more language (whole_lines text) tail.0 quits
 
 -- a first part of a text as long as the limit is what the limit takes of it
 first_taken : (text taken more : List ℕ) (limit : ℕ) → text ≡ taken ++ more → length taken ≡ limit → take limit text ≡ taken
@@ -49,7 +50,7 @@ module _ {S K : Type 0} {left : S → Option (List ℕ)} {read_faults : S → �
 
   -- so nothing is left, or `quit` is among the whole lines of what was taken
   pub read_done : HasEnded left read_faults stands write_faults language limit input_before input output_before output ending.End ⊎ HasEnded left read_faults stands write_faults language limit input_before input output_before output ending.Quit
-      → (taken : List ℕ) × Took (left input_before) (left input) taken × (IsAtEnd (left input) ⊎ (has_quit language.spelt (whole_lines taken) ≡ true))
+      → (taken : List ℕ) × Took (left input_before) (left input) taken × (IsAtEnd (left input) ⊎ (has_quit language (whole_lines taken) ≡ true))
   read_done (inl has) = (has.taken, has.took, inl has.ended.says.at_end)
   read_done (inr has) = (has.taken, has.took, inr (has_quit-taken has.ended.says))
 
@@ -61,7 +62,7 @@ module _ {S K : Type 0} {left : S → Option (List ℕ)} {read_faults : S → �
       let same = first_taken text has.taken rest.0 limit rest.2 full in record {
         input = record {
           long = first_within text has.taken rest.0 limit rest.2 full;
-          going = ap (λ (t : List ℕ). has_quit language.spelt (whole_lines t)) same ∙ has.ended.says.0.going;
+          going = ap (λ (t : List ℕ). has_quit language (whole_lines t)) same ∙ has.ended.says.0.going;
         };
         answers = subst (λ (t : List ℕ). AnswersLines stands language (whole_lines t) output_before output) (sym same) has.ended.says.0.answers;
       }
@@ -80,11 +81,11 @@ module _ {S K : Type 0} {left : S → Option (List ℕ)} {read_faults : S → �
   short_not_limit has text told (inr quits) =
       let rest = has.took.rest text told in
       let same = first_taken text has.taken rest.0 limit rest.2 has.ended.says.1 in
-      true≢false (sym quits ∙ ap (λ (t : List ℕ). has_quit language.spelt (whole_lines t)) same ∙ has.ended.says.0.going)
+      true≢false (sym quits ∙ ap (λ (t : List ℕ). has_quit language (whole_lines t)) same ∙ has.ended.says.0.going)
 
   -- a long one ends behind it
   pub long_not_done : HasEnded left read_faults stands write_faults language limit input_before input output_before output ending.End ⊎ HasEnded left read_faults stands write_faults language limit input_before input output_before output ending.Quit → (text : List ℕ) → left input_before ≡ Some text → limit ≤ length text
-      → has_quit language.spelt (whole_lines (take limit text)) ≡ false → ⊥
+      → has_quit language (whole_lines (take limit text)) ≡ false → ⊥
   long_not_done (inl has) text told long going =
       let rest = has.took.rest text told in
       let none : rest.0 ≡ [] = has.ended.says.at_end.empty rest.0 rest.1 in
@@ -96,7 +97,7 @@ module _ {S K : Type 0} {left : S → Option (List ℕ)} {read_faults : S → �
       let first : take limit text ≡ has.taken ++ take (limit - length has.taken) rest.0 =
       ap (λ (t : List ℕ). take limit t) rest.2 ∙ ap (λ (n : ℕ). take n (has.taken ++ rest.0)) (up_to has.taken limit has.ended.within)
       ∙ take-append-add has.taken rest.0 (limit - length has.taken) in
-      true≢false (sym (ap (λ (t : List ℕ). has_quit language.spelt (whole_lines t)) first
+      true≢false (sym (ap (λ (t : List ℕ). has_quit language (whole_lines t)) first
       ∙ has_quit-longer language has.taken (take (limit - length has.taken) rest.0) (has_quit-taken has.ended.says)) ∙ going)
 
 module _ {S K : Type 0} (left : S → Option (List ℕ)) (read_faults : S → ℕ) (stands : K → List ℕ → Type 0) (write_faults : K → ℕ) (language : Language) (limit : ℕ)
@@ -113,3 +114,4 @@ module _ {S K : Type 0} (left : S → Option (List ℕ)) (read_faults : S → �
   taken_within status.NoMemory says = ([], Took-nil (ap left says.1), omega arith)
   taken_within status.FolderFault says = absurd says
   taken_within status.LimitReached has = (has.taken, has.took, has.ended.within)
+  taken_within status.LongLines says = absurd says

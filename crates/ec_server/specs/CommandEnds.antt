@@ -1,59 +1,112 @@
 -- What the status of a command says of the theory, of the input and of the output.
-use Rattle.std.specs.Prelude.{◌≡◌, ◌⊎◌, ℕ, true, List, Option, IsSome}
+use Rattle.std.specs.Prelude.{◌≡◌, ◌⊎◌, ℕ, List, Option, IsSome}
 use Rattle.ec_terms.specs.declared.theory.Theory.{Theory}
+use Rattle.ec_axioms.specs.Lines.{lines_of}
 use Rattle.ec_outside.specs.Counts.{Rose}
 use Rattle.ec_outside.specs.Files.{Files, IsMissing, IsTooLong}
 use Rattle.ec_outside.specs.Streams.{Appended, AppendedPart}
+use Rattle.ec_replies.specs.Replies.{Language}
 use Rattle.ec_server.specs.declared.status.Status.{Status}
 use Rattle.ec_server.specs.declared.status.Status.TheVariants as status
+use Rattle.ec_server.specs.Answered.{AnswersLines, AnswersPart, in_ticks}
 use Rattle.ec_server.specs.Ending.{SaysServed}
-use Rattle.ec_server.specs.Handling.{in_ticks}
 use Rattle.ec_server.specs.InputLimits.{most_input}
-use Rattle.ec_server.specs.TheoryFiles.{HasTheory, IsNoTheory, IsNotServed, accepted_line, is_served, most_theory_bytes, theory_line}
+use Rattle.ec_server.specs.LineFiles.{HasLines, most_replayed}
+use Rattle.ec_server.specs.Soaking.{IsSoakLine}
+use Rattle.ec_server.specs.TheoryFiles.{HasTheory, IsNoTheory, accepted_line, most_theory_bytes, theory_line}
 
--- a text was written whole, or a first part of it and then the sink failed
-abbrev pub Wrote : {K : Type 0} → (K → List ℕ → Type 0) → (K → ℕ) → K → K → List ℕ → Type 0
-Wrote stands faults old new text = Appended stands old new text ⊎ (Rose (faults old) (faults new) × AppendedPart stands old new text)
+module _ {K : Type 0} (stands : K → List ℕ → Type 0) (faults : K → ℕ) (old new : K) where
+  -- a text was written whole, or a first part of it and then the sink failed
+  abbrev pub Wrote : List ℕ → Type 0
+  Wrote text = Appended stands old new text ⊎ (Rose (faults old) (faults new) × AppendedPart stands old new text)
 
--- the line about an accepted theory was written whole, or the sink failed within it; no other status comes
-abbrev pub SaysAccepted : {K : Type 0} → (K → List ℕ → Type 0) → (K → ℕ) → K → K → Theory → Status → Type 0
-SaysAccepted stands faults old new theory status.Done = Appended stands old new (accepted_line theory)
-SaysAccepted stands faults old new theory status.NoShape = ⊥
-SaysAccepted stands faults old new theory status.BadTheory = ⊥
-SaysAccepted stands faults old new theory status.ReadFault = ⊥
-SaysAccepted stands faults old new theory status.WriteFault = Rose (faults old) (faults new) × AppendedPart stands old new (accepted_line theory)
-SaysAccepted stands faults old new theory status.NoMemory = ⊥
-SaysAccepted stands faults old new theory status.FolderFault = ⊥
-SaysAccepted stands faults old new theory status.LimitReached = ⊥
+  -- one line was written whole, or the sink failed within it; or memory ran out, and nothing was written; no other status comes
+  abbrev pub SaysLine : (List ℕ → Type 0) → Status → Type 0
+  SaysLine IsLine status.Done = (text : List ℕ) × IsLine text × Appended stands old new text
+  SaysLine IsLine status.NoShape = ⊥
+  SaysLine IsLine status.BadTheory = ⊥
+  SaysLine IsLine status.ReadFault = ⊥
+  SaysLine IsLine status.WriteFault = Rose (faults old) (faults new) × ((text : List ℕ) × IsLine text × AppendedPart stands old new text)
+  SaysLine IsLine status.NoMemory = new ≡ old
+  SaysLine IsLine status.FolderFault = ⊥
+  SaysLine IsLine status.LimitReached = ⊥
+  SaysLine IsLine status.LongLines = ⊥
+
+  -- the line about an accepted theory was written
+  abbrev pub SaysAccepted : Theory → Status → Type 0
+  SaysAccepted theory ended = SaysLine (λ text. text ≡ accepted_line theory) ended
+
+  -- the line that sums up a run over generated lines was written
+  abbrev pub SaysSoaked : ℕ → ℕ → Status → Type 0
+  SaysSoaked lines seed ended = SaysLine (IsSoakLine lines seed) ended
+
+module _ {K : Type 0} (stands : K → List ℕ → Type 0) (faults : K → ℕ) (language : Language) (old new : K) where
+  -- the lines of bytes were answered, or the sink failed within the replies, or memory ran out first; no other status comes
+  abbrev pub SaysBytes : List ℕ → Status → Type 0
+  SaysBytes bytes status.Done = AnswersLines stands language (lines_of bytes) old new
+  SaysBytes bytes status.NoShape = ⊥
+  SaysBytes bytes status.BadTheory = ⊥
+  SaysBytes bytes status.ReadFault = ⊥
+  SaysBytes bytes status.WriteFault = Rose (faults old) (faults new) × AnswersPart stands language (lines_of bytes) old new
+  SaysBytes bytes status.NoMemory = new ≡ old
+  SaysBytes bytes status.FolderFault = ⊥
+  SaysBytes bytes status.LimitReached = ⊥
+  SaysBytes bytes status.LongLines = ⊥
 
 module _ {K : Type 0} (stands : K → List ℕ → Type 0) (faults : K → ℕ) (told : Option Files) (name : List ℕ) (before after : ℕ) (old new : K) where
-  -- the line about a refused theory was written; where the folder tells its files, `Refuses` says why; a file is found too long without a fault
-  pub record IsToldWhy (Refuses : List ℕ → Type 0) : Type 0 where
+  -- the file of lines was not read, and nothing was written; no other status comes
+  abbrev pub SaysUnread : Status → Type 0
+  SaysUnread status.Done = ⊥
+  SaysUnread status.NoShape = ⊥
+  SaysUnread status.BadTheory = ⊥
+  SaysUnread status.ReadFault = ⊥
+  SaysUnread status.WriteFault = ⊥
+  SaysUnread status.NoMemory = new ≡ old
+  SaysUnread status.FolderFault = (new ≡ old) × (Rose before after ⊎ IsMissing told name)
+  SaysUnread status.LimitReached = ⊥
+  SaysUnread status.LongLines = (new ≡ old) × (IsSome told → IsTooLong told name most_replayed)
+
+  -- The status says this of the lines in a file, where the folder tells its files. Or the file was not read.
+  abbrev pub SaysReplayed : Theory → Status → Type 0
+  SaysReplayed theory ended =
+      ((bytes : List ℕ) × (IsSome told → HasLines told name bytes) × SaysBytes stands faults (in_ticks theory) old new bytes ended) ⊎ SaysUnread ended
+
+  -- the line about a refused theory was written; where the folder tells its files, it says why; a file is found too long without a fault
+  pub record IsToldWhy : Type 0 where
     pub text : List ℕ
-    pub why : IsSome told → Refuses text
+    pub why : IsSome told → IsNoTheory told name text
     pub long : IsTooLong told name most_theory_bytes → ¬ Rose before after
     pub wrote : Wrote stands faults old new (theory_line text)
 
   -- what a status says where there is no theory: why the file was refused, or that nothing was written; no other status comes
-  abbrev pub SaysRefused : (List ℕ → Type 0) → Status → Type 0
-  SaysRefused Refuses status.Done = ⊥
-  SaysRefused Refuses status.NoShape = ⊥
-  SaysRefused Refuses status.BadTheory = IsToldWhy Refuses
-  SaysRefused Refuses status.ReadFault = ⊥
-  SaysRefused Refuses status.WriteFault = ⊥
-  SaysRefused Refuses status.NoMemory = new ≡ old
-  SaysRefused Refuses status.FolderFault = (new ≡ old) × (Rose before after ⊎ IsMissing told name)
-  SaysRefused Refuses status.LimitReached = ⊥
+  abbrev pub SaysRefused : Status → Type 0
+  SaysRefused status.Done = ⊥
+  SaysRefused status.NoShape = ⊥
+  SaysRefused status.BadTheory = IsToldWhy
+  SaysRefused status.ReadFault = ⊥
+  SaysRefused status.WriteFault = ⊥
+  SaysRefused status.NoMemory = new ≡ old
+  SaysRefused status.FolderFault = (new ≡ old) × (Rose before after ⊎ IsMissing told name)
+  SaysRefused status.LimitReached = ⊥
+  SaysRefused status.LongLines = ⊥
 
-  -- a theory was checked: it is the one in the file, where the folder tells its files, and was told so; or there is none
-  pub record HasChecked (ended : Status) : Type 0 where
-    pub says : ((theory : Theory) × (IsSome told → HasTheory told name theory) × SaysAccepted stands faults old new theory ended)
-        ⊎ SaysRefused (IsNoTheory told name) ended
+  -- The status says this with a theory, which is the one in the file, where the folder tells its files. Or there is none.
+  pub record WithTheory (Says : Theory → Status → Type 0) (Unchanged : Type 0) (ended : Status) : Type 0 where
+    pub says : ((theory : Theory) × (IsSome told → HasTheory told name theory) × Says theory ended) ⊎ (SaysRefused ended × Unchanged)
+
+  -- a theory was checked, and told to be accepted
+  abbrev pub HasChecked : Status → Type 0
+  HasChecked ended = WithTheory (SaysAccepted stands faults old new) (Unit {0}) ended
+
+module _ {K : Type 0} (stands : K → List ℕ → Type 0) (faults : K → ℕ) (told : Option Files) (name lines : List ℕ) (before after : ℕ) (old new : K) where
+  -- the lines of a file were served with a theory
+  abbrev pub HasReplayed : Status → Type 0
+  HasReplayed ended = WithTheory stands faults told name before after old new (SaysReplayed stands faults told lines before after old new) (Unit {0}) ended
 
 module _ {S K : Type 0} (left : S → Option (List ℕ)) (read_faults : S → ℕ) (stands : K → List ℕ → Type 0) (write_faults : K → ℕ) (told : Option Files) (name : List ℕ)
     (before after : ℕ) (input_before input : S) (output_before output : K) where
-  -- an input was served with a theory, which is the one in the file, where the folder tells its files; or there is none, and nothing was taken
-  pub record HasServed (ended : Status) : Type 0 where
-    pub says : ((theory : Theory) × (IsSome told → HasTheory told name theory) × (is_served theory ≡ true)
-        × SaysServed left read_faults stands write_faults (in_ticks theory) most_input input_before input output_before output ended)
-        ⊎ (SaysRefused stands write_faults told name before after output_before output (IsNotServed told name) ended × (input ≡ input_before))
+  -- an input was served with a theory; or there is none, and nothing was taken
+  abbrev pub HasServed : Status → Type 0
+  HasServed ended =
+      WithTheory stands write_faults told name before after output_before output
+      (λ theory served. SaysServed left read_faults stands write_faults (in_ticks theory) most_input input_before input output_before output served) (input ≡ input_before) ended

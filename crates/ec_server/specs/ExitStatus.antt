@@ -2,8 +2,8 @@
 use Rattle.std.specs.Prelude.{◌≡◌, ℕ}
 use Rattle.ec_server.specs.declared.status.Status.{Status}
 use Rattle.ec_server.specs.declared.status.Status.TheVariants as status
-use Rattle.ec_server.specs.declared.handled.Ending.{Ending}
-use Rattle.ec_server.specs.declared.handled.Ending.TheVariants as ending
+use Rattle.ec_server.specs.declared.ending.Ending.{Ending}
+use Rattle.ec_server.specs.declared.ending.Ending.TheVariants as ending
 
 -- the number of a status
 unfoldable pub code_of : Status → ℕ
@@ -15,6 +15,7 @@ code_of status.WriteFault = 5
 code_of status.NoMemory = 6
 code_of status.FolderFault = 7
 code_of status.LimitReached = 8
+code_of status.LongLines = 9
 
 -- the status of a run whose serving ended so
 unfoldable pub status_of : Ending → Status

@@ -9,7 +9,7 @@ use Rattle.ec_server.specs.declared.theory_file.NoTheory.TheVariants.{FolderFaul
 use Rattle.ec_server.specs.declared.status.Status.{Status}
 use Rattle.ec_server.specs.declared.status.Status.TheVariants as said
 use Rattle.ec_server.specs.CommandEnds.{Wrote}
-use Rattle.ec_server.specs.TheoryFiles.{fault_text, most_theory_bytes, theory_line}
+use Rattle.ec_server.specs.TheoryFiles.{IsNoTheory, fault_text, most_theory_bytes, theory_line}
 
 -- the most bytes of what is said of a theory
 abbrev pub most_said : ℕ
@@ -27,13 +27,13 @@ IsBytesReason bytes FolderFault = ⊥
 IsBytesReason bytes NoMemory = Unit {0}
 IsBytesReason bytes (Said text) = IsFaulty bytes text × (length text ≤ most_said)
 
--- why a file gave no theory that `Refuses` leaves: the folder failed or has no such file; or this is said of it, where the folder tells
--- its files. A file is found too long without a fault.
-abbrev pub IsReason : (List ℕ → Type 0) → Option Files → List ℕ → ℕ → ℕ → NoTheory → Type 0
-IsReason Refuses told name before after FolderFault = Rose before after ⊎ IsMissing told name
-IsReason Refuses told name before after NoMemory = Unit {0}
-IsReason Refuses told name before after (Said text) =
-    (IsSome told → Refuses text) × (IsTooLong told name most_theory_bytes → ¬ Rose before after) × (length text ≤ most_said)
+-- why a file gave no theory: the folder failed or has no such file; or this is said of it, where the folder tells its files. A file is
+-- found too long without a fault.
+abbrev pub IsReason : Option Files → List ℕ → ℕ → ℕ → NoTheory → Type 0
+IsReason told name before after FolderFault = Rose before after ⊎ IsMissing told name
+IsReason told name before after NoMemory = Unit {0}
+IsReason told name before after (Said text) =
+    (IsSome told → IsNoTheory told name text) × (IsTooLong told name most_theory_bytes → ¬ Rose before after) × (length text ≤ most_said)
 
 -- what is said fits a line
 abbrev pub IsShortReason : NoTheory → Type 0

@@ -1,11 +1,12 @@
 -- How far a piece of the input has been served.
 use Rattle.std.specs.Prelude.{ℕ, List}
 use Rattle.ec_axioms.specs.Lines.{cut_of}
-use Rattle.ec_axioms.specs.Replies.{State}
+use Rattle.ec_replies.specs.State.{State}
+use Rattle.ec_replies.specs.Replies.{Language}
+use Rattle.ec_server.specs.Answered.{AnswersLines, AnswersPart, IsServing, BreaksOff, HasQuit}
 use Rattle.ec_lines.specs.FeedState.{FeedState, IsPart}
-use Rattle.ec_server.specs.declared.handled.Handled.{Handled}
-use Rattle.ec_server.specs.declared.handled.Handled.TheVariants.{Go, Bye, WriteFault}
-use Rattle.ec_server.specs.Handling.{Language, AnswersLines, AnswersPart, IsServing, BreaksOff, HasQuit}
+use Rattle.ec_sessions.specs.declared.handled.Handled.{Handled}
+use Rattle.ec_sessions.specs.declared.handled.Handled.TheVariants.{Go, Bye, WriteFault}
 
 module _ {K : Type 0} (stands : K → List ℕ → Type 0) (language : Language) where
   -- the feed is at the rest of the bytes taken, and their whole lines are answered

@@ -1,6 +1,5 @@
 -- The file of a theory: when it is taken, and what is said of it where it is not.
-use Rattle.std.specs.Prelude.{◌≡◌, ◌≤◌, ℕ, Bool, true, false, ◌&&◌, List, [], ◌∷◌, ◌++◌, length, Option, Some, None, codes, decimal}
-use Rattle.std.specs.List.{list_all}
+use Rattle.std.specs.Prelude.{◌≡◌, ◌≤◌, ℕ, ◌==◌, if◌then◌else◌, List, [], ◌∷◌, ◌++◌, length, Option, Some, None, codes, decimal}
 use Rattle.ec_terms.specs.declared.theory.Theory.{Theory}
 use Rattle.ec_tokens.specs.declared.place.Place.{Place}
 use Rattle.ec_tokens.specs.declared.token_list.TheConstants.{MOST_BYTES}
@@ -16,7 +15,6 @@ use Rattle.ec_theory.specs.declared.text.Refused.{Refused}
 use Rattle.ec_theory.specs.declared.text.Refused.TheVariants as refused
 use Rattle.ec_theory.specs.Accepted.{IsAccepted, HasFault}
 use Rattle.ec_outside.specs.Files.{Files, HasFile, IsTooLong}
-use Rattle.ec_server.specs.Words.{Shape, check_theory, serve_theory}
 
 -- the most bytes that the file of a theory has
 abbrev pub most_theory_bytes : ℕ
@@ -76,22 +74,18 @@ fault_text (refused.Wrong fault) = Some (wrong_text fault)
 unfoldable pub theory_line : List ℕ → List ℕ
 theory_line text = codes "theory " ++ text ++ 10 ∷ []
 
+-- how many rules, exclusive and strong declarations a theory has
+unfoldable pub counts_text : Theory → List ℕ
+counts_text theory =
+    codes "rules " ++ decimal (length theory.rules) ++ codes " exclusives " ++ decimal (length theory.exclusives) ++ codes " strongs " ++ decimal (length theory.strongs)
+
+-- how many initial properties there are, told only where there are any
+unfoldable pub initials_text : ℕ → List ℕ
+initials_text n = if n == 0 then [] else codes " initials " ++ decimal n
+
 -- the line about a theory that is accepted: how many rules and declarations it has
 unfoldable pub accepted_line : Theory → List ℕ
-accepted_line theory =
-    codes "accepted rules " ++ decimal (length theory.rules) ++ codes " exclusives " ++ decimal (length theory.exclusives) ++ codes " strongs "
-    ++ decimal (length theory.strongs) ++ 10 ∷ []
-
--- ---- theories that are served
-
--- no members
-abbrev pub is_none_of : {A : Type 0} → List A → Bool
-is_none_of [] = true
-is_none_of (a ∷ list) = false
-
--- what is served so far: rules without literals, and no exclusive or strong declarations
-unfoldable pub is_served : Theory → Bool
-is_served theory = list_all (λ r. is_none_of r.literals) theory.rules && (is_none_of theory.exclusives && is_none_of theory.strongs)
+accepted_line theory = codes "accepted " ++ counts_text theory ++ initials_text (length theory.initials) ++ 10 ∷ []
 
 -- ---- files
 
@@ -106,13 +100,3 @@ pub record HasTheory (told : Option Files) (name : List ℕ) (theory : Theory) :
 pub data IsNoTheory (told : Option Files) (name : List ℕ) : List ℕ → Type 0 where
   too_long : IsTooLong told name most_theory_bytes → IsNoTheory told name (codes "too-long")
   faulty : (bytes text : List ℕ) (fault : Refused) → HasFile told name bytes → length bytes ≤ most_theory_bytes → HasFault bytes fault → fault_text fault ≡ Some text → IsNoTheory told name text
-
--- to serve, the theory must also be one that is served so far
-pub data IsNotServed (told : Option Files) (name : List ℕ) : List ℕ → Type 0 where
-  no_theory : (text : List ℕ) → IsNoTheory told name text → IsNotServed told name text
-  unbuilt : (theory : Theory) → HasTheory told name theory → is_served theory ≡ false → IsNotServed told name (codes "unbuilt")
-
--- the theory that the words name is refused, and this is said of it
-abbrev pub IsRefused : Shape → Option Files → List ℕ → Type 0
-IsRefused (check_theory name) told text = IsNoTheory told name text
-IsRefused (serve_theory name) told text = IsNotServed told name text

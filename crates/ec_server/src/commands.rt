@@ -1,22 +1,20 @@
-//! What each shape of the words does.
+//! What the shapes of the words that name a theory do, and what is said where there is none.
 ghost use Rattle.std.specs.Prelude.{◌≡◌};
-ghost use Rattle.ec_server.specs.CommandEnds.{HasChecked, HasServed, SaysAccepted, Wrote};
+ghost use Rattle.ec_server.specs.CommandEnds.{HasChecked, HasReplayed, HasServed, SaysAccepted, Wrote};
 ghost use Rattle.ec_server.specs.Loading.{IsRefusal, IsShortReason};
 ghost use Rattle.ec_server.specs.Words.{usage_line};
 
-use crate::served::serve;
+use crate::replayed::replay_with;
+use crate::served::{MOST_INPUT, serve};
 use crate::status::Status;
-use crate::theory_file::{NoTheory, load, load_served};
+use crate::theory_file::{NoTheory, load};
 use crate::theory_text::{accepted_line, theory_line};
 use crate::words::USAGE;
 use ec_outside::{Folder, Sink, Source, write_all};
 use ec_terms::Theory;
 use std::alloc::Global;
 
-/// The most bytes of input that are taken.
-pub const MOST_INPUT: u64 = 1_099_511_627_776;
-
-/// Writes the usage line. Where that fails nothing more is said.
+/// Writes the usage line. If that fails, nothing more is said.
 #[tactic(auto, unfolding(crate::specs::Words::usage_line))]
 pub(crate) fn refuse_words<K: Sink>(output: &mut K) -> Status
     ensures status { result ≡ Status.NoShape }
@@ -26,7 +24,7 @@ pub(crate) fn refuse_words<K: Sink>(output: &mut K) -> Status
     Status::NoShape
 }
 
-/// Says why there is no theory, where something is to be said. Where that fails nothing more is said.
+/// Says why there is no theory, where something is to be said. If that fails, nothing more is said.
 fn refuse<K: Sink>(reason: NoTheory, output: &mut K) -> Status
     requires { IsShortReason reason }
     ensures { IsRefusal K.stands K.faults reason result output.old output.new }
@@ -54,8 +52,8 @@ fn tell_accepted<K: Sink>(theory: &Theory, output: &mut K) -> Status
 
 /// Checks the theory in a file, and tells how many rules and declarations it has.
 ///
-/// The status says what came of it: `Done` where the theory is accepted, `BadTheory` where it is not, `WriteFault` where the line
-/// of an accepted theory could not be written, `FolderFault` and `NoMemory` with nothing written. A fault in writing the line of a
+/// The status says what came of it: `Done` if the theory is accepted, `BadTheory` if it is not, `WriteFault` if the line about an
+/// accepted theory could not be written, `FolderFault` and `NoMemory` with nothing written. A fault in writing the line about a
 /// theory that is not accepted changes nothing.
 pub fn check_command<F: Folder, K: Sink>(
     alloc: Global,
@@ -73,9 +71,8 @@ pub fn check_command<F: Folder, K: Sink>(
 
 /// Serves an input with the theory in a file.
 ///
-/// The status is that of `serve`, with at most `MOST_INPUT` bytes taken; or `BadTheory` where the theory is not accepted or not
-/// served so far, `FolderFault` or `NoMemory`, and then no input was taken. A fault in writing the line of a theory that is not
-/// accepted changes nothing.
+/// The status is that of `serve`, with at most `MOST_INPUT` bytes taken; or `BadTheory`, `FolderFault` or `NoMemory`, and then no
+/// input was taken. A fault in writing the line about a theory that is not accepted changes nothing.
 pub fn serve_command<F: Folder, S: Source, K: Sink>(
     alloc: Global,
     theory: &str,
@@ -86,8 +83,29 @@ pub fn serve_command<F: Folder, S: Source, K: Sink>(
     ensures { HasServed S.left S.faults K.stands K.faults (F.files files.old) theory.now (F.faults files.old) (F.faults files.new)
         input.old input.new output.old output.new result }
 {
-    match load_served(alloc, theory, files) {
+    match load(alloc, theory, files) {
         Ok(checked) => serve(alloc, checked, input, output, MOST_INPUT),
+        Err(reason) => refuse(reason, output),
+    }
+}
+
+/// Serves the lines of a file with the theory in another.
+///
+/// The status is `Done` if the lines are answered to their end or to `quit`, `WriteFault` if the output failed; `LongLines` if the
+/// file of lines has more than `MOST_REPLAYED` bytes; `BadTheory` as for `check_command`; `FolderFault` if one of the files could not
+/// be read, and `NoMemory`. With the last two and with `LongLines` nothing was written. The file of lines is read only if the
+/// theory is accepted.
+pub fn replay<F: Folder, K: Sink>(
+    alloc: Global,
+    theory: &str,
+    lines: &str,
+    files: &mut F,
+    output: &mut K,
+) -> Status
+    ensures { HasReplayed K.stands K.faults (F.files files.old) theory.now lines.now (F.faults files.old) (F.faults files.new) output.old output.new result }
+{
+    match load(alloc, theory, files) {
+        Ok(checked) => replay_with(alloc, checked, lines, files, output),
         Err(reason) => refuse(reason, output),
     }
 }

@@ -1,20 +1,24 @@
 //! The loop that serves an input: reads and flushes round its pieces, up to its end, a `quit` or a limit.
 ghost use Rattle.std.specs.Prelude.{◌≡◌, ◌≤◌, ◌<◌, ◌+◌, ◌⊎◌, ℕ, List, [], false, length, take, IfOk, OnErr};
 ghost use Rattle.ec_axioms.specs.Lines.{lines_of};
-ghost use Rattle.ec_axioms.specs.Replies.{empty_state};
+ghost use Rattle.ec_replies.specs.State.{empty_state};
+ghost use Rattle.ec_server.specs.Answered.{AnswersLines, AnswersPart};
+ghost use Rattle.ec_replies.specs.Replies.{Language};
 ghost use Rattle.ec_lines.specs.FeedState.{IsPart};
 ghost use Rattle.ec_outside.specs.Counts.{Rose};
 ghost use Rattle.ec_outside.specs.Streams.{Kept, Took, IsAtEnd};
 ghost use Rattle.ec_server.specs.Ending.{IsEnding};
-ghost use Rattle.ec_server.specs.Handling.{AnswersLines, AnswersPart, Language};
 ghost use Rattle.ec_server.specs.Serving.{IsAt, IsLast};
 
-use crate::desk::Desk;
-use crate::handled::{Ending, Handled};
+use crate::ending::Ending;
 use crate::piece::answer_piece;
+use ec_axioms::Steps;
 use ec_lines::Feed;
 use ec_moment::Moment;
 use ec_outside::{Failed, Sink, Source};
+use ec_rows::{MarkRow, SpanRow, TimeRow};
+use ec_sessions::{Handled, Sessions};
+use std::sync::ledger::Ledger;
 
 /// The most bytes that one read asks for.
 const PIECE: usize = 4_096;
@@ -38,10 +42,15 @@ fn read_piece<S: Source>(
 }
 
 /// Answers what stands behind the last line end, where the input has ended.
-fn answer_rest<T: Moment, K: Sink>(desk: &mut Desk<T>, feed: &mut Feed, out: &mut K) -> Handled
+fn answer_rest<T: Moment, M: MarkRow<T>, I: SpanRow<T>, X: TimeRow<T>, K: Sink, L: Ledger>(
+    sessions: &mut Sessions<T, M, I, X>,
+    feed: &mut Feed,
+    out: &mut K,
+    steps: &mut Steps<L>,
+) -> Handled
     requires { feed.old.is_ready ≡ false }
-    ensures answered { let language : Language = record { theory = desk.old.theory; spelt = T.spelt } in
-        (taken : List ℕ) (start : K) → IsAt K.stands language taken desk.old.state feed.old start out.old →
+    ensures answered { let language : Language = record { theory = sessions.old.theory; spelt = T.spelt; canon = T.canon } in
+        (taken : List ℕ) (start : K) → IsAt K.stands language taken sessions.old.state feed.old start out.old →
         IsLast K.stands language result (lines_of taken) start out.new }
     ensures failed { result ≡ Handled.WriteFault → Rose (K.faults out.old) (K.faults out.new) }
     ensures counted { K.faults out.old ≤ K.faults out.new }
@@ -50,20 +59,25 @@ fn answer_rest<T: Moment, K: Sink>(desk: &mut Desk<T>, feed: &mut Feed, out: &mu
     if !feed.ready() {
         return Handled::Go;
     }
-    desk.handle(feed.line(), out)
+    sessions.handle(feed.line(), out, steps)
 }
 
 /// Answers what stands behind the last line end, and hands the output on.
-fn finish<T: Moment, K: Sink>(desk: &mut Desk<T>, feed: &mut Feed, out: &mut K) -> Ending
+fn finish<T: Moment, M: MarkRow<T>, I: SpanRow<T>, X: TimeRow<T>, K: Sink, L: Ledger>(
+    sessions: &mut Sessions<T, M, I, X>,
+    feed: &mut Feed,
+    out: &mut K,
+    steps: &mut Steps<L>,
+) -> Ending
     requires { feed.old.is_ready ≡ false }
-    ensures answered { let language : Language = record { theory = desk.old.theory; spelt = T.spelt } in
-        (taken : List ℕ) (start : K) → IsAt K.stands language taken desk.old.state feed.old start out.old →
+    ensures answered { let language : Language = record { theory = sessions.old.theory; spelt = T.spelt; canon = T.canon } in
+        (taken : List ℕ) (start : K) → IsAt K.stands language taken sessions.old.state feed.old start out.old →
         ((result ≡ Ending.End) × AnswersLines K.stands language (lines_of taken) start out.new)
         ⊎ ((result ≡ Ending.WriteFault) × AnswersPart K.stands language (lines_of taken) start out.new) }
     ensures either { (result ≡ Ending.End) ⊎ (result ≡ Ending.WriteFault) }
     ensures failed { result ≡ Ending.WriteFault → Rose (K.faults out.old) (K.faults out.new) }
 {
-    match answer_rest(desk, feed, out) {
+    match answer_rest(sessions, feed, out, steps) {
         Handled::WriteFault => Ending::WriteFault,
         _ => hand_on(out, Ending::End),
     }
@@ -84,17 +98,26 @@ fn hand_on<K: Sink>(out: &mut K, ending: Ending) -> Ending
 /// Takes bytes of an input until its end, a `quit`, a fault or `limit` bytes, and answers their lines.
 ///
 /// The output is handed on before each read, and before the serving ends.
-pub(crate) fn serve_input<T: Moment, S: Source, K: Sink>(
-    desk: &mut Desk<T>,
+pub(crate) fn serve_input<
+    T: Moment,
+    M: MarkRow<T>,
+    I: SpanRow<T>,
+    X: TimeRow<T>,
+    S: Source,
+    K: Sink,
+    L: Ledger,
+>(
+    sessions: &mut Sessions<T, M, I, X>,
     feed: &mut Feed,
     input: &mut S,
     output: &mut K,
     limit: u64,
+    steps: &mut Steps<L>,
 ) -> Ending
-    requires start { desk.old.state ≡ empty_state }
+    requires start { sessions.old.state ≡ empty_state }
     requires part { IsPart feed.old [] }
     ensures ending { (taken : List ℕ) × Took (S.left input.old) (S.left input.new) taken
-        × IsEnding K.stands (record { theory = desk.old.theory; spelt = T.spelt }) result limit (S.left input.new) taken output.old output.new }
+        × IsEnding K.stands (record { theory = sessions.old.theory; spelt = T.spelt; canon = T.canon }) result limit (S.left input.new) taken output.old output.new }
     ensures read_fault { result ≡ Ending.ReadFault → Rose (S.faults input.old) (S.faults input.new) }
     ensures write_fault { result ≡ Ending.WriteFault → Rose (K.faults output.old) (K.faults output.new) }
 {
@@ -111,10 +134,10 @@ pub(crate) fn serve_input<T: Moment, S: Source, K: Sink>(
             return Ending::ReadFault;
         };
         if count == 0 {
-            return finish(desk, feed, output);
+            return finish(sessions, feed, output, steps);
         }
         left -= count as u64;
-        match answer_piece(desk, feed, &buffer[..count], output) {
+        match answer_piece(sessions, feed, &buffer[..count], output, steps) {
             Handled::Go => {}
             Handled::Bye => return hand_on(output, Ending::Quit),
             Handled::WriteFault => return Ending::WriteFault,

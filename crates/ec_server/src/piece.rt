@@ -2,22 +2,30 @@
 ghost use Rattle.std.specs.Prelude.{◌≡◌, ◌≤◌, ℕ, List, ◌++◌, false};
 ghost use Rattle.ec_lines.specs.FeedState.{Advances};
 ghost use Rattle.ec_outside.specs.Counts.{Rose};
-ghost use Rattle.ec_server.specs.Handling.{IsServing, Language};
+ghost use Rattle.ec_server.specs.Answered.{IsServing};
+ghost use Rattle.ec_replies.specs.Replies.{Language};
 ghost use Rattle.ec_server.specs.Serving.{IsAt, IsPieceHandled};
 
-use crate::desk::Desk;
-use crate::handled::Handled;
+use ec_axioms::Steps;
 use ec_lines::Feed;
 use ec_moment::Moment;
 use ec_outside::Sink;
+use ec_rows::{MarkRow, SpanRow, TimeRow};
+use ec_sessions::{Handled, Sessions};
+use std::sync::ledger::Ledger;
 
 /// Answers the line that is ready, if there is one, and begins the next.
-fn answer_ready<T: Moment, K: Sink>(desk: &mut Desk<T>, feed: &mut Feed, out: &mut K) -> Handled
-    ensures theory { desk.new.theory ≡ desk.old.theory }
-    ensures served { let language : Language = record { theory = desk.old.theory; spelt = T.spelt } in
-        (taken longer : List ℕ) (start : K) → IsServing K.stands language taken desk.old.state start out.old →
+fn answer_ready<T: Moment, M: MarkRow<T>, I: SpanRow<T>, X: TimeRow<T>, K: Sink, L: Ledger>(
+    sessions: &mut Sessions<T, M, I, X>,
+    feed: &mut Feed,
+    out: &mut K,
+    steps: &mut Steps<L>,
+) -> Handled
+    ensures theory { sessions.new.theory ≡ sessions.old.theory }
+    ensures served { let language : Language = record { theory = sessions.old.theory; spelt = T.spelt; canon = T.canon } in
+        (taken longer : List ℕ) (start : K) → IsServing K.stands language taken sessions.old.state start out.old →
         Advances feed.old.is_ready feed.old taken longer →
-        IsPieceHandled K.stands language result longer desk.new.state feed.new start out.new }
+        IsPieceHandled K.stands language result longer sessions.new.state feed.new start out.new }
     ensures ready { feed.new.is_ready ≡ false }
     ensures failed { result ≡ Handled.WriteFault → Rose (K.faults out.old) (K.faults out.new) }
     ensures counted { K.faults out.old ≤ K.faults out.new }
@@ -25,23 +33,24 @@ fn answer_ready<T: Moment, K: Sink>(desk: &mut Desk<T>, feed: &mut Feed, out: &m
     if !feed.ready() {
         return Handled::Go;
     }
-    let handled = desk.handle(feed.line(), out);
+    let handled = sessions.handle(feed.line(), out, steps);
     feed.clear();
     handled
 }
 
 /// Answers all whole lines that end in a piece of the input, and keeps what stands behind them.
-pub fn answer_piece<T: Moment, K: Sink>(
-    desk: &mut Desk<T>,
+pub fn answer_piece<T: Moment, M: MarkRow<T>, I: SpanRow<T>, X: TimeRow<T>, K: Sink, L: Ledger>(
+    sessions: &mut Sessions<T, M, I, X>,
     feed: &mut Feed,
     piece: &[u8],
     out: &mut K,
+    steps: &mut Steps<L>,
 ) -> Handled
     requires { feed.old.is_ready ≡ false }
-    ensures theory { desk.new.theory ≡ desk.old.theory }
-    ensures served { let language : Language = record { theory = desk.old.theory; spelt = T.spelt } in
-        (taken : List ℕ) (start : K) → IsAt K.stands language taken desk.old.state feed.old start out.old →
-        IsPieceHandled K.stands language result (taken ++ piece.now) desk.new.state feed.new start out.new }
+    ensures theory { sessions.new.theory ≡ sessions.old.theory }
+    ensures served { let language : Language = record { theory = sessions.old.theory; spelt = T.spelt; canon = T.canon } in
+        (taken : List ℕ) (start : K) → IsAt K.stands language taken sessions.old.state feed.old start out.old →
+        IsPieceHandled K.stands language result (taken ++ piece.now) sessions.new.state feed.new start out.new }
     ensures ready { feed.new.is_ready ≡ false }
     ensures failed { result ≡ Handled.WriteFault → Rose (K.faults out.old) (K.faults out.new) }
     ensures counted { K.faults out.old ≤ K.faults out.new }
@@ -50,7 +59,7 @@ pub fn answer_piece<T: Moment, K: Sink>(
     while !rest.is_empty() {
         let count = feed.push(rest);
         rest = &rest[count..];
-        match answer_ready(desk, feed, out) {
+        match answer_ready(sessions, feed, out, steps) {
             Handled::Go => {}
             handled => return handled,
         }

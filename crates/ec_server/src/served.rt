@@ -1,15 +1,50 @@
 //! Serving an input with a theory.
+ghost use Rattle.std.specs.Prelude.{◌≡◌, ◌<◌};
+ghost use Rattle.ec_server.specs.Answered.{in_ticks};
 ghost use Rattle.ec_server.specs.Ending.{SaysServed};
-ghost use Rattle.ec_server.specs.Handling.{in_ticks};
 
-use crate::desk::Desk;
 use crate::input::serve_input;
 use crate::status::Status;
+use ec_axioms::Steps;
+use ec_blocks::{BlockMarks, BlockSpans, BlockTimes};
 use ec_check::Checked;
 use ec_lines::Feed;
 use ec_moment::Tick;
 use ec_outside::{Sink, Source};
+use ec_sessions::Sessions;
 use std::alloc::Global;
+use std::marker::Brand;
+use std::sync::ledger::{Blank, Ledger};
+
+/// The most bytes of input that are taken.
+pub const MOST_INPUT: u64 = 1_099_511_627_776;
+
+/// Serves the lines of an input, with steps that are counted on the ledger of the blank.
+fn serve_counted<S: Source, K: Sink, L: Ledger>(
+    alloc: Global,
+    checked: Checked,
+    input: &mut S,
+    output: &mut K,
+    limit: u64,
+    blank: Blank,
+) -> Status
+    requires name { blank.name ≡ L.name }
+    requires parts { blank.parts ≡ L.parts }
+    requires some { 0 < L.parts }
+    ensures { SaysServed S.left S.faults K.stands K.faults (in_ticks checked) limit input.old input.new output.old output.new result }
+{
+    let mut steps = Steps::<L>::new(blank);
+    let Ok(mut feed) = Feed::new(alloc) else {
+        return Status::NoMemory;
+    };
+    let made = Sessions::<Tick, BlockMarks<Tick>, BlockSpans<Tick>, BlockTimes<Tick>>::new(
+        alloc, checked,
+    );
+    let Ok(mut sessions) = made else {
+        return Status::NoMemory;
+    };
+    serve_input(&mut sessions, &mut feed, input, output, limit, &mut steps).status()
+}
 
 /// Serves the lines of an input with a theory, from no event on, and takes at most `limit` bytes.
 ///
@@ -25,9 +60,5 @@ pub fn serve<S: Source, K: Sink>(
 ) -> Status
     ensures { SaysServed S.left S.faults K.stands K.faults (in_ticks checked) limit input.old input.new output.old output.new result }
 {
-    let Ok(mut feed) = Feed::new(alloc) else {
-        return Status::NoMemory;
-    };
-    let mut desk: Desk<Tick> = Desk::new(alloc, checked);
-    serve_input(&mut desk, &mut feed, input, output, limit).status()
+    serve_counted::<S, K, Brand>(alloc, checked, input, output, limit, Blank::new(1))
 }

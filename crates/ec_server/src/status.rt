@@ -2,12 +2,12 @@
 ghost use Rattle.std.specs.Prelude.{◌≡◌};
 ghost use Rattle.ec_server.specs.ExitStatus.{code_of, status_of};
 
-use crate::handled::Ending;
+use crate::ending::Ending;
 
 /// How a run of the program ended.
 #[derive(Clone, Copy, Debug, PartialEq, Eq)]
 pub enum Status {
-    /// The input was read to its end or to `quit`, or the theory was accepted.
+    /// The lines were answered to their end or to `quit`, or the theory was accepted.
     Done,
     /// The words ask for nothing that there is.
     NoShape,
@@ -23,6 +23,8 @@ pub enum Status {
     FolderFault,
     /// As many bytes of input were taken as may be, with neither end nor `quit` met.
     LimitReached,
+    /// The file of lines is too long.
+    LongLines,
 }
 
 impl Status {
@@ -40,6 +42,7 @@ impl Status {
             Status::NoMemory => 6,
             Status::FolderFault => 7,
             Status::LimitReached => 8,
+            Status::LongLines => 9,
         }
     }
 }

@@ -1,10 +1,9 @@
 //! The file of a theory.
-ghost use Rattle.std.specs.Prelude.{◌≡◌, ◌≤◌, true, length, IfOk, IfErr, IsSome};
+ghost use Rattle.std.specs.Prelude.{◌≡◌, ◌≤◌, length, IfOk, IfErr, IsSome};
 ghost use Rattle.ec_theory.specs.Accepted.{IsAccepted};
-ghost use Rattle.ec_server.specs.TheoryFiles.{HasTheory, IsNoTheory, IsNotServed, is_served};
+ghost use Rattle.ec_server.specs.TheoryFiles.{HasTheory};
 ghost use Rattle.ec_server.specs.Loading.{IsBytesReason, IsReason};
 
-use crate::served_theory::is_served;
 use crate::theory_text::{fault_text, said};
 use ec_check::Checked;
 use ec_lines::ReplyText;
@@ -20,7 +19,7 @@ pub(crate) enum NoTheory {
     FolderFault,
     /// Memory ran out.
     NoMemory,
-    /// The file is no theory, or one that is not served, and this is said of it.
+    /// The file is no theory, and this is said of it.
     Said(ReplyText),
 }
 
@@ -42,8 +41,9 @@ fn read_bytes(alloc: Global, bytes: &[u8]) -> Result<Checked, NoTheory>
 /// Reads the file of a theory, and the theory in it.
 pub(crate) fn load<F: Folder>(alloc: Global, name: &str, files: &mut F) -> Result<Checked, NoTheory>
     ensures theory { IfOk result (λ theory. IsSome (F.files files.old) → HasTheory (F.files files.old) name.now theory) }
-    ensures reason { IfErr result (λ reason.
-        IsReason (IsNoTheory (F.files files.old) name.now) (F.files files.old) name.now (F.faults files.old) (F.faults files.new) reason) }
+    ensures reason { IfErr result (λ reason. IsReason (F.files files.old) name.now (F.faults files.old) (F.faults files.new) reason) }
+    ensures unchanged { F.files files.new ≡ F.files files.old }
+    ensures counted { F.faults files.old ≤ F.faults files.new }
 {
     let mut bytes = Vec::new(alloc);
     match files.read_whole(name, &mut bytes, MOST_BYTES) {
@@ -51,28 +51,5 @@ pub(crate) fn load<F: Folder>(alloc: Global, name: &str, files: &mut F) -> Resul
         Err(FolderAnswer::Failed) => Err(NoTheory::FolderFault),
         Err(FolderAnswer::Memory) => Err(NoTheory::NoMemory),
         Err(FolderAnswer::Long) => Err(NoTheory::Said(said(b"too-long"))),
-    }
-}
-
-/// Reads the file of a theory to serve lines with. A theory of which something is not served so far is refused.
-pub(crate) fn load_served<F: Folder>(
-    alloc: Global,
-    name: &str,
-    files: &mut F,
-) -> Result<Checked, NoTheory>
-    ensures theory { IfOk result (λ theory. IsSome (F.files files.old) → HasTheory (F.files files.old) name.now theory) }
-    ensures served { IfOk result (λ theory. is_served theory ≡ true) }
-    ensures reason { IfErr result (λ reason.
-        IsReason (IsNotServed (F.files files.old) name.now) (F.files files.old) name.now (F.faults files.old) (F.faults files.new) reason) }
-{
-    match load(alloc, name, files) {
-        Ok(checked) => {
-            if is_served(checked.theory()) {
-                Ok(checked)
-            } else {
-                Err(NoTheory::Said(said(b"unbuilt")))
-            }
-        }
-        Err(reason) => Err(reason),
     }
 }

@@ -1,6 +1,6 @@
 //! What is said of a theory: that it is accepted, or why it is not.
-ghost use Rattle.std.specs.Prelude.{◌≡◌, ◌≤◌, length, IfSome};
-ghost use Rattle.ec_server.specs.TheoryFiles.{accepted_line, at_place, fault_text, in_clause, many_text, place_text, syntax_text, theory_line, token_text, wrong_text};
+ghost use Rattle.std.specs.Prelude.{◌≡◌, ◌+◌, ◌++◌, ◌≤◌, length, IfSome};
+ghost use Rattle.ec_server.specs.TheoryFiles.{accepted_line, at_place, counts_text, fault_text, in_clause, initials_text, many_text, place_text, syntax_text, theory_line, token_text, wrong_text};
 
 use ec_check::{CheckFault, Many};
 use ec_lines::ReplyText;
@@ -122,18 +122,44 @@ pub(crate) fn theory_line(said: &ReplyText) -> ReplyText
     line
 }
 
+/// How many rules, exclusive and strong declarations there are.
+#[tactic(auto, unfolding(crate::specs::TheoryFiles::counts_text), using(ec_lines::proofs::ReplyTexts::texts))]
+fn counts_text(theory: &Theory) -> ReplyText
+    ensures text { result ≡ counts_text theory.now }
+    ensures short { length result ≤ 90 }
+{
+    let mut text = ReplyText::new();
+    text.push(b"rules ");
+    text.push_number(theory.rules.len() as u64);
+    text.push(b" exclusives ");
+    text.push_number(theory.exclusives.len() as u64);
+    text.push(b" strongs ");
+    text.push_number(theory.strongs.len() as u64);
+    text
+}
+
+/// Adds how many initial properties there are, if there are any.
+#[tactic(auto, unfolding(crate::specs::TheoryFiles::initials_text), using(ec_lines::proofs::ReplyTexts::texts))]
+fn push_initials(line: &mut ReplyText, count: u64)
+    requires { length line.old ≤ 100 }
+    ensures text { line.new ≡ line.old ++ initials_text count }
+    ensures short { length line.new ≤ length line.old + 30 }
+{
+    if count != 0 {
+        line.push(b" initials ");
+        line.push_number(count);
+    }
+}
+
 /// The line about a theory that is accepted.
 #[tactic(auto, unfolding(crate::specs::TheoryFiles::accepted_line), using(ec_lines::proofs::ReplyTexts::texts))]
 pub(crate) fn accepted_line(theory: &Theory) -> ReplyText
     ensures { result ≡ accepted_line theory.now }
 {
     let mut line = ReplyText::new();
-    line.push(b"accepted rules ");
-    line.push_number(theory.rules.len() as u64);
-    line.push(b" exclusives ");
-    line.push_number(theory.exclusives.len() as u64);
-    line.push(b" strongs ");
-    line.push_number(theory.strongs.len() as u64);
+    line.push(b"accepted ");
+    line.push(counts_text(theory).as_bytes());
+    push_initials(&mut line, theory.initials.len() as u64);
     line.push(b"\n");
     line
 }

@@ -1,33 +1,61 @@
 //! The top call: what the words ask for, done whole.
-ghost use Rattle.std.specs.Prelude.{◌≡◌, ◌≤◌, ◌⊎◌, ◌↔◌, ℕ, true, List, Some, None, IsSome, length, drop};
-ghost use Rattle.ec_moment.specs.Number.{number_value};
+ghost use Rattle.std.specs.Prelude.{◌≡◌, ◌≤◌, ◌⊎◌, ◌↔◌, ℕ, true, false, List, Some, None, IsSome, length, drop};
 ghost use Rattle.ec_terms.specs.declared.theory.Theory.{Theory};
 ghost use Rattle.ec_axioms.specs.Lines.{lines_of, whole_lines};
-ghost use Rattle.ec_axioms.specs.Replies.{has_quit};
 ghost use Rattle.ec_outside.specs.Counts.{Rose};
-ghost use Rattle.ec_outside.specs.Files.{IsMissing, IsTooLong};
-ghost use Rattle.ec_outside.specs.Streams.{Appended, AppendedPart, IsAtEnd, Took};
-ghost use Rattle.ec_server.specs.Ending.{GoesOn};
-ghost use Rattle.ec_server.specs.ExitStatus.{IsExitCode};
-ghost use Rattle.ec_server.specs.Handling.{AnswersLines, AnswersPart, in_ticks};
-ghost use Rattle.ec_server.specs.InputLimits.{most_input, IsShort, IsLong, StopsAtLimit};
+ghost use Rattle.ec_outside.specs.Files.{IsTooLong};
+ghost use Rattle.ec_outside.specs.Streams.{Appended, IsAtEnd, Took};
+ghost use Rattle.ec_replies.specs.Runs.{has_quit};
+ghost use Rattle.ec_server.specs.Answered.{AnswersLines, in_ticks};
+ghost use Rattle.ec_server.specs.ByShape.{HasLongTheory, IsReady, IsRefused, LacksFile, Serves, TellsFiles, TellsServed, WrotePart, takes_input};
 ghost use Rattle.ec_server.specs.CommandEnds.{Wrote};
+ghost use Rattle.ec_server.specs.Ending.{GoesOn};
+ghost use Rattle.ec_server.specs.Ends.{Ends};
+ghost use Rattle.ec_server.specs.ExitStatus.{IsExitCode};
+ghost use Rattle.ec_server.specs.InputLimits.{most_input, IsLong, StopsAtLimit};
+ghost use Rattle.ec_server.specs.LineFiles.{most_replayed};
 ghost use Rattle.ec_server.specs.ShownShape.{asked};
-ghost use Rattle.ec_server.specs.TheoryFiles.{HasTheory, IsRefused, accepted_line, is_served, most_theory_bytes, theory_line};
-ghost use Rattle.ec_server.specs.Words.{Shape as PlainShape, check_theory, serve_theory, theory_name, usage_line};
+ghost use Rattle.ec_server.specs.Soaking.{IsSoakLine};
+ghost use Rattle.ec_server.specs.TheoryFiles.{HasTheory, accepted_line, theory_line};
+ghost use Rattle.ec_server.specs.Words.{Shape as PlainShape, check_theory, replay_lines, serve_theory, soak_lines, usage_line};
 
-use crate::commands::{check_command, refuse_words, serve_command};
+use crate::commands::{check_command, refuse_words, replay, serve_command};
+use crate::soaked::soak_command;
+use crate::status::Status;
 use crate::words::{Shape, shape_of};
 use ec_outside::{Folder, Sink, Source};
 use std::alloc::Global;
 use std::string::String;
 
+/// Does what the words ask for.
+fn obey<F: Folder, S: Source, K: Sink>(
+    alloc: Global,
+    words: &[String],
+    files: &mut F,
+    input: &mut S,
+    output: &mut K,
+) -> Status
+    ensures ends { Ends S.left S.faults K.stands K.faults (F.files files.old) (F.faults files.old) (F.faults files.new)
+        input.old input.new output.old output.new (asked words.now) result }
+    ensures folder { (lines seed : ℕ) → asked words.now ≡ Some (soak_lines lines seed) → files.new ≡ files.old }
+{
+    match shape_of(words) {
+        Some(Shape::Check(theory)) => check_command(alloc, theory, files, output),
+        Some(Shape::Serve(theory)) => serve_command(alloc, theory, files, input, output),
+        Some(Shape::Replay { theory, lines }) => replay(alloc, theory, lines, files, output),
+        Some(Shape::Soak { lines, seed }) => soak_command(alloc, lines, seed, output),
+        None => refuse_words(output),
+    }
+}
+
 /// Does what the words behind the program's name ask for, and answers the exit status.
 ///
-/// Theories are read from `files`, lines from `input`; what is to be said is written to `output`. The statuses are: 0 the input
-/// was read to its end or to `quit`, or the theory is accepted; 2 the words have no shape; 3 the theory is not accepted; 4 the input
-/// failed; 5 the output failed; 6 memory ran out before anything was written; 7 a file could not be read; 8 as many bytes of
-/// input were taken as may be. What is said of bytes taken and left says nothing where the source does not tell what it has left.
+/// Theories and files of lines are read from `files`, other lines from `input`; what is to be said is written to `output`. The
+/// statuses are: 0 the lines were answered to their end or to `quit`, or the theory is accepted; 2 the words have no shape; 3 the
+/// theory is not accepted; 4 the input failed; 5 the output failed; 6 memory ran out before anything was written; 7 a file could
+/// not be read; 8 as many bytes of input were taken as may be; 9 the file of lines is too long. What is said of bytes taken and left
+/// says nothing if the source does not tell what it has left, and what is said of files says nothing if the folder does not tell
+/// them.
 pub fn run<F: Folder, S: Source, K: Sink>(
     alloc: Global,
     words: &[String],
@@ -35,77 +63,79 @@ pub fn run<F: Folder, S: Source, K: Sink>(
     input: &mut S,
     output: &mut K,
 ) -> u8
-    // For every accepted theory that is served, and every input, in whatever pieces it comes: what was appended to the output is,
-    // line by line, the replies that the definitions derive from the events asserted and not retracted by the lines answered `ok` so far.
-    ensures replies { result ≡ 0 → (name text : List ℕ) → asked words.now ≡ Some (serve_theory name) → IsSome (F.files files.old) → S.left input.old ≡ Some text →
-        (theory : Theory) × HasTheory (F.files files.old) name theory × AnswersLines K.stands (in_ticks theory) (lines_of text) output.old output.new }
+    // For every accepted theory and every input, in whatever pieces it comes, and every file of lines: what was appended to the
+    // output is, line by line, the replies that the definitions derive from the events asserted and not retracted by the lines
+    // answered `ok` so far.
+    ensures replies { result ≡ 0 → (shape : PlainShape) → asked words.now ≡ Some shape → TellsServed (F.files files.old) (S.left input.old) shape →
+        (theory : Theory) × (text : List ℕ) × Serves (F.files files.old) (S.left input.old) shape theory text
+        × AnswersLines K.stands (in_ticks theory) (lines_of text) output.old output.new }
 
-    // It comes to that wherever nothing fails, memory is found and the input is not too long.
-    ensures serves { (name text : List ℕ) (theory : Theory) → asked words.now ≡ Some (serve_theory name) → HasTheory (F.files files.old) name theory → is_served theory ≡ true →
-        S.left input.old ≡ Some text → IsShort (in_ticks theory) most_input text → ¬ Rose (F.faults files.old) (F.faults files.new) →
-        ¬ Rose (S.faults input.old) (S.faults input.new) → ¬ Rose (K.faults output.old) (K.faults output.new) →
+    // It comes to 0, or memory runs out, if nothing fails, the theory is accepted, and the input or the file of lines is not too long.
+    // This is so for each shape.
+    ensures completes { (shape : PlainShape) → asked words.now ≡ Some shape → IsReady (F.files files.old) (S.left input.old) shape →
+        ¬ Rose (F.faults files.old) (F.faults files.new) → ¬ Rose (S.faults input.old) (S.faults input.new) → ¬ Rose (K.faults output.old) (K.faults output.new) →
         (result ≡ 0) ⊎ (result ≡ 6) }
 
-    // With 0 nothing is left of the input, or `quit` is among the whole lines of what was taken. With 0 and with 8 the theory was
-    // accepted and is one that is served, also where the source does not tell what it has left.
+    // With 0 `serve` left nothing of the input, or `quit` is among the whole lines of what was taken.
     ensures ended { result ≡ 0 → (name : List ℕ) → asked words.now ≡ Some (serve_theory name) →
-        (taken : List ℕ) × Took (S.left input.old) (S.left input.new) taken × (IsAtEnd (S.left input.new) ⊎ (has_quit number_value (whole_lines taken) ≡ true)) }
-    ensures served { (result ≡ 0) ⊎ (result ≡ 8) → (name : List ℕ) → asked words.now ≡ Some (serve_theory name) → IsSome (F.files files.old) →
-        (theory : Theory) × HasTheory (F.files files.old) name theory × (is_served theory ≡ true) }
+        (theory : Theory) × (IsSome (F.files files.old) → HasTheory (F.files files.old) name theory)
+        × ((taken : List ℕ) × Took (S.left input.old) (S.left input.new) taken × (IsAtEnd (S.left input.new) ⊎ (has_quit (in_ticks theory) (whole_lines taken) ≡ true))) }
 
-    // A theory that is accepted, and one that is not.
+    // The one line of `check`, and that of `soak`.
     ensures accepted { result ≡ 0 → (name : List ℕ) → asked words.now ≡ Some (check_theory name) → IsSome (F.files files.old) →
         (theory : Theory) × HasTheory (F.files files.old) name theory × Appended K.stands output.old output.new (accepted_line theory) }
-    ensures accepts { (name : List ℕ) (theory : Theory) → asked words.now ≡ Some (check_theory name) → HasTheory (F.files files.old) name theory →
-        ¬ Rose (F.faults files.old) (F.faults files.new) → ¬ Rose (K.faults output.old) (K.faults output.new) →
-        (result ≡ 0) ⊎ (result ≡ 6) }
-    ensures refused { result ≡ 3 → (shape : PlainShape) → asked words.now ≡ Some shape → IsSome (F.files files.old) →
-        (text : List ℕ) × IsRefused shape (F.files files.old) text × Wrote K.stands K.faults output.old output.new (theory_line text) }
-    ensures refuses { (shape : PlainShape) (text : List ℕ) → asked words.now ≡ Some shape → IsRefused shape (F.files files.old) text →
-        ¬ Rose (F.faults files.old) (F.faults files.new) → (result ≡ 3) ⊎ (result ≡ 6) }
-    // A file is found too long only if no call on the folder failed.
-    ensures long_file { result ≡ 3 → (shape : PlainShape) → asked words.now ≡ Some shape → IsTooLong (F.files files.old) (theory_name shape) most_theory_bytes →
-        ¬ Rose (F.faults files.old) (F.faults files.new) }
+    ensures soaks { result ≡ 0 → (lines seed : ℕ) → asked words.now ≡ Some (soak_lines lines seed) →
+        (text : List ℕ) × IsSoakLine lines seed text × Appended K.stands output.old output.new text }
 
     // Words without a shape.
     ensures no_shape { (result ≡ 2) ↔ (asked words.now ≡ None) }
     ensures usage { result ≡ 2 → Wrote K.stands K.faults output.old output.new usage_line }
 
-    // The limit of the input.
-    ensures limit { result ≡ 8 → (name text : List ℕ) → asked words.now ≡ Some (serve_theory name) → IsSome (F.files files.old) → S.left input.old ≡ Some text →
-        (theory : Theory) × HasTheory (F.files files.old) name theory × StopsAtLimit K.stands (in_ticks theory) most_input text output.old output.new }
-    ensures stops { (name text : List ℕ) (theory : Theory) → asked words.now ≡ Some (serve_theory name) → HasTheory (F.files files.old) name theory → is_served theory ≡ true →
-        S.left input.old ≡ Some text → IsLong (in_ticks theory) most_input text → ¬ Rose (F.faults files.old) (F.faults files.new) →
-        ¬ Rose (S.faults input.old) (S.faults input.new) → ¬ Rose (K.faults output.old) (K.faults output.new) →
-        (result ≡ 8) ⊎ (result ≡ 6) }
-    // Exactly the first bytes were taken, as many as the limit allows.
-    ensures rest { result ≡ 8 → (text : List ℕ) → S.left input.old ≡ Some text → S.left input.new ≡ Some (drop most_input text) }
+    // A theory that is not accepted. A file is found too long only if no call on the folder failed.
+    ensures refused { result ≡ 3 → (shape : PlainShape) → asked words.now ≡ Some shape → IsSome (F.files files.old) →
+        (text : List ℕ) × IsRefused shape (F.files files.old) text × Wrote K.stands K.faults output.old output.new (theory_line text) }
+    ensures refuses { (shape : PlainShape) (text : List ℕ) → asked words.now ≡ Some shape → IsRefused shape (F.files files.old) text →
+        ¬ Rose (F.faults files.old) (F.faults files.new) → (result ≡ 3) ⊎ (result ≡ 6) }
+    ensures long_theory { result ≡ 3 → (shape : PlainShape) → asked words.now ≡ Some shape → HasLongTheory shape (F.files files.old) →
+        ¬ Rose (F.faults files.old) (F.faults files.new) }
 
-    // With any status no more is taken than the limit allows, and nothing where a theory is only checked.
-    ensures within { (taken : List ℕ) × Took (S.left input.old) (S.left input.new) taken × (length taken ≤ most_input) }
-    ensures unasked { (name : List ℕ) → asked words.now ≡ Some (check_theory name) → input.new ≡ input.old }
-
-    // Faults, and what they leave.
-    ensures serves_alone { (result ≡ 4) ⊎ (result ≡ 8) → (name : List ℕ) × (asked words.now ≡ Some (serve_theory name)) }
+    // The input failed: the whole lines of what was taken are answered, and `quit` is not among them.
     ensures read_fault { result ≡ 4 → Rose (S.faults input.old) (S.faults input.new) }
-    ensures write_fault { result ≡ 5 → Rose (K.faults output.old) (K.faults output.new) }
     ensures whole { result ≡ 4 → (name : List ℕ) → asked words.now ≡ Some (serve_theory name) → IsSome (F.files files.old) →
         (theory : Theory) × HasTheory (F.files files.old) name theory
         × ((taken : List ℕ) × Took (S.left input.old) (S.left input.new) taken × GoesOn K.stands (in_ticks theory) taken output.old output.new) }
-    ensures part { result ≡ 5 → (name : List ℕ) → asked words.now ≡ Some (serve_theory name) → IsSome (F.files files.old) →
-        (theory : Theory) × HasTheory (F.files files.old) name theory
-        × ((taken : List ℕ) × Took (S.left input.old) (S.left input.new) taken × AnswersPart K.stands (in_ticks theory) (lines_of taken) output.old output.new) }
-    ensures accepted_part { result ≡ 5 → (name : List ℕ) → asked words.now ≡ Some (check_theory name) → IsSome (F.files files.old) →
-        (theory : Theory) × HasTheory (F.files files.old) name theory × AppendedPart K.stands output.old output.new (accepted_line theory) }
+
+    // The output failed: a first part of what was to be written is written.
+    ensures write_fault { result ≡ 5 → Rose (K.faults output.old) (K.faults output.new) }
+    ensures part { result ≡ 5 → (shape : PlainShape) → asked words.now ≡ Some shape → TellsFiles (F.files files.old) shape →
+        WrotePart K.stands (F.files files.old) (S.left input.old) (S.left input.new) shape output.old output.new }
+
+    // A file could not be read, or the file of lines is too long.
     ensures folder_fault { result ≡ 7 → (shape : PlainShape) × (asked words.now ≡ Some shape)
-        × (Rose (F.faults files.old) (F.faults files.new) ⊎ IsMissing (F.files files.old) (theory_name shape)) }
-    ensures untouched { (result ≡ 6) ⊎ (result ≡ 7) → (output.new ≡ output.old) × (input.new ≡ input.old) }
+        × (Rose (F.faults files.old) (F.faults files.new) ⊎ LacksFile shape (F.files files.old)) }
+    ensures long_lines { result ≡ 9 → (name lines : List ℕ) × (asked words.now ≡ Some (replay_lines name lines))
+        × (IsSome (F.files files.old) → ((theory : Theory) × HasTheory (F.files files.old) name theory) × IsTooLong (F.files files.old) lines most_replayed) }
+    ensures finds_long { (name lines : List ℕ) (theory : Theory) → asked words.now ≡ Some (replay_lines name lines) → HasTheory (F.files files.old) name theory →
+        IsTooLong (F.files files.old) lines most_replayed → ¬ Rose (F.faults files.old) (F.faults files.new) → (result ≡ 9) ⊎ (result ≡ 6) }
+
+    // The limit of the input: exactly the first bytes were taken, as many as may be.
+    ensures limit { result ≡ 8 → (name : List ℕ) → asked words.now ≡ Some (serve_theory name) → IsSome (F.files files.old) →
+        (theory : Theory) × HasTheory (F.files files.old) name theory
+        × ((text : List ℕ) → S.left input.old ≡ Some text → StopsAtLimit K.stands (in_ticks theory) most_input text output.old output.new) }
+    ensures stops { (name text : List ℕ) (theory : Theory) → asked words.now ≡ Some (serve_theory name) → HasTheory (F.files files.old) name theory →
+        S.left input.old ≡ Some text → IsLong (in_ticks theory) most_input text → ¬ Rose (F.faults files.old) (F.faults files.new) →
+        ¬ Rose (S.faults input.old) (S.faults input.new) → ¬ Rose (K.faults output.old) (K.faults output.new) →
+        (result ≡ 8) ⊎ (result ≡ 6) }
+    ensures rest { result ≡ 8 → (text : List ℕ) → S.left input.old ≡ Some text → S.left input.new ≡ Some (drop most_input text) }
+
+    // What is taken and left, whatever the status.
+    ensures within { (taken : List ℕ) × Took (S.left input.old) (S.left input.new) taken × (length taken ≤ most_input) }
+    ensures unasked { (shape : PlainShape) → asked words.now ≡ Some shape → takes_input shape ≡ false → input.new ≡ input.old }
+    ensures folder { (lines seed : ℕ) → asked words.now ≡ Some (soak_lines lines seed) → files.new ≡ files.old }
+    ensures untouched { (result ≡ 6) ⊎ ((result ≡ 7) ⊎ (result ≡ 9)) → (output.new ≡ output.old) × (input.new ≡ input.old) }
     ensures unread { (result ≡ 2) ⊎ (result ≡ 3) → input.new ≡ input.old }
+    ensures serves_alone { (result ≡ 4) ⊎ (result ≡ 8) → (name : List ℕ) × (asked words.now ≡ Some (serve_theory name)) }
     ensures status { IsExitCode result }
 {
-    match shape_of(words) {
-        Some(Shape::Check(theory)) => check_command(alloc, theory, files, output).code(),
-        Some(Shape::Serve(theory)) => serve_command(alloc, theory, files, input, output).code(),
-        None => refuse_words(output).code(),
-    }
+    obey(alloc, words, files, input, output).code()
 }

@@ -1,36 +1,148 @@
 //! What the words behind the program's name ask for.
-ghost use Rattle.std.specs.Prelude.{◌≡◌, option_map, map, string_bytes};
-ghost use Rattle.ec_server.specs.Words.{shape_of, shape_by, usage_line};
+ghost use Rattle.std.specs.Prelude.{◌≡◌, ◌<◌, ◌≤◌, ◌^◌, ◌&&◌, nat_le, length, option_map, map, string_bytes, IfNone, IfSome, IsTrue};
+ghost use Rattle.std.specs.Char.{is_ascii_digit};
+ghost use Rattle.std.specs.List.{list_all};
+ghost use Rattle.std.specs.Str.Parse.{digits_value};
+ghost use Rattle.ec_server.specs.Words.{line_count, number_within, seed_value, shape_of, shape_by, shape_by_two, soak_by, usage_line};
 ghost use Rattle.ec_server.specs.ShownShape.{plain_shape};
 
 use std::string::String;
 
-/// The line that is written where the words have no shape. It has all shapes, also those that are not served yet.
+/// The line that is written where the words have no shape.
 pub(crate) const USAGE: &[u8] =
     b"usage: ec check THEORY / serve THEORY / replay THEORY LINES / soak N SEED\n";
 
-/// What the words ask for, with the name of the theory's file.
+/// What the words ask for.
 #[derive(Clone, Copy, Debug, PartialEq, Eq)]
 pub enum Shape<'a> {
-    /// Check a theory.
+    /// Check the theory in the file of that name.
     Check(&'a str),
-    /// Serve lines with a theory.
+    /// Serve the lines of the input with the theory in the file of that name.
     Serve(&'a str),
+    /// Serve the lines of one file with the theory in another.
+    Replay { theory: &'a str, lines: &'a str },
+    /// Serve so many generated lines, drawn from the seed.
+    Soak { lines: u32, seed: u64 },
+}
+
+/// Whether a word has no other bytes than decimal digits.
+fn has_digits_alone(word: &str) -> bool
+    ensures { result ≡ list_all is_ascii_digit word.now }
+{
+    word.as_bytes().iter().all(|byte| byte.is_ascii_digit())
+}
+
+/// Whether a word is one to so many decimal digits.
+fn is_digits(word: &str, most: usize) -> bool
+    ensures { result ≡ (nat_le 1 (length word.now) && (nat_le (length word.now) most && list_all is_ascii_digit word.now)) }
+{
+    let length = word.len();
+    0 < length && length <= most && has_digits_alone(word)
+}
+
+/// The value of decimal digits. `None` if it is 2^64 or more.
+fn value_of_digits(digits: &str) -> Option<u64>
+    requires some { 0 < length digits.now }
+    requires digits { IsTrue (list_all is_ascii_digit digits.now) }
+    ensures value { IfSome result (λ value. value ≡ digits_value 10 digits.now) }
+    ensures none { IfNone result (2 ^ 64 ≤ digits_value 10 digits.now) }
+{
+    match digits.parse::<u64>() {
+        Ok(value) => Some(value),
+        Err(_) => None,
+    }
+}
+
+/// Whether a value is from `least` to `greatest`.
+fn is_within(value: u64, least: u64, greatest: u64) -> bool
+    ensures { result ≡ (nat_le least value && nat_le value greatest) }
+{
+    least <= value && value <= greatest
+}
+
+/// The value of a word of one to so many decimal digits, if it is from `least` to `greatest`. Leading zeros are allowed.
+#[tactic(auto, unfolding(crate::specs::Words::number_within))]
+fn number_within(word: &str, digits: usize, least: u64, greatest: u64) -> Option<u64>
+    ensures { result ≡ number_within digits least greatest word.now }
+{
+    if !is_digits(word, digits) {
+        return None;
+    }
+    let value = value_of_digits(word)?;
+    if is_within(value, least, greatest) {
+        Some(value)
+    } else {
+        None
+    }
+}
+
+/// How many lines are to be generated.
+#[tactic(auto, unfolding(crate::specs::Words::line_count, crate::specs::Words::number_within))]
+fn line_count(word: &str) -> Option<u32>
+    ensures { result ≡ line_count word.now }
+{
+    let count = number_within(word, 6, 1, 100_000)?;
+    Some(count as u32)
+}
+
+/// The seed of the generated lines.
+#[tactic(auto, unfolding(crate::specs::Words::seed_value))]
+fn seed_value(word: &str) -> Option<u64>
+    ensures { result ≡ seed_value word.now }
+{
+    number_within(word, 20, 0, u64::MAX)
+}
+
+/// The shape of words that ask for generated lines.
+fn soak_shape<'a>(lines: &str, seed: &str) -> Option<Shape<'a>>
+    ensures { option_map plain_shape result ≡ soak_by (line_count lines.now) (seed_value seed.now) }
+{
+    let lines = line_count(lines)?;
+    let seed = seed_value(seed)?;
+    Some(Shape::Soak { lines, seed })
+}
+
+/// The shape of two words.
+#[tactic(auto, unfolding(crate::specs::Words::shape_by))]
+fn shape_by<'a>(command: &str, theory: &'a str) -> Option<Shape<'a>>
+    ensures { option_map plain_shape result ≡ shape_by command.now theory.now }
+{
+    if command == "check" {
+        Some(Shape::Check(theory))
+    } else if command == "serve" {
+        Some(Shape::Serve(theory))
+    } else {
+        None
+    }
+}
+
+/// The shape of three words.
+#[tactic(auto, unfolding(crate::specs::Words::shape_by_two))]
+fn shape_by_two<'a>(command: &str, first: &'a str, second: &'a str) -> Option<Shape<'a>>
+    ensures { option_map plain_shape result ≡ shape_by_two command.now first.now second.now }
+{
+    if command == "replay" {
+        Some(Shape::Replay {
+            theory: first,
+            lines: second,
+        })
+    } else if command == "soak" {
+        soak_shape(first, second)
+    } else {
+        None
+    }
 }
 
 /// The shape of the words, or none where they have no shape.
-#[tactic(auto, unfolding(crate::specs::Words::shape_of, crate::specs::Words::shape_by))]
+#[tactic(auto, unfolding(crate::specs::Words::shape_of))]
 pub fn shape_of(words: &[String]) -> Option<Shape<'_>>
     ensures { option_map plain_shape result ≡ shape_of (map string_bytes words.now) }
 {
-    let [command, theory] = words else {
-        return None;
-    };
-    if command.as_str() == "check" {
-        Some(Shape::Check(theory.as_str()))
-    } else if command.as_str() == "serve" {
-        Some(Shape::Serve(theory.as_str()))
-    } else {
-        None
+    match words {
+        [command, theory] => shape_by(command.as_str(), theory.as_str()),
+        [command, first, second] => {
+            shape_by_two(command.as_str(), first.as_str(), second.as_str())
+        }
+        _ => None,
     }
 }

@@ -29,6 +29,7 @@ pub mod MadeRooms
 pub mod SameButRoom
 pub mod Through
 pub mod StepBound
+pub mod MostSteps
 pub mod AddedWords
 pub mod Bits
 pub mod AddedActivity

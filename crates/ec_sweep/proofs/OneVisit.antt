@@ -1,5 +1,5 @@
 -- A visit: from just before it, by the look at its entries and the settling of properties, a sweep comes up to it.
-use Rattle.std.proofs.Common.{◌≡◌, ◌+ℤ◌, ◌-ℤ◌, pos, ℤ, Bool, true, List, Some, sym, subst, arith}
+use Rattle.std.proofs.Common.{◌≡◌, ◌≤◌, ◌+◌, ℕ, ◌+ℤ◌, ◌-ℤ◌, pos, ℤ, Bool, true, List, Some, sym, subst, arith}
 use Rattle.std.specs.List.{All}
 use Rattle.std.proofs.lemmas.Int.{ints}
 use Rattle.ec_terms.specs.declared.ids.PropId.{PropId}
@@ -23,7 +23,7 @@ use Rattle.ec_sweep.specs.declared.progress.Progress.{Progress}
 use Rattle.ec_sweep.specs.declared.sweep.Sweep.{Sweep}
 use Rattle.ec_sweep.specs.State.{DirtyRows, IsProgress, IsUnderway, found_by, keeps}
 use Rattle.ec_sweep.specs.Sweeping.{IsSweeping, IsSweptUpTo, NothingLeftBefore, has_visit_at}
-use Rattle.ec_sweep.specs.Visiting.{AreDueAt, CanLook, CanLookAt, CanSettle, CanSettleAt, HasLooked, HasSettled, IsAgendaBehind, settled_by}
+use Rattle.ec_sweep.specs.Visiting.{AreDueAt, CanLook, CanLookAt, CanSettle, CanSettleAt, HasLooked, HasSettled, IsAgendaBehind, most_steps, settled_by, steps_for}
 use Rattle.ec_sweep.proofs.NextInstant.{IsSweptUpTo-next, compared}
 use Rattle.ec_sweep.proofs.SameTurns.{AreTurnsAt-same}
 use Rattle.ec_sweep.proofs.SettledTurns.{Settles-same}
@@ -89,6 +89,14 @@ module _ {T : Type 0} (rank : T → ℤ) (theory : Theory) (new : List PlainEven
     active = up_to.active;
     can = can_look due due_is;
   }
+
+  -- what every look takes of steps, this one takes
+  pub look-takes : (due : List PropId) → AreDueAt rank sweep.agenda t due → (started ended : ℕ)
+      → ((new : List PlainEvent) (tally : Tally) (r : ℤ) (agenda : List (Due T)) (planned : Planned T) (active : Effect → Bool)
+      → CanLook rank theory new view tally change r t sweep.dirty agenda due sweep.looked planned active sweep.progress
+      → ended + steps_for change sweep.looked sweep.progress ≤ started + most_steps theory (history_of rank view.store.events) new change)
+      → ended + steps_for change sweep.looked sweep.progress ≤ started + most_steps theory (history_of rank view.store.events) new change
+  look-takes due due_is started ended looking = looking new tally r sweep.agenda sweep.planned up_to.active (can_look due due_is)
 
   -- the look has found what it does, and gives the turns
   module _ (due : List PropId) (due_is : AreDueAt rank sweep.agenda t due) (looked : Looked) (turns given : List Turn) (given_is : given ≡ turns)

@@ -1,5 +1,5 @@
 -- What the look at an instant does, by slots and the numbers of properties.
-use Rattle.std.specs.Prelude.{◌≡◌, ◌+◌, ℤ, not, List, ◌++◌, filter_map, count_by, length}
+use Rattle.std.specs.Prelude.{◌≡◌, ◌⊎◌, ◌+◌, ◌*◌, ◌≤◌, ℕ, ℤ, not, List, ◌++◌, filter_map, flat_map, count_by, length}
 use Rattle.ec_terms.specs.declared.ids.PropId.{PropId}
 use Rattle.ec_context.specs.declared.entry.Entry.{Entry}
 use Rattle.ec_context.specs.Activity.{NumberCurrency}
@@ -23,3 +23,10 @@ pub record HasLookedBy {T : Type 0} (rank : T → ℤ) (current : NumberCurrency
   pub flips : FlipsHits current t slots hits before.flips after.flips
   pub bits : AddsWords current t lists before.bits after.bits
   pub turned : turns ≡ filter_map (turn_at current t slots) hits ++ removed_turns slots removals ++ added_turns current t lists
+
+-- What the look may take of steps, whether it ends or not: none, where the hits are not found; else there are the hits, and at
+-- most two steps for each, one for each removed event, and one for each entry of an added event.
+abbrev pub TakesSteps : {T : Type 0} → (T → ℤ) → Slots T → ℤ → DirtyRows → List PropId → List (Removal T) → List (List Entry) → ℕ → ℕ → Type 0
+TakesSteps rank slots t dirty due removals lists before after =
+    (after ≡ before)
+    ⊎ ((hits : List Hit) × AreHits rank slots t dirty due removals hits × (after ≤ before + 2 * length hits + length removals + length (flat_map (λ list. list) lists)))

@@ -8,6 +8,7 @@ use Rattle.ec_terms.specs.declared.ground.Ground.{Ground}
 use Rattle.ec_terms.specs.declared.theory.Theory.{Theory}
 use Rattle.ec_terms.specs.Domain.{GroundEntry}
 use Rattle.ec_axioms.specs.Calculus.{PlainEvent, Effect}
+use Rattle.ec_axioms.specs.Changes.{change_counts}
 use Rattle.ec_agenda.specs.Due.{Due, has_due}
 use Rattle.ec_props.specs.Table.{KeptProp, prop_of}
 use Rattle.ec_events.specs.Store.{history_of}
@@ -62,6 +63,11 @@ pub record CanLookAt {T : Type 0} (rank : T → ℤ) (theory : Theory) (view : V
 -- for each entry of an added event that it met
 abbrev pub steps_for : {T : Type 0} → Change T → Looked → Progress → ℕ
 steps_for change looked progress = 2 * looked.seen + progress.removed + length (flat_map (λ entries. entries) (take progress.added change.entries))
+
+-- the steps that a sweep takes at most, whether it ends or not: two for each entry that sees a change between the lists, one for
+-- each removed event, and one for each entry of an added event
+abbrev pub most_steps : {T : Type 0} → Theory → List PlainEvent → List PlainEvent → Change T → ℕ
+most_steps theory old new change = 2 * (change_counts theory old new).seen + length (flat_map (λ entries. entries) change.entries) + length change.remove
 
 -- turns are the same as others, in any order: of each kind and head as many are up, and as many down
 pub record AreSameTurns (turns others : List PlainTurn) : Type 0 where

@@ -2,11 +2,12 @@
 ghost use Rattle.std.specs.Prelude.{◌≡◌, ◌+◌, ◌≤◌, ◌+ℤ◌, pos, ℤ, Bool, List, IfOk, OnOk};
 ghost use Rattle.ec_axioms.specs.Calculus.{PlainEvent, Effect};
 ghost use Rattle.ec_agenda.specs.Due.{Due};
+ghost use Rattle.ec_events.specs.Store.{history_of};
 ghost use Rattle.ec_delta.specs.declared.delta.Planned.{Planned};
 ghost use Rattle.ec_parts.specs.declared.tally.Tally.{Tally as PartsTally};
 ghost use Rattle.ec_parts.specs.StandFor.{view_of};
 ghost use Rattle.ec_sweep.specs.State.{IsProgress};
-ghost use Rattle.ec_sweep.specs.Visiting.{CanLook, CanLookAt, HasLooked, steps_for};
+ghost use Rattle.ec_sweep.specs.Visiting.{CanLook, CanLookAt, HasLooked, most_steps, steps_for};
 
 use crate::dirty::{Dirty, Overlay};
 use crate::looking::{AtInstant, look_by_number};
@@ -41,6 +42,9 @@ pub(crate) fn look<T: Moment, M: MarkRow<T>, I: SpanRow<T>, X: TimeRow<T>, L: Le
         CanLook T.rank parts.now.checked new (view_of parts.now) tally change.now r (T.rank at) dirty.now agenda due.now looked.old planned active progress.old →
         HasLooked T.rank parts.now.checked new (view_of parts.now) change.now (T.rank at) dirty.now agenda planned looked.old looked.new active turns.items) }
     ensures progress { OnOk result ((r : ℤ) → T.rank at ≡ r +ℤ pos 1 → IsProgress T.rank change.now r progress.old → IsProgress T.rank change.now (T.rank at) progress.new) }
+    ensures most { (new : List PlainEvent) (tally : PartsTally) (r : ℤ) (agenda : List (Due T)) (planned : Planned T) (active : Effect → Bool) →
+        CanLook T.rank parts.now.checked new (view_of parts.now) tally change.now r (T.rank at) dirty.now agenda due.now looked.old planned active progress.old →
+        steps.new + steps_for change.now looked.old progress.old ≤ steps.old + most_steps parts.now.checked (history_of T.rank parts.now.store.events) new change.now }
     ensures steps { OnOk result (steps.new + steps_for change.now looked.old progress.old ≤ steps.old + steps_for change.now looked.new progress.new) }
 {
     let _ = parts.props.len();

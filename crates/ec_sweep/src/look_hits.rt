@@ -1,5 +1,5 @@
 //! The look at entries of events that stay: which are active in the new list, and what turned.
-ghost use Rattle.std.specs.Prelude.{◌≡◌, ◌+◌, ◌*◌, ◌++◌, ◌∷◌, [], ℕ, map, filter, filter_map, not, length, IsTrue, IsSome, IfOk, OnOk, count_by};
+ghost use Rattle.std.specs.Prelude.{◌≡◌, ◌+◌, ◌*◌, ◌≤◌, ◌++◌, ◌∷◌, [], ℕ, map, filter, filter_map, not, length, IsTrue, IsSome, IfOk, OnOk, count_by};
 ghost use Rattle.std.specs.List.{All};
 ghost use Rattle.std.specs.Option.{option_to_list};
 ghost use Rattle.ec_delta.specs.Looked.{are_apart};
@@ -31,7 +31,7 @@ fn look_at<T: Moment, C: Current<T>, L: Ledger>(
     requires { IsSome (entry_at entries.now.slots hit) }
     ensures turns { OnOk result (turns.new.items ≡ turns.old.items ++ option_to_list (turn_at (C.is_current current.now) (T.rank at) entries.now.slots hit)) }
     ensures words { OnOk result (WordsHit (C.is_current current.now) (T.rank at) entries.now.slots (hit ∷ []) words.old words.new) }
-    ensures steps { OnOk result (steps.new ≡ steps.old + 2) }
+    ensures steps { steps.new ≡ steps.old + 2 }
 {
     let list = entries.list(hit.slot, steps).as_slice();
     let place = usize::from(hit.place);
@@ -63,6 +63,7 @@ fn look_at_each<T: Moment, C: Current<T>, L: Ledger>(
     ensures turns { OnOk result (turns.new.items ≡ turns.old.items ++ filter_map (turn_at (C.is_current current.now) (T.rank at) entries.now.slots) hits.now) }
     ensures words { OnOk result (WordsHit (C.is_current current.now) (T.rank at) entries.now.slots hits.now words.old words.new) }
     ensures steps { OnOk result (steps.new ≡ steps.old + 2 * length hits.now) }
+    ensures most { steps.new ≤ steps.old + 2 * length hits.now }
 {
     for i in 0..hits.len() {
         look_at(entries, hits.get(i), at, current, words, turns, steps)?;
@@ -115,6 +116,7 @@ pub(crate) fn look_at_hits<T: Moment, C: Current<T>, L: Ledger>(
     ensures bits { OnOk result (looked.new.bits ≡ looked.old.bits) }
     ensures flips { OnOk result (FlipsHits (C.is_current current.now) (T.rank at) entries.now.slots hits.now looked.old.flips looked.new.flips) }
     ensures steps { OnOk result (steps.new ≡ steps.old + 2 * length hits.now) }
+    ensures most { steps.new ≤ steps.old + 2 * length hits.now }
 {
     let mut words = Words::new(alloc);
     let mut turns = Vec::new(alloc);

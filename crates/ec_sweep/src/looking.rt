@@ -2,7 +2,7 @@
 ghost use Rattle.std.specs.Prelude.{◌≡◌, ◌+◌, ◌*◌, ◌≤◌, flat_map, length, IsSome, IfOk, OnOk};
 ghost use Rattle.std.specs.List.{All};
 ghost use Rattle.ec_numbered.specs.ByNumber.{kept_at};
-ghost use Rattle.ec_sweep.specs.LookedBy.{HasLookedBy};
+ghost use Rattle.ec_sweep.specs.LookedBy.{HasLookedBy, TakesSteps};
 
 use crate::dirty::Dirty;
 use crate::hits::hits_at;
@@ -41,6 +41,7 @@ pub(crate) fn look_by_number<T: Moment, C: Current<T>, L: Ledger>(
     requires { All (λ removal. IsSome (kept_at removal.slot.0 entries.now.slots)) here.now.removals.now }
     ensures looked { IfOk result (λ turns. HasLookedBy T.rank (C.is_current current.now) entries.now.slots (T.rank at) dirty.now due.now here.now.removals.now here.now.lists.now looked.old looked.new turns.items) }
     ensures steps { OnOk result (steps.new + 2 * looked.old.seen ≡ steps.old + 2 * looked.new.seen + length here.now.removals.now + length (flat_map (λ list. list) here.now.lists.now)) }
+    ensures most { TakesSteps T.rank entries.now.slots (T.rank at) dirty.now due.now here.now.removals.now here.now.lists.now steps.old steps.new }
 {
     let hits = hits_at(alloc, entries, dirty, due, at, here.removals)?;
     let mut turns = look_at_hits(alloc, entries, &hits, at, current, looked, steps)?;

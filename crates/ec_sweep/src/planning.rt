@@ -1,5 +1,5 @@
 //! The plan of a change of all caches.
-ghost use Rattle.std.specs.Prelude.{◌≡◌, ◌+◌, ◌*◌, ◌≤◌, List, IfOk, IfErr, OnOk, flat_map, length};
+ghost use Rattle.std.specs.Prelude.{◌≡◌, ◌+◌, ◌*◌, ◌≤◌, List, IfOk, IfErr, flat_map, length};
 ghost use Rattle.ec_axioms.specs.Calculus.{PlainEvent};
 ghost use Rattle.ec_axioms.specs.Changes.{change_counts};
 ghost use Rattle.ec_events.specs.Store.{history_of};
@@ -43,9 +43,9 @@ pub fn plan<T: Moment, M: MarkRow<T>, I: SpanRow<T>, X: TimeRow<T>, L: Ledger>(
     ensures events { parts.new.store.events ≡ parts.old.store.events }
     ensures table { parts.new.props ≡ parts.old.props }
     ensures neighbours { parts.new.neighbours ≡ parts.old.neighbours }
-    ensures steps { OnOk result ((new : List PlainEvent) (tally : PartsTally) → IsUnderway T.rank parts.old.checked new (view_of parts.old) tally change →
+    ensures steps { (new : List PlainEvent) (tally : PartsTally) → IsUnderway T.rank parts.old.checked new (view_of parts.old) tally change →
         steps.new ≤ steps.old + 2 * (change_counts parts.old.checked (history_of T.rank parts.old.store.events) new).seen
-        + length (flat_map (λ entries. entries) change.entries) + length change.remove) }
+        + length (flat_map (λ entries. entries) change.entries) + length change.remove }
 {
     let _ = (parts.props.len(), parts.store.len());
     let Ok(sweep) = sweep_over(alloc, parts, &change, steps) else {

@@ -1,9 +1,13 @@
 //! The sweep from instant to instant between two lists of events.
-ghost use Rattle.std.specs.Prelude.{◌≡◌, ◌⊎◌, ◌+◌, ◌≤◌, ◌≤ℤ◌, [], None, Some, IsTrue, IfSome, IfNone, IfOk, OnOk, option_map, slice_get};
+ghost use Rattle.std.specs.Prelude.{◌≡◌, ◌⊎◌, ◌+◌, ◌≤◌, ◌≤ℤ◌, [], None, Some, IsTrue, IfSome, IfNone, IfOk, OnOk, List, option_map, slice_get};
+ghost use Rattle.ec_axioms.specs.Calculus.{PlainEvent};
+ghost use Rattle.ec_events.specs.Store.{history_of};
+ghost use Rattle.ec_parts.specs.declared.tally.Tally.{Tally as PartsTally};
 ghost use Rattle.ec_parts.specs.StandFor.{view_of};
 ghost use Rattle.ec_sweep.specs.Planning.{LeadsSomewhere};
+ghost use Rattle.ec_sweep.specs.State.{IsUnderway};
 ghost use Rattle.ec_sweep.specs.Sweeping.{IsInOrder, IsSweepingTo, NothingLeft, NothingLeftBefore, has_visit_at, no_sweep};
-ghost use Rattle.ec_sweep.specs.Visiting.{steps_for};
+ghost use Rattle.ec_sweep.specs.Visiting.{most_steps, steps_for};
 
 use crate::dirty::Dirty;
 use crate::due::take_due;
@@ -83,6 +87,8 @@ impl<T: Moment> Sweep<T> {
         requires sweeping { IsSweepingTo T.rank parts.now.checked (view_of parts.now) change.now self.old }
         ensures sweeping { OnOk result (IsSweepingTo T.rank parts.now.checked (view_of parts.now) change.now self.new) }
         ensures last { OnOk result (self.new.last ≡ Some at) }
+        ensures most { (new : List PlainEvent) (tally : PartsTally) → IsUnderway T.rank parts.now.checked new (view_of parts.now) tally change.now →
+            steps.new + steps_for change.now self.old.looked self.old.progress ≤ steps.old + most_steps parts.now.checked (history_of T.rank parts.now.store.events) new change.now }
         ensures steps { OnOk result (steps.new + steps_for change.now self.old.looked self.old.progress ≤ steps.old + steps_for change.now self.new.looked self.new.progress) }
     {
         let _ = (parts.props.len(), parts.store.len());
@@ -171,7 +177,8 @@ pub(crate) fn sweep_over<T: Moment, M: MarkRow<T>, I: SpanRow<T>, X: TimeRow<T>,
     requires { LeadsSomewhere T.rank parts.now.checked (view_of parts.now) change.now }
     ensures swept { IfOk result (λ sweep. IsSweepingTo T.rank parts.now.checked (view_of parts.now) change.now sweep) }
     ensures done { IfOk result (λ sweep. NothingLeft change.now sweep.progress sweep.agenda) }
-    ensures steps { IfOk result (λ sweep. steps.new ≤ steps.old + steps_for change.now sweep.looked sweep.progress) }
+    ensures steps { (new : List PlainEvent) (tally : PartsTally) → IsUnderway T.rank parts.now.checked new (view_of parts.now) tally change.now →
+        steps.new ≤ steps.old + most_steps parts.now.checked (history_of T.rank parts.now.store.events) new change.now }
 {
     let _ = (parts.props.len(), parts.store.len());
     let mut sweep = Sweep::new(alloc);

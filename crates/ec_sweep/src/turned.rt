@@ -40,6 +40,7 @@ pub(crate) fn turn_down_removed<T: Moment, L: Ledger>(
     requires { All (λ removal. IsSome (kept_at removal.slot.0 entries.now.slots)) removals.now }
     ensures turns { OnOk result (turns.new.items ≡ turns.old.items ++ removed_turns entries.now.slots removals.now) }
     ensures steps { OnOk result (steps.new ≡ steps.old + length removals.now) }
+    ensures most { steps.new ≤ steps.old + length removals.now }
 {
     for removal in removals {
         let list = entries.list(removal.slot, steps);
@@ -60,6 +61,7 @@ fn turn_up<T: Moment, C: Current<T>, L: Ledger>(
     ensures word { IfOk result (λ word. IsWordOf (C.is_current current.now) (T.rank at) list.now word) }
     ensures turns { OnOk result (turns.new.items ≡ turns.old.items ++ up_turns (C.is_current current.now) (T.rank at) list.now) }
     ensures steps { OnOk result (steps.new ≡ steps.old + length list.now) }
+    ensures most { steps.new ≤ steps.old + length list.now }
 {
     let mut word = 0;
     for (k, entry) in list.iter().enumerate() {
@@ -88,6 +90,7 @@ pub(crate) fn turn_up_added<T: Moment, C: Current<T>, L: Ledger>(
     ensures bits { OnOk result (AddsWords (C.is_current current.now) (T.rank at) lists.now bits.old bits.new) }
     ensures turns { OnOk result (turns.new.items ≡ turns.old.items ++ added_turns (C.is_current current.now) (T.rank at) lists.now) }
     ensures steps { OnOk result (steps.new ≡ steps.old + length (flat_map (λ list. list) lists.now)) }
+    ensures most { steps.new ≤ steps.old + length (flat_map (λ list. list) lists.now) }
 {
     for list in lists {
         let word = turn_up(list.as_slice(), at, current, turns, steps)?;

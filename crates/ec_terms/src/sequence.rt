@@ -29,6 +29,13 @@ impl<T> Sequence<T> {
         }
     }
 
+    /// The list of these members. It takes no memory.
+    pub fn from_vec(items: Vec<T>) -> Sequence<T>
+        ensures { result ≡ items.items }
+    {
+        Sequence { items }
+    }
+
     /// How many members there are.
     pub fn len(&self) -> usize
         ensures { result ≡ length self.now }

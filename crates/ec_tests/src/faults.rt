@@ -16,12 +16,26 @@ const LINES: &[u8] = b"assert p 5 plug\nholds powered 6\nquit\nholds powered 6\n
 const USAGE: &[u8] = b"usage: ec check THEORY / serve THEORY / replay THEORY LINES / soak N SEED\n";
 
 /// Words without a shape.
-const SHAPELESS: [&[&str]; 8] = [
+const SHAPELESS: [&[&str]; 22] = [
     &[],
     &["serve"],
     &["check"],
     &["serve", "t.ec", "t.ec"],
+    &["replay", "t.ec"],
+    &["replay", "t.ec", "t.ec", "t.ec"],
+    &["soak", "1"],
     &["soak", "0", "1"],
+    &["soak", "000000", "1"],
+    &["soak", "100001", "1"],
+    &["soak", "0000001", "1"],
+    &["soak", "", "1"],
+    &["soak", "1", ""],
+    &["soak", "+1", "1"],
+    &["soak", "1", "-1"],
+    &["soak", "1", "1 "],
+    &["soak", "1", "18446744073709551616"],
+    &["soak", "1", "000000000000000000000"],
+    &["soak", "1", "1", "1"],
     &["--help"],
     &["--version"],
     &["Serve", "t.ec"],
@@ -167,6 +181,36 @@ fn faults_of_the_outside_have_their_statuses(rt: HostRuntime) -> Result<(), Fail
         let (status, output) = ran_with(rt.alloc(), name, failing)?;
         assert_eq!(rt; status, *code);
         assert_eq!(rt; output.bytes(), *written);
+    }
+    Ok(())
+}
+
+/// The calls of the folder, the writes and the flushes that fail while a theory is checked, the status and what is written.
+const CHECKS: [(&[u64], &[u64], &[u64], u8, &[u8]); 4] = [
+    (&[1], &[], &[], 7, b""),
+    (&[], &[1], &[], 5, b""),
+    (&[], &[10], &[], 5, b"accepted "),
+    (
+        &[],
+        &[],
+        &[1],
+        5,
+        b"accepted rules 2 exclusives 0 strongs 0\n",
+    ),
+];
+
+#[test]
+fn a_check_tells_what_fails(rt: HostRuntime) -> Result<(), Fail> {
+    for (files, writes, flushes, code, written) in CHECKS {
+        let mut files = folder(rt.alloc(), LAMP, files)?;
+        let mut input = MemSource::new(rt.alloc(), LINES, 1, &[1])?;
+        let mut output = MemSink::new(rt.alloc(), ROOM, 1, writes, flushes)?;
+        let words = words(rt.alloc(), &["check", "t.ec"])?;
+        assert_eq!(rt;
+            run(rt.alloc(), &words, &mut files, &mut input, &mut output),
+            code
+        );
+        assert_eq!(rt; output.bytes(), written);
     }
     Ok(())
 }

@@ -6,6 +6,10 @@ mod faults;
 #[cfg(test)]
 mod lines;
 #[cfg(test)]
+mod replayed;
+#[cfg(test)]
+mod soaked;
+#[cfg(test)]
 mod theories;
 #[cfg(test)]
 mod whole;

@@ -45,7 +45,7 @@ const RUNS: [(&[u8], &[u8], &[u8]); 13] = [
     (
         LAMPS,
         b"@3 assert p 5 plug(a)\nretract z\nintervals powered(a)\n@64 last\n@3\n% note\n@07 retract p\n",
-        b"@3 ok\nrefused unknown z\nrefused unbuilt\nrefused syntax\n@3 refused syntax\n@7 ok\n",
+        b"@3 ok\nrefused unknown z\n1 (5,inf)\nrefused syntax\n@3 refused syntax\n@7 ok\n",
     ),
     // the ends of time
     (
@@ -71,11 +71,11 @@ const RUNS: [(&[u8], &[u8], &[u8]); 13] = [
         b"assert p 5 plug(a)\nassert v 10 plug(a)\nassert u 10 unplug(a)\nholds powered(a) 10\nholds powered(a) 11\nretract v\nholds powered(a) 11\n",
         b"ok\nok\nok\nyes\nyes\nok\nno\n",
     ),
-    // what is well formed, and not served yet
+    // each command that is no assert and no holds, while nothing happened
     (
         LAMP,
-        b"begin\ncommit\nabort\nthrough p 9 8\nintervals p\nbroken p\nat 5\nclashes\nevents\nwhy p 5\nlast\n",
-        b"refused unbuilt\nrefused unbuilt\nrefused unbuilt\nrefused unbuilt\nrefused unbuilt\nrefused unbuilt\nrefused unbuilt\nrefused unbuilt\nrefused unbuilt\nrefused unbuilt\nrefused unbuilt\n",
+        b"begin\ncommit\nabort\nthrough p 9 8\nthrough p 8 9\nintervals p\nbroken p\nat 5\nclashes\nevents\nwhy p 5\nlast\n",
+        b"ok\nok\nrefused no-draft\nrefused order\nno\n0\n0\n0\n0\n0\nno never\nlast seen 0 on 0 off 0 props 0\n",
     ),
 ];
 

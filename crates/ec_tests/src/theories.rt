@@ -24,8 +24,20 @@ exclusive at(X,Y) at(X,Z).
 strong at/2.
 ";
 
+/// The rooms and lamps, where one lamp has power from before all events.
+const POWERED_ROOMS: &[u8] = b"initiates push(P,L) lit(L) if powered(L), not lit(L).
+terminates push(P,L) lit(L) if lit(L).
+initiates plug(L) powered(L).
+terminates unplug(L) powered(L).
+terminates unplug(L) lit(L).
+initiates move(P,Y) at(P,Y).
+terminates leave(P,Y) at(P,Y).
+exclusive at(X,Y) at(X,Z).
+initially powered(a).
+";
+
 /// Texts that are no theories, and the line about each.
-const FAULTS: [(&[u8], &[u8]); 16] = [
+const FAULTS: [(&[u8], &[u8]); 22] = [
     (b"initiates push(P) lit(L).", b"theory 1 unbound\n"),
     (b"initiates plug(L) powered(L)", b"theory 1 29 syntax\n"),
     (b"initiates plug(L powered(L).", b"theory 1 18 syntax\n"),
@@ -49,6 +61,13 @@ const FAULTS: [(&[u8], &[u8]); 16] = [
     ),
     // a fault of the tokens comes before one of the syntax, wherever it stands
     (b"strong strong strong.\n\n  !", b"theory 3 3 byte\n"),
+    (b"initially p(X).", b"theory 1 unbound\n"),
+    (b"initially p(_).", b"theory 1 any\n"),
+    (b"initially p(a,b,c,d,e,f,g,h,i).", b"theory 1 arity\n"),
+    // an initial property that ends too early, and one that does not end
+    (b"initially", b"theory 1 10 syntax\n"),
+    (b"initially powered(a)\n", b"theory 2 1 syntax\n"),
+    (b"initially p if q.", b"theory 1 13 syntax\n"),
 ];
 
 #[test]
@@ -64,10 +83,23 @@ fn texts_that_are_no_theories_are_told_by_check_and_serve(rt: HostRuntime) -> Re
 }
 
 /// Theories, and what `check` says of them.
-const ACCEPTED: [(&[u8], &[u8]); 3] = [
+const ACCEPTED: [(&[u8], &[u8]); 6] = [
     (b"", b"accepted rules 0 exclusives 0 strongs 0\n"),
     (ROOMS, b"accepted rules 7 exclusives 1 strongs 0\n"),
     (STRONG_ROOMS, b"accepted rules 7 exclusives 1 strongs 1\n"),
+    (
+        POWERED_ROOMS,
+        b"accepted rules 7 exclusives 1 strongs 0 initials 1\n",
+    ),
+    (
+        b"initially initially. initially initially.",
+        b"accepted rules 0 exclusives 0 strongs 0 initials 2\n",
+    ),
+    // a name like others where no clause begins
+    (
+        b"initiates initially(initially) initially if not initially. strong initially/0.",
+        b"accepted rules 1 exclusives 0 strongs 1\n",
+    ),
 ];
 
 #[test]
@@ -80,20 +112,49 @@ fn theories_are_counted_by_check(rt: HostRuntime) -> Result<(), Fail> {
     Ok(())
 }
 
-/// Theories that are accepted, and of which something is not served yet.
-const UNBUILT: [&[u8]; 4] = [
+/// Theories that are accepted, with literals and declarations.
+const SERVED: [&[u8]; 7] = [
     ROOMS,
+    STRONG_ROOMS,
+    POWERED_ROOMS,
+    b"initially p.",
     b"initiates a b if c.",
     b"initiates a b. exclusive b c.",
     b"initiates a b. strong b/0.",
 ];
 
 #[test]
-fn a_theory_that_is_not_served_yet_is_told(rt: HostRuntime) -> Result<(), Fail> {
-    for theory in UNBUILT {
+fn each_theory_that_is_accepted_is_served(rt: HostRuntime) -> Result<(), Fail> {
+    for theory in SERVED {
         let (status, output) = ran(rt.alloc(), &["serve", "t.ec"], theory, b"quit\n", 4_096)?;
-        assert_eq!(rt; status, 3);
-        assert_eq!(rt; output.bytes(), b"theory unbuilt\n".as_slice());
+        assert_eq!(rt; status, 0);
+        assert_eq!(rt; output.bytes(), b"bye\n".as_slice());
+    }
+    Ok(())
+}
+
+/// How many initial properties there are in a text, the status of `check`, and what it says of them.
+const INITIALS: [(usize, u8, &[u8]); 2] = [
+    (
+        1_024,
+        0,
+        b"accepted rules 0 exclusives 0 strongs 0 initials 1024\n",
+    ),
+    (1_025, 3, b"theory 1025 many-initials\n"),
+];
+
+#[test]
+fn initial_properties_have_a_limit(rt: HostRuntime) -> Result<(), Fail> {
+    let mut text = Vec::new(rt.alloc());
+    let mut clauses = 0;
+    for (count, code, line) in INITIALS {
+        for _ in clauses..count {
+            text.extend_from_slice(b"initially p(a).\n")?;
+        }
+        clauses = count;
+        let (status, output) = ran(rt.alloc(), &["check", "t.ec"], &text, b"", 4_096)?;
+        assert_eq!(rt; status, code);
+        assert_eq!(rt; output.bytes(), line);
     }
     Ok(())
 }

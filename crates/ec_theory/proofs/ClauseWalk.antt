@@ -11,11 +11,11 @@ use Rattle.ec_theory.specs.declared.condition.Body.{Body}
 use Rattle.ec_theory.specs.declared.clause.Clause.TheVariants as clause
 use Rattle.ec_theory.specs.declared.sign.Symbol.TheVariants.{Dot, Slash}
 use Rattle.ec_theory.specs.declared.sign.Keyword.{Keyword}
-use Rattle.ec_theory.specs.declared.sign.Keyword.TheVariants.{Rule, Exclusive, Strong}
+use Rattle.ec_theory.specs.declared.sign.Keyword.TheVariants.{Rule, Exclusive, Strong, Initially}
 use Rattle.ec_theory.specs.Body.{Collects}
-use Rattle.ec_theory.specs.Sign.{Sign, Word, Number, Given, signs_of, keyword_of, is_given, is_word, is_number, is_keyword, is_rule, is_exclusive, is_strong}
-use Rattle.ec_theory.specs.Grammar.{TakesPattern, TakesBody, TakesClause, rule, exclusive, strong}
-use Rattle.ec_theory.specs.Walk.{Event, Head, Left, Right, Beginning, PatternAt, AfterPattern, StrongNameAt, SlashAt, ArityAt, AfterArity, moves, moves_behind, first_move, first_stop, stop_of}
+use Rattle.ec_theory.specs.Sign.{Sign, Word, Number, Given, signs_of, keyword_of, is_given, is_word, is_number, is_keyword, is_rule, is_exclusive, is_strong, is_initially}
+use Rattle.ec_theory.specs.Grammar.{TakesPattern, TakesBody, TakesClause, rule, exclusive, strong, initially}
+use Rattle.ec_theory.specs.Walk.{Event, Head, Left, Right, Initial, Beginning, PatternAt, AfterPattern, StrongNameAt, SlashAt, ArityAt, AfterArity, moves, moves_behind, first_move, first_stop, stop_of}
 use Rattle.ec_theory.specs.Reader.{Steps, Refuses, HasKeyword, first_passes, place_at, IsStop}
 use Rattle.ec_theory.proofs.WalkSteps.{steps_signs, step_goes, refused, same_row, goes_on_fault}
 
@@ -32,11 +32,15 @@ pub strong_goes : (l m : Lexemes) → HasKeyword l Strong m → stop_of Beginnin
 unfolding moves first_move
 strong_goes l m has = step_goes Beginning StrongNameAt l (Word has.word) m has.steps (rw has.begins refl)
 
+pub initially_goes : (l m : Lexemes) → HasKeyword l Initially m → stop_of Beginning l ≡ stop_of (PatternAt Initial) m
+unfolding moves first_move
+initially_goes l m has = step_goes Beginning (PatternAt Initial) l (Word has.word) m has.steps (rw has.begins refl)
+
 -- a token that begins no clause
 pub no_clause : (tokens : List Token) (end : Place) (fault : SyntaxFault) → 0 < length tokens → ((test : Keyword → Bool) → first_passes (is_keyword test) (map lexeme_of tokens) ≡ false) → fault ≡ Syntax (place_at (map lexeme_of tokens) end) → IsStop fault (first_stop Beginning (map lexeme_of tokens) end)
 unfolding moves first_move first_stop first_passes place_at
 no_clause [] end fault nonempty fails place = absurd (omega arith)
-no_clause (t ∷ tokens) end fault nonempty fails place = rw (place, fails is_rule, fails is_exclusive, fails is_strong) refl
+no_clause (t ∷ tokens) end fault nonempty fails place = rw (place, fails is_rule, fails is_exclusive, fails is_strong, fails is_initially) refl
 
 -- from the first pattern of a clause to the second
 pub event_to_head : (l : Lexemes) → stop_of (AfterPattern Event) l ≡ stop_of (PatternAt Head) l
@@ -55,6 +59,18 @@ right_ends l m dot = step_goes (AfterPattern Right) Beginning l (Given Dot) m do
 pub right_refused : (l : Lexemes) (fault : SyntaxFault) → Refuses (is_given Dot) l fault → IsStop fault (stop_of (AfterPattern Right) l)
 unfolding moves moves_behind first_move
 right_refused l fault refuses = refused (AfterPattern Right) (is_given Dot) l fault refl (λ s e. rw e refl) refuses
+
+-- behind an initial property
+pub initial_ends : (l m : Lexemes) → Steps l (Given Dot) m → stop_of (AfterPattern Initial) l ≡ stop_of Beginning m
+unfolding moves moves_behind first_move
+initial_ends l m dot = step_goes (AfterPattern Initial) Beginning l (Given Dot) m dot refl
+
+pub initial_refused : (l : Lexemes) (fault : SyntaxFault) → Refuses (is_given Dot) l fault → IsStop fault (stop_of (AfterPattern Initial) l)
+unfolding moves moves_behind first_move
+initial_refused l fault refuses = refused (AfterPattern Initial) (is_given Dot) l fault refl (λ s e. rw e refl) refuses
+
+pub initial_takes : {names : List (List ℕ)} {number : ℕ} {signs : List Sign} {prop : Pattern} (l m : Lexemes) (w : List ℕ) → keyword_of w ≡ Some Initially → TakesPattern names signs prop (signs_of l) → Steps l (Given Dot) m → TakesClause names number (Word w ∷ signs) (clause.Initial (record { clause = number; prop = prop })) (signs_of m)
+initial_takes {names = names} {signs = signs} {prop = prop} l m w begins takes dot = initially begins (subst (λ x. TakesPattern names signs prop x) (steps_signs l (Given Dot) m dot) takes)
 
 pub exclusive_takes : {names : List (List ℕ)} {number : ℕ} {signs middle : List Sign} {left right : Pattern} (l m : Lexemes) (w : List ℕ) → keyword_of w ≡ Some Exclusive → TakesPattern names signs left middle → TakesPattern names middle right (signs_of l) → Steps l (Given Dot) m → TakesClause names number (Word w ∷ signs) (clause.Exclusive (record { clause = number; left = left; right = right })) (signs_of m)
 exclusive_takes {names = names} {middle = middle} {right = right} l m w begins takes_left takes_right dot = exclusive begins takes_left (subst (λ x. TakesPattern names middle right x) (steps_signs l (Given Dot) m dot) takes_right)

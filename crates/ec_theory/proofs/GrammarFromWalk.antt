@@ -14,10 +14,10 @@ use Rattle.ec_theory.specs.declared.clause.Clause.TheVariants as clause
 use Rattle.ec_theory.specs.declared.sign.Symbol.{Symbol}
 use Rattle.ec_theory.specs.declared.sign.Symbol.TheVariants.{If, Not, Anything, Open, Close, Comma, Dot, Slash}
 use Rattle.ec_theory.specs.declared.sign.Keyword.{Keyword}
-use Rattle.ec_theory.specs.declared.sign.Keyword.TheVariants.{Rule, Exclusive, Strong}
-use Rattle.ec_theory.specs.Sign.{Sign, Word, Variable, Number, Given, Compare, symbol_number, keyword_of, variables_of, argument_of, number_of, is_given, is_word, is_number, is_compare, is_argument, is_keyword, is_rule, is_exclusive, is_strong}
-use Rattle.ec_theory.specs.Grammar.{TakesArguments, last, more, TakesPattern, alone, applied, TakesCondition, current, not_current, test, TakesConditions, final, further, TakesBody, empty, conditions, rule, exclusive, strong, tests_of, literals_of, ReadsFrom, no_more, one_more, no_clauses, with_clause}
-use Rattle.ec_theory.specs.Walk.{Part, Event, Head, Left, Right, Condition as PartCondition, Spot, Beginning, PatternAt, AfterName, ArgumentAt, AfterArgument, AfterPattern, ConditionAt, AfterConditionName, CompareAt, RightSideAt, StrongNameAt, SlashAt, ArityAt, AfterArity, Move, on, moves, moves_behind, first_move, is_beginning}
+use Rattle.ec_theory.specs.declared.sign.Keyword.TheVariants.{Rule, Exclusive, Strong, Initially}
+use Rattle.ec_theory.specs.Sign.{Sign, Word, Variable, Number, Given, Compare, symbol_number, keyword_of, variables_of, argument_of, number_of, is_given, is_word, is_number, is_compare, is_argument, is_keyword, is_rule, is_exclusive, is_strong, is_initially}
+use Rattle.ec_theory.specs.Grammar.{TakesArguments, last, more, TakesPattern, alone, applied, TakesCondition, current, not_current, test, TakesConditions, final, further, TakesBody, empty, conditions, rule, exclusive, strong, initially, tests_of, literals_of, ReadsFrom, no_more, one_more, no_clauses, with_clause}
+use Rattle.ec_theory.specs.Walk.{Part, Event, Head, Left, Right, Condition as PartCondition, Initial, Spot, Beginning, PatternAt, AfterName, ArgumentAt, AfterArgument, AfterPattern, ConditionAt, AfterConditionName, CompareAt, RightSideAt, StrongNameAt, SlashAt, ArityAt, AfterArity, Move, on, moves, moves_behind, first_move, is_beginning}
 use Rattle.ec_theory.proofs.WalkEnds.{finishes}
 
 -- ---- what the tokens from a place on are
@@ -75,6 +75,7 @@ module _ (names : List (List ℕ)) where
   BehindPattern Left signs = RightThenDot signs
   BehindPattern Right signs = DotThenClauses signs
   BehindPattern PartCondition signs = AfterCondition signs
+  BehindPattern Initial signs = DotThenClauses signs
 
   record PatternThen (part : Part) (signs : List Sign) : Type 0 where
     pattern : Pattern
@@ -251,6 +252,7 @@ module _ (s : Sign) (signs : List Sign) (later : (next : Spot) → finishes next
       with_word (λ x. RightThenDot names (x ∷ signs)) s m.0 (λ w. record { pattern = record { name = w; args = name.args }; rest = name.rest; takes = name.takes w; dot = name.behind })
   behind_pattern Right e = let m = by_only s signs (is_given Dot) Beginning e in dot_then m.0 m.1
   behind_pattern PartCondition e = after_condition e
+  behind_pattern Initial e = let m = by_only s signs (is_given Dot) Beginning e in dot_then m.0 m.1
 
   -- a pattern that begins with this token
   pattern_then : (part : Part) → is_word s ≡ true → finishes (AfterName part) signs ≡ true → PatternThen names part (s ∷ signs)
@@ -314,6 +316,7 @@ module _ (s : Sign) (signs : List Sign) (later : (next : Spot) → finishes next
           )
       by_keyword w Exclusive begins is number = absurd (false≢true is)
       by_keyword w Strong begins is number = absurd (false≢true is)
+      by_keyword w Initially begins is number = absurd (false≢true is)
 
   exclusive_then : is_keyword is_exclusive s ≡ true → finishes (PatternAt Left) signs ≡ true → Readable (s ∷ signs)
   exclusive_then keyword ends = with_keyword (λ x. Readable (x ∷ signs)) is_exclusive s keyword by_keyword
@@ -329,6 +332,7 @@ module _ (s : Sign) (signs : List Sign) (later : (next : Spot) → finishes next
           )
       by_keyword w (Rule kind) begins is number = absurd (false≢true is)
       by_keyword w Strong begins is number = absurd (false≢true is)
+      by_keyword w Initially begins is number = absurd (false≢true is)
 
   strong_then : is_keyword is_strong s ≡ true → finishes StrongNameAt signs ≡ true → Readable (s ∷ signs)
   strong_then keyword ends = with_keyword (λ x. Readable (x ∷ signs)) is_strong s keyword by_keyword
@@ -342,13 +346,31 @@ module _ (s : Sign) (signs : List Sign) (later : (next : Spot) → finishes next
           )
       by_keyword w (Rule kind) begins is number = absurd (false≢true is)
       by_keyword w Exclusive begins is number = absurd (false≢true is)
+      by_keyword w Initially begins is number = absurd (false≢true is)
+
+  initially_then : is_keyword is_initially s ≡ true → finishes (PatternAt Initial) signs ≡ true → Readable (s ∷ signs)
+  initially_then keyword ends = with_keyword (λ x. Readable (x ∷ signs)) is_initially s keyword by_keyword
+    where
+      by_keyword : (w : List ℕ) (k : Keyword) → keyword_of w ≡ Some k → is_initially k ≡ true → Readable (Word w ∷ signs)
+      by_keyword w Initially begins is number =
+          let names = variables_of (Word w ∷ signs) in
+          let prop = later (PatternAt Initial) ends names in
+          let next = prop.behind.readable (number + 1) in (
+            with_clause (clause.Initial (record { clause = number; prop = prop.pattern })) next.0,
+            one_more (initially begins (subst (λ x. TakesPattern names signs prop.pattern x) prop.behind.dot prop.takes)) next.1,
+          )
+      by_keyword w (Rule kind) begins is number = absurd (false≢true is)
+      by_keyword w Exclusive begins is number = absurd (false≢true is)
+      by_keyword w Strong begins is number = absurd (false≢true is)
 
   step_means : (spot : Spot) → goes_by (moves spot) s signs ≡ true → (names : List (List ℕ)) → Means spot names (s ∷ signs)
   unfolding moves
   step_means Beginning e names =
       ⊎_elim (λ m. rule_then m.0 m.1)
       (λ e2. ⊎_elim (λ m. exclusive_then m.0 m.1)
-      (λ e3. let m = by_only s signs (is_keyword is_strong) StrongNameAt e3 in strong_then m.0 m.1)
+      (λ e3. ⊎_elim (λ m. strong_then m.0 m.1)
+      (λ e4. let m = by_only s signs (is_keyword is_initially) (PatternAt Initial) e4 in initially_then m.0 m.1)
+      (by_first s signs (is_keyword is_strong) StrongNameAt _ e3))
       (by_first s signs (is_keyword is_exclusive) (PatternAt Left) _ e2))
       (by_first s signs (is_keyword is_rule) (PatternAt Event) _ e)
   step_means (PatternAt part) e names = let m = by_only s signs is_word (AfterName part) e in pattern_then s signs later names part m.0 m.1

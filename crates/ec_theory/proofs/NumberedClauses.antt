@@ -10,19 +10,21 @@ use Rattle.ec_check.specs.Numbering.{times, rule_numbers, exclusive_numbers, str
 use Rattle.ec_theory.specs.declared.clause.Clause.{Clause}
 use Rattle.ec_theory.specs.declared.clause.Clause.TheVariants as clause
 use Rattle.ec_theory.specs.Sign.{Sign}
-use Rattle.ec_theory.specs.Grammar.{TakesClause, rule, exclusive, strong, ReadsFrom, no_more, one_more, with_clause}
+use Rattle.ec_theory.specs.Grammar.{TakesClause, rule, exclusive, strong, initially, ReadsFrom, no_more, one_more, with_clause}
 
 -- the number of a clause
 number_in : Clause → ℕ
 number_in (clause.Rule r) = r.clause
 number_in (clause.Exclusive e) = e.clause
 number_in (clause.Strong s) = s.clause
+number_in (clause.Initial i) = i.clause
 
 takes-number : {names : List (List ℕ)} {number : ℕ} {signs : List Sign} {c : Clause} {rest : List Sign} → TakesClause names number signs c rest → number_in c ≡ number
 unfolding number_in
 takes-number (rule begins event head body) = refl
 takes-number (exclusive begins left right) = refl
 takes-number (strong begins) = refl
+takes-number (initially begins prop) = refl
 
 -- ---- how many clauses have a number
 
@@ -41,12 +43,14 @@ unfolding clauses_numbered with_clause number_in
 clauses_numbered-with n (clause.Rule r) theory = let e = times-cons n r.clause (rule_numbers theory) in omega (arith, e)
 clauses_numbered-with n (clause.Exclusive x) theory = let e = times-cons n x.clause (exclusive_numbers theory) in omega (arith, e)
 clauses_numbered-with n (clause.Strong s) theory = let e = times-cons n s.clause (strong_numbers theory) in omega (arith, e)
+clauses_numbered-with n (clause.Initial i) theory = let e = times-cons n i.clause (initial_numbers theory) in omega (arith, e)
 
 clause_count-with : (c : Clause) (theory : Theory) → clause_count (with_clause c theory) ≡ 1 + clause_count theory
 unfolding clause_count with_clause
 clause_count-with (clause.Rule r) theory = omega arith
 clause_count-with (clause.Exclusive e) theory = omega arith
 clause_count-with (clause.Strong s) theory = omega arith
+clause_count-with (clause.Initial i) theory = omega arith
 
 -- another number
 eqb-other : (a b : ℕ) → a < b → eqb a b ≡ false
@@ -130,6 +134,12 @@ AllRise-with first (clause.Strong s) theory same later = record {
   exclusives = Rises-later first _ later.exclusives;
   strongs = Rises-cons first s.clause (strong_numbers theory) same later.strongs;
   initials = Rises-later first _ later.initials;
+}
+AllRise-with first (clause.Initial i) theory same later = record {
+  rules = Rises-later first _ later.rules;
+  exclusives = Rises-later first _ later.exclusives;
+  strongs = Rises-later first _ later.strongs;
+  initials = Rises-cons first i.clause (initial_numbers theory) same later.initials;
 }
 
 pub all_rise : {number : ℕ} {signs : List Sign} {theory : Theory} → ReadsFrom number signs theory → AllRise number theory

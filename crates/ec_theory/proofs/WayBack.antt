@@ -7,7 +7,7 @@ use Rattle.ec_tokens.specs.declared.token.TokenKind.{TokenKind}
 use Rattle.ec_tokens.specs.declared.token.TokenKind.TheVariants as kind
 use Rattle.ec_tokens.specs.Lexeme.{Lexeme, is_spelt, is_spelling}
 use Rattle.ec_theory.specs.Sign.{sign_of, name_sign, mark_sign}
-use Rattle.ec_theory.specs.Walk.{Part, Event, Head, Left, Right, Condition, Spot, Beginning, PatternAt, AfterName, ArgumentAt, AfterArgument, AfterPattern, ConditionAt, AfterConditionName, CompareAt, RightSideAt, StrongNameAt, SlashAt, ArityAt, AfterArity, LeadsBack, walk, moves, moves_behind, first_move}
+use Rattle.ec_theory.specs.Walk.{Part, Event, Head, Left, Right, Condition, Initial, Spot, Beginning, PatternAt, AfterName, ArgumentAt, AfterArgument, AfterPattern, ConditionAt, AfterConditionName, CompareAt, RightSideAt, StrongNameAt, SlashAt, ArityAt, AfterArity, LeadsBack, walk, moves, moves_behind, first_move}
 
 -- a token, wherever it stands
 abbrev token : TokenKind → List ℕ → Lexeme
@@ -30,6 +30,7 @@ behind_back Head = record { tokens = mark (codes ".") ∷ []; spelt = refl; back
 behind_back Left = record { tokens = name ∷ mark (codes ".") ∷ []; spelt = refl; back = refl }
 behind_back Right = record { tokens = mark (codes ".") ∷ []; spelt = refl; back = refl }
 behind_back Condition = record { tokens = mark (codes ".") ∷ []; spelt = refl; back = refl }
+behind_back Initial = record { tokens = mark (codes ".") ∷ []; spelt = refl; back = refl }
 
 name_back : (part : Part) → LeadsBack (AfterName part)
 unfolding walk moves moves_behind first_move sign_of name_sign mark_sign is_spelt is_spelling is_name begins_with is_lower is_name_byte
@@ -38,6 +39,7 @@ name_back Head = record { tokens = mark (codes ".") ∷ []; spelt = refl; back =
 name_back Left = record { tokens = name ∷ mark (codes ".") ∷ []; spelt = refl; back = refl }
 name_back Right = record { tokens = mark (codes ".") ∷ []; spelt = refl; back = refl }
 name_back Condition = record { tokens = mark (codes ".") ∷ []; spelt = refl; back = refl }
+name_back Initial = record { tokens = mark (codes ".") ∷ []; spelt = refl; back = refl }
 
 pub way_back : (spot : Spot) → LeadsBack spot
 unfolding walk moves moves_behind first_move sign_of name_sign mark_sign is_spelt is_spelling is_name begins_with is_lower is_name_byte number_value

@@ -9,7 +9,7 @@ use Rattle.ec_terms.specs.declared.theory.Literal.{Literal}
 use Rattle.ec_terms.specs.declared.theory.Kind.{Kind}
 use Rattle.ec_terms.specs.declared.theory.Theory.{Theory}
 use Rattle.ec_theory.specs.declared.sign.Symbol.TheVariants.{If, Not, Open, Close, Comma, Dot, Slash}
-use Rattle.ec_theory.specs.declared.sign.Keyword.TheVariants.{Rule, Exclusive, Strong}
+use Rattle.ec_theory.specs.declared.sign.Keyword.TheVariants.{Rule, Exclusive, Strong, Initially}
 use Rattle.ec_theory.specs.declared.condition.Condition.{Condition}
 use Rattle.ec_theory.specs.declared.condition.Condition.TheVariants as condition
 use Rattle.ec_theory.specs.declared.clause.Clause.{Clause}
@@ -54,7 +54,7 @@ literals_of [] = []
 literals_of (condition.Test t ∷ cs) = literals_of cs
 literals_of (condition.Literal l ∷ cs) = l ∷ literals_of cs
 
--- ( rule | exclusive | strong ) ".", as the clause with a number
+-- ( rule | exclusive | strong | initially ) ".", as the clause with a number
 pub data TakesClause (names : List (List ℕ)) (number : ℕ) : List Sign → Clause → List Sign → Type 0 where
   rule : {w : List ℕ} {kind : Kind} {signs middle tail : List Sign} {event head : Pattern} {cs : List Condition} {rest : List Sign} →
       keyword_of w ≡ Some (Rule kind) → TakesPattern names signs event middle → TakesPattern names middle head tail → TakesBody names tail cs rest →
@@ -65,6 +65,9 @@ pub data TakesClause (names : List (List ℕ)) (number : ℕ) : List Sign → Cl
   strong : {w name : List ℕ} {arity : ℤ} {rest : List Sign} →
       keyword_of w ≡ Some Strong →
       TakesClause names number (Word w ∷ Word name ∷ Given Slash ∷ Number arity ∷ Given Dot ∷ rest) (clause.Strong (record { clause = number; name = name; arity = arity })) rest
+  initially : {w : List ℕ} {signs : List Sign} {prop : Pattern} {rest : List Sign} →
+      keyword_of w ≡ Some Initially → TakesPattern names signs prop (Given Dot ∷ rest) →
+      TakesClause names number (Word w ∷ signs) (clause.Initial (record { clause = number; prop = prop })) rest
 
 -- a theory without clauses
 abbrev pub no_clauses : Theory
@@ -75,6 +78,7 @@ unfoldable pub with_clause : Clause → Theory → Theory
 with_clause (clause.Rule r) theory = record { rules = r ∷ theory.rules; exclusives = theory.exclusives; strongs = theory.strongs; initials = theory.initials }
 with_clause (clause.Exclusive e) theory = record { rules = theory.rules; exclusives = e ∷ theory.exclusives; strongs = theory.strongs; initials = theory.initials }
 with_clause (clause.Strong s) theory = record { rules = theory.rules; exclusives = theory.exclusives; strongs = s ∷ theory.strongs; initials = theory.initials }
+with_clause (clause.Initial i) theory = record { rules = theory.rules; exclusives = theory.exclusives; strongs = theory.strongs; initials = i ∷ theory.initials }
 
 -- { clause }: all tokens are clauses, numbered from a number on, and make a theory
 pub data ReadsFrom : ℕ → List Sign → Theory → Type 0 where

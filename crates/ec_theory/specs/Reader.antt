@@ -109,6 +109,7 @@ unfoldable pub clause_added : Theory → Clause → Theory
 clause_added theory (clause.Rule r) = record theory { rules = theory.rules ++ r ∷ [] }
 clause_added theory (clause.Exclusive e) = record theory { exclusives = theory.exclusives ++ e ∷ [] }
 clause_added theory (clause.Strong s) = record theory { strongs = theory.strongs ++ s ∷ [] }
+clause_added theory (clause.Initial i) = record theory { initials = theory.initials ++ i ∷ [] }
 
 -- a word that begins a kind of clause is taken
 pub record HasKeyword (before : Lexemes) (keyword : Keyword) (after : Lexemes) : Type 0 where

@@ -14,7 +14,7 @@ use Rattle.ec_tokens.specs.declared.token.TokenKind.TheVariants as kind
 use Rattle.ec_theory.specs.declared.sign.Symbol.{Symbol}
 use Rattle.ec_theory.specs.declared.sign.Symbol.TheVariants.{If, Not, Anything, Open, Close, Comma, Dot, Slash}
 use Rattle.ec_theory.specs.declared.sign.Keyword.{Keyword}
-use Rattle.ec_theory.specs.declared.sign.Keyword.TheVariants.{Rule, Exclusive, Strong}
+use Rattle.ec_theory.specs.declared.sign.Keyword.TheVariants.{Rule, Exclusive, Strong, Initially}
 
 -- a name other than `if` and `not`, a variable, a number, a symbol that is always the same, or a comparison
 pub data Sign : Type 0 where
@@ -67,7 +67,8 @@ keyword_of word =
     else (if bytes_eq word (codes "terminates") then Some (Rule Terminates)
     else (if bytes_eq word (codes "exclusive") then Some Exclusive
     else (if bytes_eq word (codes "strong") then Some Strong
-    else None)))
+    else (if bytes_eq word (codes "initially") then Some Initially
+    else None))))
 
 -- ---- tests of one token
 
@@ -134,16 +135,25 @@ abbrev pub is_rule : Keyword → Bool
 is_rule (Rule kind) = true
 is_rule Exclusive = false
 is_rule Strong = false
+is_rule Initially = false
 
 abbrev pub is_exclusive : Keyword → Bool
 is_exclusive (Rule kind) = false
 is_exclusive Exclusive = true
 is_exclusive Strong = false
+is_exclusive Initially = false
 
 abbrev pub is_strong : Keyword → Bool
 is_strong (Rule kind) = false
 is_strong Exclusive = false
 is_strong Strong = true
+is_strong Initially = false
+
+abbrev pub is_initially : Keyword → Bool
+is_initially (Rule kind) = false
+is_initially Exclusive = false
+is_initially Strong = false
+is_initially Initially = true
 
 -- ---- variables
 

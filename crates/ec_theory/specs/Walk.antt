@@ -5,11 +5,11 @@ use Rattle.std.specs.Option.{option_map_or}
 use Rattle.ec_tokens.specs.declared.place.Place.{Place}
 use Rattle.ec_tokens.specs.Lexeme.{Lexeme, Lexemes, is_spelt}
 use Rattle.ec_theory.specs.declared.sign.Symbol.TheVariants.{If, Not, Open, Close, Comma, Dot, Slash}
-use Rattle.ec_theory.specs.Sign.{Sign, sign_of, is_given, is_word, is_number, is_compare, is_argument, is_keyword, is_rule, is_exclusive, is_strong}
+use Rattle.ec_theory.specs.Sign.{Sign, sign_of, is_given, is_word, is_number, is_compare, is_argument, is_keyword, is_rule, is_exclusive, is_strong, is_initially}
 
 -- what a pattern is in its clause
 pub data Part : Type 0 where
-  Event Head Left Right Condition : Part
+  Event Head Left Right Condition Initial : Part
 
 -- a place within a clause: what comes next, or what came last
 pub data Spot : Type 0 where
@@ -35,10 +35,11 @@ moves_behind Head = on (is_given If) ConditionAt ∷ on (is_given Dot) Beginning
 moves_behind Left = on is_word (AfterName Right) ∷ []
 moves_behind Right = on (is_given Dot) Beginning ∷ []
 moves_behind Condition = on (is_given Comma) ConditionAt ∷ on (is_given Dot) Beginning ∷ []
+moves_behind Initial = on (is_given Dot) Beginning ∷ []
 
 -- where the tokens at a place lead; of several the first counts
 unfoldable pub moves : Spot → List Move
-moves Beginning = on (is_keyword is_rule) (PatternAt Event) ∷ on (is_keyword is_exclusive) (PatternAt Left) ∷ on (is_keyword is_strong) StrongNameAt ∷ []
+moves Beginning = on (is_keyword is_rule) (PatternAt Event) ∷ on (is_keyword is_exclusive) (PatternAt Left) ∷ on (is_keyword is_strong) StrongNameAt ∷ on (is_keyword is_initially) (PatternAt Initial) ∷ []
 moves (PatternAt part) = on is_word (AfterName part) ∷ []
 moves (AfterName part) = on (is_given Open) (ArgumentAt part) ∷ moves_behind part
 moves (ArgumentAt part) = on is_argument (AfterArgument part) ∷ []

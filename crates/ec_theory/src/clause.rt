@@ -1,9 +1,9 @@
 //! The reader of clauses.
 ghost use Rattle.std.specs.Prelude.{◌≡◌, ◌<◌, ◌∷◌, ℕ, List, Some, IfOk, OnOk, length};
-ghost use Rattle.ec_theory.specs.declared.sign.Keyword.TheVariants.{Rule as RuleWord, Exclusive as ExclusiveWord, Strong as StrongWord};
+ghost use Rattle.ec_theory.specs.declared.sign.Keyword.TheVariants.{Rule as RuleWord, Exclusive as ExclusiveWord, Strong as StrongWord, Initially as InitiallyWord};
 ghost use Rattle.ec_theory.specs.Sign.{Word, signs_of, keyword_of, variables_of};
 ghost use Rattle.ec_theory.specs.Grammar.{TakesClause};
-ghost use Rattle.ec_theory.specs.Walk.{Beginning, PatternAt, StrongNameAt, Event, Left};
+ghost use Rattle.ec_theory.specs.Walk.{Beginning, PatternAt, StrongNameAt, Event, Left, Initial as PartInitial};
 ghost use Rattle.ec_theory.specs.Reader.{left_of, Goes, clause_added};
 
 use crate::condition::read_body;
@@ -12,7 +12,7 @@ use crate::fault::SyntaxFault;
 use crate::pattern::read_pattern;
 use crate::sign::{Keyword, Symbol, name_of};
 use crate::variables::Variables;
-use ec_terms::{Exclusive, Kind, NoMemory, Rule, Strong, Theory};
+use ec_terms::{Exclusive, Initial, Kind, NoMemory, Rule, Strong, Theory};
 use std::alloc::Global;
 
 /// One clause of a theory.
@@ -21,6 +21,7 @@ pub enum Clause {
     Rule(Rule),
     Exclusive(Exclusive),
     Strong(Strong),
+    Initial(Initial),
 }
 
 /// Reads a rule behind its first word.
@@ -93,6 +94,25 @@ fn read_strong<'t, 'a>(
     Ok((Clause::Strong(declaration), rest))
 }
 
+/// Reads an initial property behind its first word.
+fn read_initial<'t, 'a>(
+    alloc: Global,
+    names: &Variables<'a>,
+    number: u32,
+    cursor: Cursor<'t, 'a>,
+) -> Result<(Clause, Cursor<'t, 'a>), SyntaxFault>
+    ensures takes { IfOk result (λ x. (w : List ℕ) → keyword_of w ≡ Some InitiallyWord → TakesClause names.now number (Word w ∷ signs_of (left_of cursor.entry)) x.0 (signs_of (left_of x.1))) }
+    ensures goes { Goes (PatternAt PartInitial) Beginning (left_of cursor.entry) result }
+{
+    let (prop, behind) = read_pattern(alloc, names, cursor)?;
+    let rest = behind.expect(Symbol::Dot)?;
+    let declaration = Initial {
+        clause: number,
+        prop,
+    };
+    Ok((Clause::Initial(declaration), rest))
+}
+
 /// Reads one clause, which gets this number.
 pub fn read_clause<'t, 'a>(
     alloc: Global,
@@ -108,6 +128,7 @@ pub fn read_clause<'t, 'a>(
         Some((Keyword::Rule(kind), behind)) => read_rule(alloc, &names, number, kind, behind),
         Some((Keyword::Exclusive, behind)) => read_exclusive(alloc, &names, number, behind),
         Some((Keyword::Strong, behind)) => read_strong(number, behind),
+        Some((Keyword::Initially, behind)) => read_initial(alloc, &names, number, behind),
         None => Err(cursor.fault()),
     }
 }
@@ -121,5 +142,6 @@ pub fn push_clause(theory: &mut Theory, clause: Clause) -> Result<(), NoMemory>
         Clause::Rule(rule) => theory.rules.push(rule),
         Clause::Exclusive(declaration) => theory.exclusives.push(declaration),
         Clause::Strong(declaration) => theory.strongs.push(declaration),
+        Clause::Initial(declaration) => theory.initials.push(declaration),
     }
 }

@@ -29,6 +29,7 @@ pub enum Keyword {
     Rule(Kind),
     Exclusive,
     Strong,
+    Initially,
 }
 
 /// What a token is to the grammar.
@@ -222,6 +223,8 @@ pub fn keyword_of(word: &[u8]) -> Option<Keyword>
         Some(Keyword::Exclusive)
     } else if is_text(word, b"strong") {
         Some(Keyword::Strong)
+    } else if is_text(word, b"initially") {
+        Some(Keyword::Initially)
     } else {
         None
     }

@@ -60,9 +60,13 @@ fn said(alloc: Global, text: &str) -> Result<String, AllocError> {
     let rules = theory.rules.len();
     let exclusives = theory.exclusives.len();
     let strongs = theory.strongs.len();
+    let initials = theory.initials.len();
     match check(theory) {
-        Ok(_) => format!(in alloc;
+        Ok(_) if initials == 0 => format!(in alloc;
             "accepted rules {rules} exclusives {exclusives} strongs {strongs}"
+        ),
+        Ok(_) => format!(in alloc;
+            "accepted rules {rules} exclusives {exclusives} strongs {strongs} initials {initials}"
         ),
         Err(fault) => wrong(alloc, fault),
     }
@@ -107,7 +111,7 @@ exclusive place(B,X) place(B,Y).
 ";
 
 /// Each text, and what is said of it.
-const TEXTS: [(&str, &str); 40] = [
+const TEXTS: [(&str, &str); 39] = [
     ("", "accepted rules 0 exclusives 0 strongs 0"),
     (LIGHTS, "accepted rules 7 exclusives 1 strongs 0"),
     (LENDING, "accepted rules 7 exclusives 1 strongs 0"),
@@ -154,7 +158,6 @@ const TEXTS: [(&str, &str); 40] = [
     ("exclusive p.", "theory 1 12 syntax"),
     ("strong p/X.", "theory 1 10 syntax"),
     ("strong p/2", "theory 1 11 syntax"),
-    ("initially p.", "theory 1 1 syntax"),
     ("if\r\n%\t;\r\n;", "theory 3 1 byte"),
     ("initiates push(P) lit(L).", "theory 1 unbound"),
     ("initiates push(P) lit(P) if on(L).", "theory 1 unbound"),
@@ -174,8 +177,68 @@ fn texts(rt: HostRuntime) -> Result<(), Fail> {
     Ok(())
 }
 
+/// Texts with initial properties, and what is said of each.
+const INITIALS: [(&str, &str); 26] = [
+    (
+        "initially powered(a).",
+        "accepted rules 0 exclusives 0 strongs 0 initials 1",
+    ),
+    (
+        "strong p/0. initially p. initiates e p. initially p.% twice",
+        "accepted rules 1 exclusives 0 strongs 1 initials 2",
+    ),
+    (
+        "initially initially.\ninitially strong(-007,strong).",
+        "accepted rules 0 exclusives 0 strongs 0 initials 2",
+    ),
+    // a name like others where no clause begins
+    (
+        "initiates initially(initially) initially if initially = a, not initially.",
+        "accepted rules 1 exclusives 0 strongs 0",
+    ),
+    (
+        "exclusive initially initially. strong initially/0.",
+        "accepted rules 0 exclusives 1 strongs 1",
+    ),
+    // a clause that ends too early, or too late
+    ("initially", "theory 1 10 syntax"),
+    ("initially\n", "theory 2 1 syntax"),
+    ("initially.", "theory 1 10 syntax"),
+    ("initially p", "theory 1 12 syntax"),
+    ("initially p(a,b)", "theory 1 17 syntax"),
+    ("initially p(a,", "theory 1 15 syntax"),
+    ("initially p(a.", "theory 1 14 syntax"),
+    ("initially p().", "theory 1 13 syntax"),
+    ("initially p q.", "theory 1 13 syntax"),
+    ("initially p, q.", "theory 1 12 syntax"),
+    ("initially p/0.", "theory 1 12 syntax"),
+    ("initially p if q.", "theory 1 13 syntax"),
+    ("initially not p.", "theory 1 11 syntax"),
+    ("initially P.", "theory 1 11 syntax"),
+    ("Initially p.", "theory 1 1 syntax"),
+    ("initially p. initially p(X).", "theory 2 unbound"),
+    ("initially p(_).", "theory 1 any"),
+    ("initially p(X,_).", "theory 1 any"),
+    (
+        "initially p(a,b,c,d,e,f,g,h).",
+        "accepted rules 0 exclusives 0 strongs 0 initials 1",
+    ),
+    ("initially p(a,b,c,d,e,f,g,_,X).", "theory 1 arity"),
+    // the first clause with a fault is told, of whatever kind
+    ("initially p. strong p/9. initially p(_).", "theory 2 arity"),
+];
+
+#[test]
+fn initial_properties(rt: HostRuntime) -> Result<(), Fail> {
+    for (text, line) in INITIALS {
+        let answer = said(rt.alloc(), text)?;
+        assert_eq!(rt; answer.as_str(), line);
+    }
+    Ok(())
+}
+
 /// Each limit at it and one over it: what stands before, what is repeated, how often, and what stands behind.
-const LIMITS: [(&str, &str, usize, &str, &str); 20] = [
+const LIMITS: [(&str, &str, usize, &str, &str); 22] = [
     (
         "initiates ",
         "a",
@@ -216,6 +279,20 @@ const LIMITS: [(&str, &str, usize, &str, &str); 20] = [
         "accepted rules 0 exclusives 0 strongs 1024",
     ),
     ("", "strong p/0. ", 1025, "", "theory 1025 many-strongs"),
+    (
+        "",
+        "initially p. ",
+        1024,
+        "strong p/0.",
+        "accepted rules 0 exclusives 0 strongs 1 initials 1024",
+    ),
+    (
+        "strong p/0.",
+        "initially p. ",
+        1025,
+        "",
+        "theory 1026 many-initials",
+    ),
     (
         "initiates e p if a = a",
         ", a < b",

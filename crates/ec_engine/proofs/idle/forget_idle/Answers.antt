@@ -5,7 +5,7 @@ use Rattle.std.proofs.lemmas.List.{take_all, take_more}
 use Rattle.ec_numbered.specs.PropSet.{has_number}
 use Rattle.ec_parts.specs.StandFor.{StandForBoth, view_of}
 use Rattle.ec_engine.specs.Idle.{StandForSome}
-use Rattle.ec_engine.proofs.Forgetting.{term_was, mentions_were, passed_more, keeps_live}
+use Rattle.ec_engine.proofs.Forgetting.{term_was, mentions_were, passed_more, keeps_live, keeps_live_or}
 use Rattle.ec_engine.proofs.idle.forget_idle.Goals as goal
 
 pub forget_one-requires : goal.forget_one-requires
@@ -39,3 +39,12 @@ returns-clause-stands g c events tally stand listed =
       only_live = λ id t is. keeps_live c.args.parts.now.checked events c.loop-p.parts.props (has_number id c.args.list.now) id t both.tables.kept is
           (λ was. inv.passed id (ap (has_number id) (take_all c.loop-p.p-index c.args.list.now c.loop-p-test.false) ∙ was)) (listed id t (inv.terms id t is));
     }
+
+pub returns-clause-unlisted : goal.returns-clause-unlisted
+returns-clause-unlisted g c events tally stand =
+    let inv = c.loop-p.invariant in
+    let both = inv.both events tally stand in (
+      both,
+      λ others listed id t is. keeps_live_or c.args.parts.now.checked events c.loop-p.parts.props (has_number id c.args.list.now) (others id) id t both.tables.kept is
+          (λ was. inv.passed id (ap (has_number id) (take_all c.loop-p.p-index c.args.list.now c.loop-p-test.false) ∙ was)) (listed id t (inv.terms id t is)),
+    )

@@ -5,8 +5,10 @@ use Rattle.std.specs.Prelude.{Err}
 use Rattle.std.proofs.lemmas.List.{length-map, length-take-le}
 use Rattle.ec_axioms.specs.Events.{plain_update}
 use Rattle.ec_parts.proofs.Mentioned.{map-cut, map-take_more}
-use Rattle.ec_engine.specs.Updates.{updated, updated_from}
-use Rattle.ec_engine.proofs.Batches.{goes_ok, updated_from-next, updated_from-refused}
+use Rattle.ec_replies.specs.Runs.{may_want_by}
+use Rattle.ec_replies.specs.Updates.{updated, updated_from}
+use Rattle.ec_engine.specs.Revise.{batch_may_want_memory}
+use Rattle.ec_engine.proofs.Batches.{batch_may_want-next, goes_ok, updated_from-next, updated_from-refused}
 use Rattle.ec_engine.specs.Walk.{HasWalkedTo}
 use Rattle.ec_engine.proofs.through.walk_through.Goals as goal
 
@@ -14,14 +16,16 @@ pub loop-one-init : goal.loop-one-init
 unfolding updated_from
 loop-one-init g c = record { so_far = λ soon start. (soon, refl, start); counted = refl; theory = refl; store = refl; len = omega arith; steps = omega arith }
 
-pub update-requires-clause-walked : goal.update-requires-clause-walked
-update-requires-clause-walked g c =
+pub update-requires : goal.update-requires
+update-requires g c =
     let inv = c.loop-one.invariant in
     let mid = inv.so_far c.requires.walked.soon c.requires.walked.to in
     record {
-      soon = mid.0;
-      to = subst (λ events. HasWalkedTo g.T.Moment.rank c.loop-one.parts.checked events mid.0 (view_of c.loop-one.parts) c.loop-one.tally c.loop-one.walk) (sym (ap (λ s. s.events) inv.store))
-          (subst (λ theory. HasWalkedTo g.T.Moment.rank theory c.args.parts.now.store.events mid.0 (view_of c.loop-one.parts) c.loop-one.tally c.loop-one.walk) (sym inv.theory) mid.2);
+      walked = record {
+        soon = mid.0;
+        to = subst (λ events. HasWalkedTo g.T.Moment.rank c.loop-one.parts.checked events mid.0 (view_of c.loop-one.parts) c.loop-one.tally c.loop-one.walk) (sym (ap (λ s. s.events) inv.store))
+            (subst (λ theory. HasWalkedTo g.T.Moment.rank theory c.args.parts.now.store.events mid.0 (view_of c.loop-one.parts) c.loop-one.tally c.loop-one.walk) (sym inv.theory) mid.2);
+      };
     }
 
 pub returns-in-Err-Refused-clause-goes : goal.returns-in-Err-Refused-clause-goes
@@ -55,11 +59,19 @@ returns-in-Err-Memory-clause-goes g c soon start =
     let to = subst (λ events. HasWalkedTo g.T.Moment.rank c.loop-one.parts.checked events mid.0 (view_of c.loop-one.parts) c.loop-one.tally c.loop-one.walk) (sym (ap (λ s. s.events) inv.store))
     (subst (λ theory. HasWalkedTo g.T.Moment.rank theory c.args.parts.now.store.events mid.0 (view_of c.loop-one.parts) c.loop-one.tally c.loop-one.walk) (sym inv.theory) mid.2) in
     let gone = rw c.in-Err-Memory.field-0-is at (c.in-Err-Memory.ensures.goes mid.0 to) in
-    record {
-      soon = mid.0;
-      to = subst (λ events. HasWalkedTo g.T.Moment.rank c.args.parts.now.checked events mid.0 (view_of c.update.new.parts) c.update.new.tally c.update.new.walk) (ap (λ s. s.events) inv.store)
-          (subst (λ theory. HasWalkedTo g.T.Moment.rank theory c.loop-one.parts.store.events mid.0 (view_of c.update.new.parts) c.update.new.tally c.update.new.walk) inv.theory (gone));
-    }
+    let f = plain_update g.T.Moment.rank in
+    let xs = c.args.batch.now in
+    let i = c.loop-one.one-index in (
+      ap (λ us. batch_may_want_memory c.args.parts.now.checked soon us) (map-cut f xs i c.one-item.result c.loop-one-test.true)
+          ∙ ap (λ x. batch_may_want_memory c.args.parts.now.checked soon (map f (take i xs) ++ f x ∷ map f (drop (i + 1) xs))) (sym c.one-item.is)
+          ∙ batch_may_want-next c.args.parts.now.checked soon mid.0 (map f (take i xs)) (map f (drop (i + 1) xs)) (f c.one-item.result) mid.1
+          (ap (λ t. may_want_by (updated t mid.0 (f c.one-item.result))) (sym inv.theory) ∙ gone.0),
+      record {
+        soon = mid.0;
+        to = subst (λ events. HasWalkedTo g.T.Moment.rank c.args.parts.now.checked events mid.0 (view_of c.update.new.parts) c.update.new.tally c.update.new.walk) (ap (λ s. s.events) inv.store)
+            (subst (λ theory. HasWalkedTo g.T.Moment.rank theory c.loop-one.parts.store.events mid.0 (view_of c.update.new.parts) c.update.new.tally c.update.new.walk) inv.theory gone.1);
+      },
+    )
 
 pub loop-one-preserved : goal.loop-one-preserved
 loop-one-preserved g c = record {

@@ -4,7 +4,7 @@ use Rattle.indexmap.specs.IndexMap.{index_map_len}
 use Rattle.ec_axioms.specs.Calculus.{PlainEvent}
 use Rattle.ec_axioms.specs.Events.{plain_update}
 use Rattle.ec_parts.specs.StandFor.{view_of}
-use Rattle.ec_engine.specs.Updates.{updated_from}
+use Rattle.ec_replies.specs.Updates.{updated_from}
 use Rattle.ec_engine.specs.Walk.{HasWalkedTo}
 use Rattle.ec_engine.proofs.through.walk_through.Given as goal
 

@@ -24,7 +24,7 @@ restore_old-requires g c =
     let there : slice_get entries i ≡ Some (k, n) = sym c.in-Some.ensures.entry in
     let before = untouched (drop i entries) hist in
     let both = subst (λ (p : Parts _ _ _ _). StandForBoth rank theory hist before (view_of p) c.loop-i.tally) inv.rest inv.so_far in
-    subst (λ (p : Parts _ _ _ _). MayRestore rank p.checked (view_of p) c.loop-i.tally n) (sym inv.rest)
+    subst (λ (p : Parts _ _ _ _). MayRestore rank p.checked (view_of p) c.loop-i.tally n.old) (sym inv.rest)
     (record {
       soon = before;
       id = k;
@@ -49,7 +49,7 @@ loop-i-preserved g c =
     let before = untouched (drop i entries) hist in
     let both = subst (λ (p : Parts _ _ _ _). StandForBoth rank theory hist before (view_of p) c.loop-i.tally) inv.rest inv.so_far in
     let next = put_back_next entries i k n hist both.caches.history c.len-2.ensures.unique there in
-    let back = subst (λ (p : Parts _ _ _ _). Restores rank p.checked n (view_of p) c.loop-i.tally (view_of c.restore_old.new.parts) c.restore_old.new.tally) inv.rest c.restore_old.ensures.back in
+    let back = subst (λ (p : Parts _ _ _ _). Restores rank p.checked n.old (view_of p) c.loop-i.tally (view_of c.restore_old.new.parts) c.restore_old.new.tally) inv.rest c.restore_old.ensures.back in
     record {
       so_far = subst (λ es. StandForBoth rank theory hist es (view_of c.restore_old.new.parts) c.restore_old.new.tally) next
           (back before k (record { both = both; old = c.requires.halfway.old k n c.in-Some.ensures.value; few = few_back theory entries i most_mentions hist _ next c.requires.within.few_mentions }));

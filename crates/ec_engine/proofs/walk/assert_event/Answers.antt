@@ -13,9 +13,9 @@ use Rattle.ec_parts.specs.declared.parts.Parts.{Parts}
 use Rattle.ec_parts.specs.StandFor.{StandForBoth, view_of}
 use Rattle.ec_engine.specs.Limited.{ComesIn}
 use Rattle.ec_engine.specs.Net.{old_slot_by}
-use Rattle.ec_engine.specs.Updates.{with_few_mentions}
+use Rattle.ec_replies.specs.Updates.{with_few_mentions}
 use Rattle.ec_engine.proofs.LetIn.{shown_after}
-use Rattle.ec_engine.proofs.WalkSteps.{present, old_slots, stays, comes_in, keeps_terms, new_terms, put_as, net_of, refused_present, refused_full, asked_limits}
+use Rattle.ec_engine.proofs.WalkSteps.{present, old_slots, stays, comes_in, keeps_terms, new_terms, put_as, net_of, refused_present, refused_full, asked_limits, may_want-asserted}
 use Rattle.ec_engine.proofs.walk.assert_event.Goals as goal
 
 pub returns-then-is_present-clause-goes : goal.returns-then-is_present-clause-goes
@@ -35,28 +35,47 @@ returns-then-walk-ge-MOST_EVENTS-clause-goes g c soon walked =
     )
 
 pub returns-in_default-clause-goes : goal.returns-in_default-clause-goes
-returns-in_default-clause-goes g c soon walked = stays walked _ _ _ refl walked.both (λ id p is. is) (λ id p is. inl is) c.make_room.ensures.same refl (λ id is. is) (λ id is. is)
+returns-in_default-clause-goes g c soon walked =
+    let were = walked.count in
+    let room : length soon + 1 ≤ most_events = omega arith in
+    let absent : has_id c.args.event.now.id soon ≡ false = sym (present walked c.args.event.now.id) ∙ sym c.is_present.ensures ∙ c.if-is_present.false in (
+      may_want-asserted c.args.parts.now.checked soon (event_of g.T.Moment.rank c.args.event.now) absent room,
+      stays walked _ _ _ refl walked.both (λ id p is. is) (λ id p is. inl is) c.make_room.ensures.same refl (λ id is. is) (λ id is. is),
+    )
 
 pub returns-in_default-copy_of-clause-goes : goal.returns-in_default-copy_of-clause-goes
-returns-in_default-copy_of-clause-goes g c soon walked = stays walked _ _ _ refl walked.both (λ id p is. is) (λ id p is. inl is) c.make_room.ensures.same refl (λ id is. is) (λ id is. is)
+returns-in_default-copy_of-clause-goes g c soon walked =
+    let were = walked.count in
+    let room : length soon + 1 ≤ most_events = omega arith in
+    let absent : has_id c.args.event.now.id soon ≡ false = sym (present walked c.args.event.now.id) ∙ sym c.is_present.ensures ∙ c.if-is_present.false in (
+      may_want-asserted c.args.parts.now.checked soon (event_of g.T.Moment.rank c.args.event.now) absent room,
+      stays walked _ _ _ refl walked.both (λ id p is. is) (λ id p is. inl is) c.make_room.ensures.same refl (λ id is. is) (λ id is. is),
+    )
 
-pub enter-requires-clause-stand : goal.enter-requires-clause-stand
-enter-requires-clause-stand g c = record {
-  now = history_of g.T.Moment.rank c.args.parts.now.store.events;
-  soon = c.requires.walked.soon;
-  tally = c.args.tally.now;
-  few = c.requires.walked.to.few_now;
-  stand = c.requires.walked.to.both;
+pub enter-requires : goal.enter-requires
+enter-requires g c = record {
+  stand = record {
+    now = history_of g.T.Moment.rank c.args.parts.now.store.events;
+    soon = c.requires.walked.soon;
+    tally = c.args.tally.now;
+    few = c.requires.walked.to.few_now;
+    stand = c.requires.walked.to.both;
+  };
 }
 
 pub returns-in_default-enter-clause-goes : goal.returns-in_default-enter-clause-goes
 returns-in_default-enter-clause-goes g c soon walked =
     let hist = history_of g.T.Moment.rank c.args.parts.now.store.events in
-    stays walked _ _ _ c.enter.ensures.events
-    (c.enter.ensures.both hist soon c.args.tally.now walked.few_now walked.both)
-    (keeps_terms c.args.parts.now.props c.enter.new.parts.props c.enter.ensures.before)
-    (new_terms c.args.parts.now.props c.enter.new.parts.props (λ id. has_number id c.enter.new.fresh.items) c.enter.ensures.before c.enter.ensures.fresh)
-    c.make_room.ensures.same refl c.enter.ensures.more (λ id is. is)
+    let were = walked.count in
+    let room : length soon + 1 ≤ most_events = omega arith in
+    let absent : has_id c.args.event.now.id soon ≡ false = sym (present walked c.args.event.now.id) ∙ sym c.is_present.ensures ∙ c.if-is_present.false in (
+      may_want-asserted c.args.parts.now.checked soon (event_of g.T.Moment.rank c.args.event.now) absent room,
+      stays walked _ _ _ c.enter.ensures.events
+          (c.enter.ensures.both hist soon c.args.tally.now walked.few_now walked.both)
+          (keeps_terms c.args.parts.now.props c.enter.new.parts.props c.enter.ensures.before)
+          (new_terms c.args.parts.now.props c.enter.new.parts.props (λ id. has_number id c.enter.new.fresh.items) c.enter.ensures.before c.enter.ensures.fresh)
+          c.make_room.ensures.same refl c.enter.ensures.more (λ id is. is),
+    )
 
 pub take_in-requires : goal.take_in-requires
 take_in-requires g c =

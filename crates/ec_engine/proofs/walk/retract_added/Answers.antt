@@ -7,14 +7,20 @@ use Rattle.ec_context.proofs.Shown.{IsKeptEntry-shown}
 use Rattle.ec_events.specs.Store.{history_of}
 use Rattle.ec_parts.specs.declared.parts.Parts.{Parts}
 use Rattle.ec_engine.proofs.FoundEvents.{found-has_event, has_id-found}
-use Rattle.ec_engine.proofs.WalkSteps.{stays, goes_out_by, added_found, added_shown, taken_absent, AreOfEventsWith-found, some_events, put_as, net_of, refused_absent, retracted_present}
+use Rattle.ec_engine.proofs.WalkSteps.{stays, goes_out_by, added_found, added_shown, present, AreOfEventsWith-found, some_events, put_as, net_of, refused_absent, retracted_present, may_want-retracted}
 use Rattle.ec_engine.proofs.walk.retract_added.Goals as goal
 
 pub returns-in_default-clause-goes : goal.returns-in_default-clause-goes
-returns-in_default-clause-goes g c soon walked = stays walked _ _ _ refl walked.both (λ id p is. is) (λ id p is. inl is) c.make_room.ensures.same refl (λ id is. is) (λ id is. is)
+returns-in_default-clause-goes g c soon walked = (
+  may_want-retracted soon c.args.id.now (sym (present walked c.args.id.now) ∙ sym c.is_present.ensures ∙ c.if-not-is_present.false),
+  stays walked _ _ _ refl walked.both (λ id p is. is) (λ id p is. inl is) c.make_room.ensures.same refl (λ id is. is) (λ id is. is),
+)
 
 pub returns-in_default-note_props-clause-goes : goal.returns-in_default-note_props-clause-goes
-returns-in_default-note_props-clause-goes g c soon walked = stays walked _ _ _ refl walked.both (λ id p is. is) (λ id p is. inl is) c.make_room.ensures.same refl (λ id is. is) c.note_props.ensures.more
+returns-in_default-note_props-clause-goes g c soon walked = (
+  may_want-retracted soon c.args.id.now (sym (present walked c.args.id.now) ∙ sym c.is_present.ensures ∙ c.if-not-is_present.false),
+  stays walked _ _ _ refl walked.both (λ id p is. is) (λ id p is. inl is) c.make_room.ensures.same refl (λ id is. is) c.note_props.ensures.more,
+)
 
 pub release_all-requires-clause-kept : goal.release_all-requires-clause-kept
 release_all-requires-clause-kept g c =
@@ -34,15 +40,12 @@ overflow_sub-walk g c =
     some_events c.requires.walked.to c.args.id.now (event_of g.T.Moment.rank c.in-Some-new.added.event)
     (added_found c.requires.walked.to c.args.id.now c.in-Some.net.now c.in-Some-new.added net_is c.in-Some-new.is)
 
-pub returns-in-None-clause-goes : goal.returns-in-None-clause-goes
-returns-in-None-clause-goes g c soon walked =
-    let net_is : net_in c.args.id.now c.args.walk.now.nets ≡ Some c.in-Some.net.now = sym (c.make_room.ensures.same c.args.id.now) ∙ sym c.in-Some.ensures.value in (
-      refused_absent soon c.copied.result c.args.id.now c.copied.ensures.same (taken_absent walked c.args.id.now c.in-Some.net.now net_is c.in-None.is),
-      stays walked _ _ _ refl walked.both (λ id p is. is) (λ id p is. inl is) c.make_room.ensures.same refl (λ id is. is) (λ id is. is),
-    )
+pub returns-then-not-is_present-clause-goes : goal.returns-then-not-is_present-clause-goes
+returns-then-not-is_present-clause-goes g c soon walked =
+    (refused_absent soon c.copied.result c.args.id.now c.copied.ensures.same (sym (present walked c.args.id.now) ∙ sym c.is_present.ensures ∙ c.if-not-is_present.true), walked)
 
-pub returns-in-Ok-note_props-clause-goes : goal.returns-in-Ok-note_props-clause-goes
-returns-in-Ok-note_props-clause-goes g c soon walked =
+pub returns-clause-goes : goal.returns-clause-goes
+returns-clause-goes g c soon walked =
     let id = c.args.id.now in
     let net_is : net_in id c.args.walk.now.nets ≡ Some c.in-Some.net.now = sym (c.make_room.ensures.same id) ∙ sym c.in-Some.ensures.value in
     let found = added_found walked id c.in-Some.net.now c.in-Some-new.added net_is c.in-Some-new.is in
@@ -54,6 +57,6 @@ returns-in-Ok-note_props-clause-goes g c soon walked =
     (c.release_all.ensures.both (history_of g.T.Moment.rank c.args.parts.now.store.events) soon (event_of g.T.Moment.rank c.in-Some-new.added.event) shown walked.history
     (found-has_event id (event_of g.T.Moment.rank c.in-Some-new.added.event) soon found) walked.both)
     c.release_all.ensures.released.terms
-    (λ other. put_as c.copied-in-Some-new.result id other _ _ _ _ _ (c.put.ensures.nets other) c.copied-in-Some-new.ensures.same
+    (λ other. put_as c.copied-2.result id other _ _ _ _ _ (c.put.ensures.nets other) c.copied-2.ensures.same
     (ap (λ o. net_of o None) ((walked.nets.touched id c.in-Some.net.now net_is).old)) (c.make_room.ensures.same other))
     (omega arith) refl c.in-Ok-note_props.ensures.ok)

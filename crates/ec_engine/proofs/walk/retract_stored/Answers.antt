@@ -8,11 +8,15 @@ use Rattle.ec_parts.specs.declared.parts.Parts.{Parts}
 use Rattle.ec_parts.specs.Mentions.{AreOfEventsWith, TakeEventOut, list_props}
 use Rattle.ec_parts.specs.StandFor.{StandForBoth, view_of}
 use Rattle.ec_engine.proofs.FoundEvents.{found-has_event, has_id-found}
-use Rattle.ec_engine.proofs.WalkSteps.{stays, goes_out_by, stored_under, AreOfEventsWith-found, some_events, put_as, net_of, retracted_present}
+use Rattle.ec_engine.proofs.WalkSteps.{stays, goes_out_by, stored_under, AreOfEventsWith-found, some_events, put_as, net_of, retracted_present, may_want-retracted}
 use Rattle.ec_engine.proofs.walk.retract_stored.Goals as goal
 
 pub returns-in_default-clause-goes : goal.returns-in_default-clause-goes
-returns-in_default-clause-goes g c soon walked = stays walked _ _ _ refl walked.both (λ id p is. is) (λ id p is. inl is) c.make_room.ensures.same refl (λ id is. is) (λ id is. is)
+returns-in_default-clause-goes g c soon walked =
+    let stored = stored_under walked c.args.id.now c.args.slot c.len-2.ensures.slots c.requires.untouched c.requires.slot in (
+      may_want-retracted soon c.args.id.now (has_id-found c.args.id.now soon ∙ ap is_some stored.found),
+      stays walked _ _ _ refl walked.both (λ id p is. is) (λ id p is. inl is) c.make_room.ensures.same refl (λ id is. is) (λ id is. is),
+    )
 
 pub release_slot-requires-clause-there : goal.release_slot-requires-clause-there
 release_slot-requires-clause-there g c =
@@ -37,10 +41,13 @@ overflow_sub-walk g c =
 pub returns-in_default-release_slot-clause-goes : goal.returns-in_default-release_slot-clause-goes
 returns-in_default-release_slot-clause-goes g c soon walked =
     let same = c.in_default-release_slot.ensures.err in
-    stays walked _ _ _ (ap (λ (p : Parts _ _ _ _). p.store) same)
-    (subst (λ tally. StandForBoth g.T.Moment.rank c.args.parts.now.checked (history_of g.T.Moment.rank c.args.parts.now.store.events) soon (view_of c.release_slot.new.parts) tally) (sym c.in_default-release_slot.ensures.err_tally)
-    (subst (λ (p : Parts _ _ _ _). StandForBoth g.T.Moment.rank c.args.parts.now.checked (history_of g.T.Moment.rank c.args.parts.now.store.events) soon (view_of p) c.args.tally.now) (sym same) walked.both))
-    (λ id p is. c.release_slot.ensures.terms id ∙ is) (λ id p is. inl (sym (c.release_slot.ensures.terms id) ∙ is)) c.make_room.ensures.same refl (λ id is. is) c.release_slot.ensures.more
+    let stored = stored_under walked c.args.id.now c.args.slot c.len-2.ensures.slots c.requires.untouched c.requires.slot in (
+      may_want-retracted soon c.args.id.now (has_id-found c.args.id.now soon ∙ ap is_some stored.found),
+      stays walked _ _ _ (ap (λ (p : Parts _ _ _ _). p.store) same)
+          (subst (λ tally. StandForBoth g.T.Moment.rank c.args.parts.now.checked (history_of g.T.Moment.rank c.args.parts.now.store.events) soon (view_of c.release_slot.new.parts) tally) (sym c.in_default-release_slot.ensures.err_tally)
+          (subst (λ (p : Parts _ _ _ _). StandForBoth g.T.Moment.rank c.args.parts.now.checked (history_of g.T.Moment.rank c.args.parts.now.store.events) soon (view_of p) c.args.tally.now) (sym same) walked.both))
+          (λ id p is. c.release_slot.ensures.terms id ∙ is) (λ id p is. inl (sym (c.release_slot.ensures.terms id) ∙ is)) c.make_room.ensures.same refl (λ id is. is) c.release_slot.ensures.more,
+    )
 
 pub returns-clause-goes : goal.returns-clause-goes
 returns-clause-goes g c soon walked =

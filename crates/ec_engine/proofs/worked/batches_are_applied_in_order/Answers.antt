@@ -6,7 +6,7 @@ use Rattle.ec_terms.specs.Domain.{meets, entry_of, entries_from, both_fit, exclu
 use Rattle.ec_axioms.specs.Changes.{has_id, comes_before, with_event, without_event}
 use Rattle.ec_axioms.specs.Links.{mentions_of, live_properties, link_count}
 use Rattle.ec_axioms.specs.Examples.{lamp_rules, one_place, theory_a, plugged_and_pushed}
-use Rattle.ec_engine.specs.Updates.{with_few_mentions, asserted, retracted, updated_from}
+use Rattle.ec_replies.specs.Updates.{with_few_mentions, asserted, retracted, updated_from}
 use Rattle.ec_engine.proofs.worked.batches_are_applied_in_order.Goals as goal
 
 pub returns : goal.returns

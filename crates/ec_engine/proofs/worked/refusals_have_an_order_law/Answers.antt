@@ -3,7 +3,7 @@ use Rattle.std.proofs.Common.{◌∙◌, arith, ◌≡◌, true}
 use Rattle.std.specs.Prelude.{nat_le, length}
 use Rattle.std.proofs.lemmas.Bool.{cond-true, cond-false}
 use Rattle.ec_axioms.specs.Links.{most_events}
-use Rattle.ec_engine.specs.Updates.{asserted}
+use Rattle.ec_replies.specs.Updates.{asserted}
 use Rattle.ec_engine.proofs.worked.refusals_have_an_order_law.Goals as goal
 
 pub returns-clause-duplicate : goal.returns-clause-duplicate

@@ -2,7 +2,6 @@
 use Rattle.std.proofs.Common.{inl, inr, subst}
 use Rattle.ec_terms.specs.declared.theory.Theory.{Theory}
 use Rattle.ec_server.specs.CommandEnds.{SaysAccepted}
-use Rattle.ec_server.specs.TheoryFiles.{IsNoTheory}
 use Rattle.ec_server.proofs.TheoryTexts.{SaysRefused-of}
 use Rattle.ec_server.proofs.commands.check_command.Goals as goal
 
@@ -17,6 +16,9 @@ returns-in-Ok g c = record {
 
 pub returns-in-Err : goal.returns-in-Err
 returns-in-Err g c = record {
-  says = inr (SaysRefused-of g.K.Sink.stands g.K.Sink.faults (g.F.Folder.files c.args.files.now) c.args.theory.now (g.F.Folder.faults c.args.files.now) _ c.args.output.now c.refuse.new.output
-      (IsNoTheory (g.F.Folder.files c.args.files.now) c.args.theory.now) c.in-Err.reason c.refuse.result c.in-Err.ensures.reason c.refuse.ensures);
+  says = inr (
+    SaysRefused-of g.K.Sink.stands g.K.Sink.faults (g.F.Folder.files c.args.files.now) c.args.theory.now (g.F.Folder.faults c.args.files.now) _ c.args.output.now c.refuse.new.output
+        c.in-Err.reason c.refuse.result c.in-Err.ensures.reason c.refuse.ensures,
+    tt,
+  );
 }

@@ -1,17 +1,16 @@
 -- An input is served with the theory that was loaded; where there is none, this is said.
 use Rattle.std.proofs.Common.{inl, inr, refl}
-use Rattle.ec_server.specs.TheoryFiles.{IsNotServed}
 use Rattle.ec_server.proofs.TheoryTexts.{SaysRefused-of}
 use Rattle.ec_server.proofs.commands.serve_command.Goals as goal
 
 pub returns-in-Ok : goal.returns-in-Ok
-returns-in-Ok g c = record { says = inl (c.in-Ok.checked, c.in-Ok.ensures.theory, c.in-Ok.ensures.served, c.serve.ensures) }
+returns-in-Ok g c = record { says = inl (c.in-Ok.checked, c.in-Ok.ensures.theory, c.serve.ensures) }
 
 pub returns-in-Err : goal.returns-in-Err
 returns-in-Err g c = record {
   says = inr (
     SaysRefused-of g.K.Sink.stands g.K.Sink.faults (g.F.Folder.files c.args.files.now) c.args.theory.now (g.F.Folder.faults c.args.files.now) _ c.args.output.now c.refuse.new.output
-        (IsNotServed (g.F.Folder.files c.args.files.now) c.args.theory.now) c.in-Err.reason c.refuse.result c.in-Err.ensures.reason c.refuse.ensures,
+        c.in-Err.reason c.refuse.result c.in-Err.ensures.reason c.refuse.ensures,
     refl,
   );
 }

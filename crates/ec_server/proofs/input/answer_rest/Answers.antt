@@ -6,6 +6,6 @@ use Rattle.ec_server.proofs.input.answer_rest.Goals as goal
 pub returns-clause-answered : goal.returns-clause-answered
 returns-clause-answered g c = λ taken start at.
     let ready : c.end.new.self.is_ready ≡ true = grind (arith, c.ready.ensures, c.if-not-ready.false) in
-    IsLast-line g.K.Sink.stands (record { theory = c.args.desk.now.theory; spelt = g.T.Moment.spelt }) c.handle.result c.end.new.self.is_ready taken
-    c.args.desk.now.state c.handle.new.self.state c.end.new.self start c.args.out.now c.handle.new.out ready (c.end.ensures.stream taken at.part)
+    IsLast-line g.K.Sink.stands (record { theory = c.args.sessions.now.theory; spelt = g.T.Moment.spelt; canon = g.T.Moment.canon }) c.handle.result c.end.new.self.is_ready taken
+    c.args.sessions.now.state c.handle.new.self.state c.end.new.self start c.args.out.now c.handle.new.out ready (c.end.ensures.stream taken at.part)
     (λ line is. c.handle.ensures.handled line (c.line.ensures.shown line is)) at.serving

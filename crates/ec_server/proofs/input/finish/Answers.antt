@@ -5,7 +5,7 @@ use Rattle.ec_server.proofs.input.finish.Goals as goal
 
 pub returns-in_default : goal.returns-in_default
 returns-in_default g c = record {
-  answered = λ taken start at. answered_and_handed_on g.K.Sink.stands (record { theory = c.args.desk.now.theory; spelt = g.T.Moment.spelt }) g.K.Sink.faults c.answer_rest.result c.hand_on.result (lines_of taken) start
+  answered = λ taken start at. answered_and_handed_on g.K.Sink.stands (record { theory = c.args.sessions.now.theory; spelt = g.T.Moment.spelt; canon = g.T.Moment.canon }) g.K.Sink.faults c.answer_rest.result c.hand_on.result (lines_of taken) start
       c.answer_rest.new.out c.hand_on.new.out (c.answer_rest.ensures.answered taken start at) c.in_default.not-WriteFault c.hand_on.ensures.kept c.hand_on.ensures.either;
   either = ending_either c.hand_on.result c.hand_on.ensures.either;
   failed = ending_fault c.hand_on.result c.answer_rest.ensures.counted c.hand_on.ensures.either;

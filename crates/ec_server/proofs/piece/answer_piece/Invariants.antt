@@ -5,9 +5,9 @@ use Rattle.ec_server.proofs.piece.answer_piece.Given as goal
 
 abbrev pub invariant-loop-rest : goal.invariant-loop-rest
 invariant-loop-rest g l = record {
-  theory : l.desk.theory ≡ l.initial.desk.theory;
-  under_way : IsUnderWay g.K.Sink.stands g.K.Sink.faults (record { theory = l.initial.desk.theory; spelt = g.T.Moment.spelt }) l.piece l.rest
-      l.initial.desk.state l.desk.state l.initial.feed l.feed l.initial.out l.out;
+  theory : l.sessions.theory ≡ l.initial.sessions.theory;
+  under_way : IsUnderWay g.K.Sink.stands g.K.Sink.faults (record { theory = l.initial.sessions.theory; spelt = g.T.Moment.spelt; canon = g.T.Moment.canon }) l.piece l.rest
+      l.initial.sessions.state l.sessions.state l.initial.feed l.feed l.initial.out l.out;
 }
 
 abbrev pub decreases-loop-rest : goal.decreases-loop-rest

@@ -3,6 +3,7 @@ use Rattle.std.proofs.Common.{◌≤◌, List, arith}
 use Rattle.ec_context.specs.declared.entry.Entry.{Entry}
 use Rattle.ec_parts.specs.StandFor.{view_of}
 use Rattle.ec_sweep.proofs.LookBody.{HasLooked-between, added-further, added-ordered, length-between, length-entries, length-flat_map-between, removals-kept, removals-ordered, removed-further}
+use Rattle.ec_sweep.proofs.MostSteps.{look-most}
 use Rattle.ec_sweep.proofs.look.look.Goals as goal
 
 pub count_removals-removed-requires : goal.count_removals-removed-requires
@@ -59,6 +60,26 @@ pub returns-clause-progress : goal.returns-clause-progress
 returns-clause-progress g c =
     let removed = rw c.as_slice.ensures at c.count_removals-removed.ensures.count in
     let added = rw c.as_slice-2.ensures at c.count_added-added.ensures.count in λ r next before. record { removed_by = removed; added_by = added }
+
+pub returns-in_err-turns-clause-most : goal.returns-in_err-turns-clause-most
+returns-in_err-turns-clause-most g c =
+    let removed = rw c.as_slice.ensures at c.count_removals-removed.ensures.count in
+    let added = rw c.as_slice-2.ensures at c.count_added-added.ensures.count in
+    let taken = rw (c.between.ensures, c.as_slice-3.ensures, removed, c.between-2.ensures, c.as_slice-4.ensures, added) at c.look_by_number.ensures.most in
+    λ new tally r agenda planned active can.
+    look-most g.T.Moment.rank c.args.parts.now.checked new (view_of c.args.parts.now) tally c.args.change.now r (g.T.Moment.rank c.args.at) c.args.dirty.now agenda c.args.due.now
+    c.args.looked.now planned active c.args.progress.now can (record { in_order = c.len.ensures.order; numbers = c.len.ensures.numbers }) c.len-2.ensures.slots
+    c.args.steps.now c.look_by_number.new.steps taken
+
+pub returns-clause-most : goal.returns-clause-most
+returns-clause-most g c =
+    let removed = rw c.as_slice.ensures at c.count_removals-removed.ensures.count in
+    let added = rw c.as_slice-2.ensures at c.count_added-added.ensures.count in
+    let taken = rw (c.between.ensures, c.as_slice-3.ensures, removed, c.between-2.ensures, c.as_slice-4.ensures, added) at c.look_by_number.ensures.most in
+    λ new tally r agenda planned active can.
+    look-most g.T.Moment.rank c.args.parts.now.checked new (view_of c.args.parts.now) tally c.args.change.now r (g.T.Moment.rank c.args.at) c.args.dirty.now agenda c.args.due.now
+    c.args.looked.now planned active c.args.progress.now can (record { in_order = c.len.ensures.order; numbers = c.len.ensures.numbers }) c.len-2.ensures.slots
+    c.args.steps.now c.look_by_number.new.steps taken
 
 pub returns-clause-steps : goal.returns-clause-steps
 returns-clause-steps g c =

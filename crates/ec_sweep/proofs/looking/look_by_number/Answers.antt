@@ -1,7 +1,31 @@
--- Each hit has an entry.
+-- Each hit has an entry; and the steps so far are within those of the hits, the removed events and the added entries.
+use Rattle.std.proofs.Common.{refl, inl, inr, arith}
 use Rattle.ec_sweep.proofs.HitEntries.{hits-have_entries}
 use Rattle.ec_sweep.proofs.looking.look_by_number.Goals as goal
 
 pub look_at_hits-requires : goal.look_at_hits-requires
 look_at_hits-requires g c =
     hits-have_entries g.T.Moment.rank c.args.entries.now.slots (g.T.Moment.rank c.args.at) c.args.dirty.now c.args.due.now c.args.here.now.removals.now c.in_ok-hits.hits c.in_ok-hits.ensures
+
+pub returns-in_err-hits-clause-most : goal.returns-in_err-hits-clause-most
+returns-in_err-hits-clause-most g c = inl refl
+
+pub returns-in_err-turns-clause-most : goal.returns-in_err-turns-clause-most
+returns-in_err-turns-clause-most g c = let looked = c.look_at_hits.ensures.most in inr (c.in_ok-hits.hits, c.in_ok-hits.ensures, omega (arith, looked))
+
+pub returns-in_err-turn_down_removed-clause-most : goal.returns-in_err-turn_down_removed-clause-most
+returns-in_err-turn_down_removed-clause-most g c =
+    let looked = c.look_at_hits.ensures.most in
+    let removed = c.turn_down_removed.ensures.most in inr (c.in_ok-hits.hits, c.in_ok-hits.ensures, omega (arith, looked, removed))
+
+pub returns-in_err-turn_up_added-clause-most : goal.returns-in_err-turn_up_added-clause-most
+returns-in_err-turn_up_added-clause-most g c =
+    let looked = c.look_at_hits.ensures.most in
+    let removed = c.turn_down_removed.ensures.most in
+    let added = c.turn_up_added.ensures.most in inr (c.in_ok-hits.hits, c.in_ok-hits.ensures, omega (arith, looked, removed, added))
+
+pub returns-clause-most : goal.returns-clause-most
+returns-clause-most g c =
+    let looked = c.look_at_hits.ensures.most in
+    let removed = c.turn_down_removed.ensures.most in
+    let added = c.turn_up_added.ensures.most in inr (c.in_ok-hits.hits, c.in_ok-hits.ensures, omega (arith, looked, removed, added))

@@ -2,7 +2,6 @@
 use Rattle.std.proofs.Common.{sym, subst, arith}
 use Rattle.ec_parts.specs.StandFor.{StandForBoth, view_of}
 use Rattle.ec_sweep.proofs.SameButRoom.{IsPlanned-same, IsReady-planned, StandForBoth-same}
-use Rattle.ec_sweep.proofs.StepBound.{length-flat_map_take, removed-few}
 use Rattle.ec_sweep.proofs.Through.{IsPlanned-through}
 use Rattle.ec_sweep.proofs.planning.plan.Goals as goal
 
@@ -17,15 +16,13 @@ returns-clause-ready g c = λ new tally underway.
     c.in-Ok-make_room.ensures.events c.in-Ok-make_room.ensures.marks c.in-Ok-make_room.ensures.intervals
 
 pub returns-clause-steps : goal.returns-clause-steps
-returns-clause-steps g c = λ new tally underway.
-    let sweeping = c.in-Ok.ensures.swept new tally underway in
-    let planned = IsPlanned-through g.T.Moment.rank c.args.parts.now.checked new (view_of c.args.parts.now) tally c.args.change c.in-Ok.sweep c.len.ensures.order c.len-2.ensures.slots underway sweeping
-    c.in-Ok.ensures.done in
-    let steps = c.in-Ok.ensures.steps in
-    let seen = planned.seen in
-    let few = removed-few g.T.Moment.rank c.args.change sweeping.r c.in-Ok.sweep.progress sweeping.found.progress_is in
-    let entries = length-flat_map_take c.in-Ok.sweep.progress.added c.args.change.entries in
-    omega (arith, steps, seen, few, entries)
+returns-clause-steps g c = λ new tally underway. let most = c.sweep_over.ensures.steps new tally underway in omega (arith, most)
+
+pub returns-in_default-clause-steps : goal.returns-in_default-clause-steps
+returns-in_default-clause-steps g c = λ new tally underway. let most = c.sweep_over.ensures.steps new tally underway in omega (arith, most)
+
+pub returns-in_default-make_room-clause-steps : goal.returns-in_default-make_room-clause-steps
+returns-in_default-make_room-clause-steps g c = λ new tally underway. let most = c.sweep_over.ensures.steps new tally underway in omega (arith, most)
 
 pub make_room-requires : goal.make_room-requires
 make_room-requires g c = record { windows = (c.in-Ok.ensures.swept c.requires.new c.requires.tally c.requires.underway).found.planned_up_to.windows }

@@ -5,6 +5,7 @@ use Rattle.ec_parts.specs.StandFor.{view_of}
 use Rattle.ec_sweep.specs.Sweeping.{IsSweeping, left_behind}
 use Rattle.ec_sweep.proofs.Beginning.{IsSweeping-begin}
 use Rattle.ec_sweep.proofs.Lessening.{left_behind-less}
+use Rattle.ec_sweep.proofs.MostSteps.{sweep-few}
 use Rattle.ec_sweep.proofs.NextInstant.{behind}
 use Rattle.ec_sweep.proofs.Singles.{added-order}
 use Rattle.ec_sweep.proofs.sweep.sweep_over.Goals as goal
@@ -34,3 +35,13 @@ loop-at-smaller g c =
     (sym c.in_ok-visit.ensures.last)
     (left_behind-less rank c.args.parts.now.checked c.requires.new (view_of c.args.parts.now) c.requires.tally c.args.change.now c.loop-at.sweep sweeping.r c.in-Some.at c.requires.underway
     sweeping.last sweeping.found c.in-Some.ensures.there after)
+
+pub returns-in_err-visit-clause-steps : goal.returns-in_err-visit-clause-steps
+returns-in_err-visit-clause-steps g c = λ new tally underway.
+    let most = c.visit.ensures.most new tally underway in
+    let before = c.loop-at.invariant.steps in omega (arith, most, before)
+
+pub returns-clause-steps : goal.returns-clause-steps
+returns-clause-steps g c = λ new tally underway.
+    let few = sweep-few g.T.Moment.rank c.args.parts.now.checked new (view_of c.args.parts.now) c.args.change.now c.loop-at.sweep (c.loop-at.invariant.sweeping new tally underway) in
+    let before = c.loop-at.invariant.steps in omega (arith, few, before)

@@ -26,3 +26,21 @@ loop-list-preserved g c =
           let same = ap length c.as_slice.ensures.items in
           let before = c.loop-list.invariant.counted in omega (arith, more, same, before, rest);
     }
+
+pub returns-in_err-word-clause-most : goal.returns-in_err-word-clause-most
+returns-in_err-word-clause-most g c =
+    let within : c.loop-list.list-index < length c.args.lists.now = c.loop-list-test.true in
+    let rest = ap (λ ls. length (flat_map (λ list. list) ls)) (drop-next c.args.lists.now c.loop-list.list-index c.list-item.result within c.list-item.is)
+    ∙ length-append c.list-item.result (flat_map (λ list. list) (drop (c.loop-list.list-index + 1) c.args.lists.now)) in
+    let more = c.turn_up.ensures.most in
+    let same = ap length c.as_slice.ensures.items in
+    let before = c.loop-list.invariant.counted in omega (arith, more, same, before, rest)
+
+pub returns-in_err-push-clause-most : goal.returns-in_err-push-clause-most
+returns-in_err-push-clause-most g c =
+    let within : c.loop-list.list-index < length c.args.lists.now = c.loop-list-test.true in
+    let rest = ap (λ ls. length (flat_map (λ list. list) ls)) (drop-next c.args.lists.now c.loop-list.list-index c.list-item.result within c.list-item.is)
+    ∙ length-append c.list-item.result (flat_map (λ list. list) (drop (c.loop-list.list-index + 1) c.args.lists.now)) in
+    let more = c.turn_up.ensures.most in
+    let same = ap length c.as_slice.ensures.items in
+    let before = c.loop-list.invariant.counted in omega (arith, more, same, before, rest)

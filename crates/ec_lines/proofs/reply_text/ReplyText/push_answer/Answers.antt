@@ -10,8 +10,3 @@ unfolding answer_text
 returns-in-FullDraft-clause-text c =
     two_parts c.args.self.now _ _ c.push-in-FullDraft.ensures.text c.push_number-in-FullDraft.ensures.text
     ∙ ap (λ answer. c.args.self.now ++ answer_text (plain_answer answer)) (sym c.in-FullDraft.is)
-
-pub returns-in-Unbuilt-clause-text : goal.returns-in-Unbuilt-clause-text
-unfolding answer_text
-returns-in-Unbuilt-clause-text c =
-    c.push-in-Unbuilt.ensures.text ∙ ap (λ answer. c.args.self.now ++ answer_text (plain_answer answer)) (sym c.in-Unbuilt.is)

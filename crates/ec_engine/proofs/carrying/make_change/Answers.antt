@@ -1,0 +1,53 @@
+-- The plan is made.
+use Rattle.std.proofs.Common.{length, ap, subst, ◌∙◌, arith}
+use Rattle.ec_axioms.specs.Changes.{change_counts}
+use Rattle.ec_events.specs.Store.{history_of}
+use Rattle.ec_parts.specs.StandFor.{StandForBoth, view_of}
+use Rattle.ec_revise.specs.declared.change.Change.{Change}
+use Rattle.ec_engine.proofs.Carried.{planned-ready, planned-stands}
+use Rattle.ec_engine.proofs.WorkDone.{change-steps}
+use Rattle.ec_engine.proofs.carrying.make_change.Goals as goal
+
+pub apply-requires : goal.apply-requires
+apply-requires g c =
+    let rank = g.T.Moment.rank in
+    let events = c.args.parts.now.store.events in
+    let led = c.requires in
+    record {
+      new = led.new;
+      tally = led.tally;
+      stands = planned-stands rank c.plan.new.parts.checked events c.plan.new.parts.store.events (view_of c.plan.new.parts) led.new led.tally c.plan.ensures.events
+          (c.plan.ensures.stands (history_of rank events) led.new led.tally led.underway.both);
+      ready = planned-ready rank c.args.parts.now.checked c.plan.new.parts.checked (view_of c.plan.new.parts) led.new c.in-Ok.delta c.plan.ensures.checked (c.in-Ok.ensures.ready led.new led.tally led.underway);
+    }
+
+pub returns-in-Ok-clause-made : goal.returns-in-Ok-clause-made
+returns-in-Ok-clause-made g c new tally underway =
+    let rank = g.T.Moment.rank in
+    let events = c.args.parts.now.store.events in
+    let stand = planned-stands rank c.plan.new.parts.checked events c.plan.new.parts.store.events (view_of c.plan.new.parts) new tally c.plan.ensures.events
+    (c.plan.ensures.stands (history_of rank events) new tally underway.both) in
+    let ready = planned-ready rank c.args.parts.now.checked c.plan.new.parts.checked (view_of c.plan.new.parts) new c.in-Ok.delta c.plan.ensures.checked (c.in-Ok.ensures.ready new tally underway) in (
+      subst (λ t. StandForBoth rank t new new (view_of c.apply.new.parts) tally) c.plan.ensures.checked (c.apply.ensures.stands new tally stand ready),
+      c.apply.ensures.counts new tally stand ready
+          ∙ ap (λ t. change_counts t (history_of rank c.plan.new.parts.store.events) new) c.plan.ensures.checked
+          ∙ ap (λ es. change_counts c.args.parts.now.checked (history_of rank es) new) c.plan.ensures.events,
+    )
+
+pub returns-in-Ok-clause-steps : goal.returns-in-Ok-clause-steps
+returns-in-Ok-clause-steps g c new tally underway =
+    let planned = c.plan.ensures.steps new tally underway in
+    let made = c.apply.ensures.steps in
+    let same = ap (λ (change : Change _). length change.remove) c.in-Ok.ensures.change in
+    let within = change-steps g.T.Moment.rank c.args.parts.now.checked c.args.parts.now.props c.args.parts.now.store.events new c.args.change underway.change_is in
+    omega arith
+
+pub returns-in-Err-clause-planned : goal.returns-in-Err-clause-planned
+returns-in-Err-clause-planned g c new tally underway =
+    let planned = c.plan.ensures.steps new tally underway in
+    let within = change-steps g.T.Moment.rank c.args.parts.now.checked c.args.parts.now.props c.args.parts.now.store.events new c.args.change underway.change_is in
+    omega arith
+
+pub returns-in-Err-clause-stands : goal.returns-in-Err-clause-stands
+returns-in-Err-clause-stands g c now soon tally stand =
+    subst (λ t. StandForBoth g.T.Moment.rank t now soon (view_of c.plan.new.parts) tally) c.plan.ensures.checked (c.plan.ensures.stands now soon tally stand)

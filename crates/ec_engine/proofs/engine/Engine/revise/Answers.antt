@@ -1,0 +1,152 @@
+-- A batch is tried, and its walk is carried out.
+use Rattle.std.proofs.Common.{◌≡◌, map, sym, ap, subst, ◌∙◌, arith}
+use Rattle.std.specs.Prelude.{Ok, Err}
+use Rattle.std.proofs.lemmas.List.{length-map}
+use Rattle.ec_axioms.specs.Events.{plain_update}
+use Rattle.ec_events.specs.Store.{history_of}
+use Rattle.ec_parts.specs.StandFor.{StandFor, view_of}
+use Rattle.ec_replies.specs.Updates.{updated_by}
+use Rattle.ec_engine.specs.declared.refusal.Refusal.TheVariants.{Memory}
+use Rattle.ec_engine.specs.Limits.{IsWithinLimits}
+use Rattle.ec_engine.specs.Revise.{IsRevised, most_steps, steps_between}
+use Rattle.ec_engine.specs.Standing.{Standing}
+use Rattle.ec_engine.specs.Walk.{HasWalkedTo}
+use Rattle.ec_engine.proofs.Batches.{goes_ok}
+use Rattle.ec_engine.proofs.Carried.{HasWalkedTo-moved, IsCarriedOut-moved}
+use Rattle.ec_engine.proofs.Revising.{IsRevised-carried, IsRevised-no_memory, most_steps-carried, most_steps-least}
+use Rattle.ec_engine.proofs.Standings.{IsEngine-standing}
+use Rattle.ec_engine.proofs.engine.Engine.revise.Goals as goal
+
+pub returns-in-Err-clause-steps : goal.returns-in-Err-clause-steps
+returns-in-Err-clause-steps g c =
+    let updates = map (plain_update g.T.Moment.rank) c.args.batch.now in
+    let least = most_steps-least c.args.self.now.theory c.args.self.now.events updates in
+    let count = length-map c.args.batch.now (plain_update g.T.Moment.rank) in
+    let tried = c.attempt.ensures.all_steps in
+    omega arith
+
+pub carry_out-requires-clause-walked : goal.carry_out-requires-clause-walked
+carry_out-requires-clause-walked g c =
+    let rank = g.T.Moment.rank in
+    let inside = c.self.inside.parts in
+    let later = c.attempt.new.parts in
+    let went = goes_ok (updated_by inside.checked (history_of rank inside.store.events) (map (plain_update rank) c.args.batch.now))
+    (λ after. HasWalkedTo rank inside.checked inside.store.events after (view_of later) c.attempt.new.tally c.in-Ok.walk) c.in-Ok.ensures.goes in
+    record {
+      soon = went.0;
+      to = HasWalkedTo-moved rank inside.checked later.checked inside.store.events later.store.events went.0 (view_of later) c.attempt.new.tally c.in-Ok.walk c.in-Ok.ensures.theory (ap (λ s. s.events) c.in-Ok.ensures.store) went.2;
+    }
+
+pub invariant_of-self-in_default : goal.invariant_of-self-in_default
+invariant_of-self-in_default g c =
+    let rank = g.T.Moment.rank in
+    let inside = c.self.inside.parts in
+    let later = c.attempt.new.parts in
+    let last = c.carry_out.new.parts in
+    let counted = c.carry_out.new.tally in
+    let hist = history_of rank inside.store.events in
+    let updates = map (plain_update rank) c.args.batch.now in
+    let stored = ap (λ s. s.events) c.in-Ok.ensures.store in
+    let went = goes_ok (updated_by inside.checked hist updates) (λ after. HasWalkedTo rank inside.checked inside.store.events after (view_of later) c.attempt.new.tally c.in-Ok.walk) c.in-Ok.ensures.goes in
+    let walked = HasWalkedTo-moved rank inside.checked later.checked inside.store.events later.store.events went.0 (view_of later) c.attempt.new.tally c.in-Ok.walk c.in-Ok.ensures.theory stored went.2 in
+    let carried = IsCarriedOut-moved rank inside.checked later.checked inside.store.events later.store.events went.0 (view_of last) counted (Err c.in_default.field-0) c.in-Ok.ensures.theory stored
+    (c.in_default.ensures.carried went.0 walked) in
+    let theories = c.carry_out.ensures.theory ∙ c.in-Ok.ensures.theory in
+    IsEngine-standing rank last.checked hist (view_of last) counted (subst (λ t. StandFor rank t hist (view_of last) counted) (sym theories) carried)
+    (subst (λ t. IsWithinLimits t hist) (sym theories) c.self.invariant.within)
+
+pub returns-in_default-clause-revised : goal.returns-in_default-clause-revised
+returns-in_default-clause-revised g c =
+    let rank = g.T.Moment.rank in
+    let inside = c.self.inside.parts in
+    let later = c.attempt.new.parts in
+    let last = c.carry_out.new.parts in
+    let counted = c.carry_out.new.tally in
+    let hist = history_of rank inside.store.events in
+    let updates = map (plain_update rank) c.args.batch.now in
+    let stored = ap (λ s. s.events) c.in-Ok.ensures.store in
+    let went = goes_ok (updated_by inside.checked hist updates) (λ after. HasWalkedTo rank inside.checked inside.store.events after (view_of later) c.attempt.new.tally c.in-Ok.walk) c.in-Ok.ensures.goes in
+    let walked = HasWalkedTo-moved rank inside.checked later.checked inside.store.events later.store.events went.0 (view_of later) c.attempt.new.tally c.in-Ok.walk c.in-Ok.ensures.theory stored went.2 in
+    let carried = IsCarriedOut-moved rank inside.checked later.checked inside.store.events later.store.events went.0 (view_of last) counted (Err c.in_default.field-0) c.in-Ok.ensures.theory stored
+    (c.in_default.ensures.carried went.0 walked) in
+    subst (λ (s : Standing). IsRevised s.theory s.events updates (Err Memory) (history_of rank last.store.events)) c.self.view_is
+    (IsRevised-no_memory rank inside.checked hist went.0 updates (view_of last) counted went.1 c.in_default.field-0 carried)
+
+pub returns-in_default-clause-steps : goal.returns-in_default-clause-steps
+returns-in_default-clause-steps g c =
+    let rank = g.T.Moment.rank in
+    let inside = c.self.inside.parts in
+    let later = c.attempt.new.parts in
+    let last = c.carry_out.new.parts in
+    let counted = c.carry_out.new.tally in
+    let hist = history_of rank inside.store.events in
+    let updates = map (plain_update rank) c.args.batch.now in
+    let stored = ap (λ s. s.events) c.in-Ok.ensures.store in
+    let went = goes_ok (updated_by inside.checked hist updates) (λ after. HasWalkedTo rank inside.checked inside.store.events after (view_of later) c.attempt.new.tally c.in-Ok.walk) c.in-Ok.ensures.goes in
+    let walked = HasWalkedTo-moved rank inside.checked later.checked inside.store.events later.store.events went.0 (view_of later) c.attempt.new.tally c.in-Ok.walk c.in-Ok.ensures.theory stored went.2 in
+    let carried = c.carry_out.ensures.steps went.0 walked in
+    let moved : steps_between later.checked (history_of rank later.store.events) went.0 ≡ steps_between inside.checked hist went.0 =
+    ap (λ t. steps_between t (history_of rank later.store.events) went.0) c.in-Ok.ensures.theory ∙ ap (λ es. steps_between inside.checked (history_of rank es) went.0) stored in
+    let most = most_steps-carried rank inside.checked hist went.0 updates (view_of last) counted went.1 in
+    let seen = ap (λ (s : Standing). most_steps s.theory s.events updates) c.self.view_is in
+    let count = length-map c.args.batch.now (plain_update rank) in
+    let tried = c.in-Ok.ensures.steps in
+    let touched = c.in-Ok.ensures.len in
+    omega arith
+
+pub invariant_of-self-2 : goal.invariant_of-self-2
+invariant_of-self-2 g c =
+    let rank = g.T.Moment.rank in
+    let inside = c.self.inside.parts in
+    let later = c.attempt.new.parts in
+    let last = c.carry_out.new.parts in
+    let counted = c.carry_out.new.tally in
+    let hist = history_of rank inside.store.events in
+    let updates = map (plain_update rank) c.args.batch.now in
+    let stored = ap (λ s. s.events) c.in-Ok.ensures.store in
+    let went = goes_ok (updated_by inside.checked hist updates) (λ after. HasWalkedTo rank inside.checked inside.store.events after (view_of later) c.attempt.new.tally c.in-Ok.walk) c.in-Ok.ensures.goes in
+    let walked = HasWalkedTo-moved rank inside.checked later.checked inside.store.events later.store.events went.0 (view_of later) c.attempt.new.tally c.in-Ok.walk c.in-Ok.ensures.theory stored went.2 in
+    let carried = IsCarriedOut-moved rank inside.checked later.checked inside.store.events later.store.events went.0 (view_of last) counted (Ok c.in-Ok-carry_out.seen) c.in-Ok.ensures.theory stored
+    (c.in-Ok-carry_out.ensures.carried went.0 walked) in
+    let theories = c.carry_out.ensures.theory ∙ c.in-Ok.ensures.theory in
+    IsEngine-standing rank last.checked went.0 (view_of last) counted (subst (λ t. StandFor rank t went.0 (view_of last) counted) (sym theories) carried.0)
+    (subst (λ t. IsWithinLimits t went.0) (sym theories) went.2.within)
+
+pub returns-clause-revised : goal.returns-clause-revised
+returns-clause-revised g c =
+    let rank = g.T.Moment.rank in
+    let inside = c.self.inside.parts in
+    let later = c.attempt.new.parts in
+    let last = c.carry_out.new.parts in
+    let counted = c.carry_out.new.tally in
+    let hist = history_of rank inside.store.events in
+    let updates = map (plain_update rank) c.args.batch.now in
+    let stored = ap (λ s. s.events) c.in-Ok.ensures.store in
+    let went = goes_ok (updated_by inside.checked hist updates) (λ after. HasWalkedTo rank inside.checked inside.store.events after (view_of later) c.attempt.new.tally c.in-Ok.walk) c.in-Ok.ensures.goes in
+    let walked = HasWalkedTo-moved rank inside.checked later.checked inside.store.events later.store.events went.0 (view_of later) c.attempt.new.tally c.in-Ok.walk c.in-Ok.ensures.theory stored went.2 in
+    let carried = IsCarriedOut-moved rank inside.checked later.checked inside.store.events later.store.events went.0 (view_of last) counted (Ok c.in-Ok-carry_out.seen) c.in-Ok.ensures.theory stored
+    (c.in-Ok-carry_out.ensures.carried went.0 walked) in
+    subst (λ (s : Standing). IsRevised s.theory s.events updates (Ok c.in-Ok-carry_out.seen) (history_of rank last.store.events)) c.self.view_is
+    (IsRevised-carried rank inside.checked hist went.0 updates (view_of last) counted went.1 c.in-Ok-carry_out.seen carried)
+
+pub returns-clause-steps : goal.returns-clause-steps
+returns-clause-steps g c =
+    let rank = g.T.Moment.rank in
+    let inside = c.self.inside.parts in
+    let later = c.attempt.new.parts in
+    let last = c.carry_out.new.parts in
+    let counted = c.carry_out.new.tally in
+    let hist = history_of rank inside.store.events in
+    let updates = map (plain_update rank) c.args.batch.now in
+    let stored = ap (λ s. s.events) c.in-Ok.ensures.store in
+    let went = goes_ok (updated_by inside.checked hist updates) (λ after. HasWalkedTo rank inside.checked inside.store.events after (view_of later) c.attempt.new.tally c.in-Ok.walk) c.in-Ok.ensures.goes in
+    let walked = HasWalkedTo-moved rank inside.checked later.checked inside.store.events later.store.events went.0 (view_of later) c.attempt.new.tally c.in-Ok.walk c.in-Ok.ensures.theory stored went.2 in
+    let carried = c.carry_out.ensures.steps went.0 walked in
+    let moved : steps_between later.checked (history_of rank later.store.events) went.0 ≡ steps_between inside.checked hist went.0 =
+    ap (λ t. steps_between t (history_of rank later.store.events) went.0) c.in-Ok.ensures.theory ∙ ap (λ es. steps_between inside.checked (history_of rank es) went.0) stored in
+    let most = most_steps-carried rank inside.checked hist went.0 updates (view_of last) counted went.1 in
+    let seen = ap (λ (s : Standing). most_steps s.theory s.events updates) c.self.view_is in
+    let count = length-map c.args.batch.now (plain_update rank) in
+    let tried = c.in-Ok.ensures.steps in
+    let touched = c.in-Ok.ensures.len in
+    omega arith

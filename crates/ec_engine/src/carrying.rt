@@ -1,0 +1,105 @@
+//! A walk is carried out: the caches follow the tables to the list that it came to, or all goes back.
+ghost use Rattle.std.specs.Prelude.{◌≡◌, ◌+◌, ◌≤◌, ◌||◌, List, IfOk, IfErr, OnOk, OnErr, length};
+ghost use Rattle.indexmap.specs.IndexMap.{index_map_len};
+ghost use Rattle.ec_axioms.specs.Calculus.{PlainEvent};
+ghost use Rattle.ec_events.specs.Store.{history_of};
+ghost use Rattle.ec_numbered.specs.PropSet.{has_number};
+ghost use Rattle.ec_parts.specs.declared.tally.Tally.{Tally as PartsTally};
+ghost use Rattle.ec_parts.specs.StandFor.{StandFor, StandForBoth, view_of};
+ghost use Rattle.ec_sweep.specs.Planning.{LeadsSomewhere};
+ghost use Rattle.ec_sweep.specs.State.{IsUnderway};
+ghost use Rattle.ec_engine.specs.CarriedOut.{IsCarriedOut, IsMade, StandAsBefore};
+ghost use Rattle.ec_engine.specs.Idle.{StandForSome};
+ghost use Rattle.ec_engine.specs.Limits.{IsWithinLimits};
+ghost use Rattle.ec_engine.specs.Revise.{steps_between};
+ghost use Rattle.ec_engine.specs.Walk.{AreLiveOrListed, HasWalked, HasWalkedTo};
+
+use crate::idle::forget_idle;
+use crate::net_change::net_change;
+use crate::undo::undo;
+use crate::undo_change::undo_change;
+use crate::walk::Walk;
+use ec_apply::apply;
+use ec_axioms::{Seen, Steps};
+use ec_moment::Moment;
+use ec_parts::{Parts, Tally};
+use ec_revise::Change;
+use ec_rows::{MarkRow, SpanRow, TimeRow};
+use ec_sweep::plan;
+use ec_terms::NoMemory;
+use std::alloc::Global;
+use std::sync::ledger::Ledger;
+
+/// Plans a change of all caches and makes it. `Err`: memory ran out, and nothing has changed; the change is given back.
+fn make_change<T: Moment, M: MarkRow<T>, I: SpanRow<T>, X: TimeRow<T>, L: Ledger>(
+    alloc: Global,
+    parts: &mut Parts<T, M, I, X>,
+    change: Change<T>,
+    steps: &mut Steps<L>,
+) -> Result<Seen, Change<T>>
+    requires { LeadsSomewhere T.rank parts.old.checked (view_of parts.old) change }
+    ensures made { IfOk result (IsMade T.rank parts.old.checked change (view_of parts.old) (view_of parts.new)) }
+    ensures back { IfErr result (λ back. back ≡ change) }
+    ensures stands { OnErr result (StandAsBefore T.rank parts.old.checked (view_of parts.old) (view_of parts.new)) }
+    ensures events { OnErr result (parts.new.store.events ≡ parts.old.store.events) }
+    ensures theory { parts.new.checked ≡ parts.old.checked }
+    ensures table { parts.new.props ≡ parts.old.props }
+    ensures steps { OnOk result ((new : List PlainEvent) (tally : PartsTally) → IsUnderway T.rank parts.old.checked new (view_of parts.old) tally change →
+        steps.new ≤ steps.old + steps_between parts.old.checked (history_of T.rank parts.old.store.events) new) }
+    ensures planned { OnErr result ((new : List PlainEvent) (tally : PartsTally) → IsUnderway T.rank parts.old.checked new (view_of parts.old) tally change →
+        steps.new + length change.remove ≤ steps.old + steps_between parts.old.checked (history_of T.rank parts.old.store.events) new) }
+{
+    match plan(alloc, parts, change, steps) {
+        Ok(delta) => Ok(apply(parts, delta, steps)),
+        Err(change) => Err(change),
+    }
+}
+
+/// Forgets what a walk listed and nothing mentions now. It takes no memory.
+fn forget_listed<T: Moment, M: MarkRow<T>, I: SpanRow<T>, X: TimeRow<T>>(
+    parts: &mut Parts<T, M, I, X>,
+    walk: &Walk<T>,
+)
+    requires { StandForSome T.rank parts.old.checked (view_of parts.old) }
+    ensures stands { (events : List PlainEvent) (tally : PartsTally) → StandForBoth T.rank parts.old.checked events events (view_of parts.old) tally →
+        AreLiveOrListed parts.old.checked events parts.old.props (λ id. has_number id walk.now.fresh.items || has_number id walk.now.dying.items) →
+        StandFor T.rank parts.old.checked events (view_of parts.new) tally }
+    ensures theory { parts.new.checked ≡ parts.old.checked }
+{
+    forget_idle(parts, walk.fresh.as_slice());
+    forget_idle(parts, walk.dying.as_slice());
+}
+
+/// Carries out a walk: the caches become those of the list that it came to, and the parts keep only what is live in it. Counts
+/// what changed. `Err`: memory ran out; the parts stand for the list of the store as before the walk.
+pub(crate) fn carry_out<T: Moment, M: MarkRow<T>, I: SpanRow<T>, X: TimeRow<T>, L: Ledger>(
+    alloc: Global,
+    parts: &mut Parts<T, M, I, X>,
+    tally: &mut Tally,
+    walk: Walk<T>,
+    steps: &mut Steps<L>,
+) -> Result<Seen, NoMemory>
+    requires walked { HasWalked T.rank parts.old.checked (view_of parts.old) tally.old walk }
+    requires within { IsWithinLimits parts.old.checked (history_of T.rank parts.old.store.events) }
+    ensures carried { (soon : List PlainEvent) → HasWalkedTo T.rank parts.old.checked parts.old.store.events soon (view_of parts.old) tally.old walk →
+        IsCarriedOut T.rank parts.old.checked (history_of T.rank parts.old.store.events) soon (view_of parts.new) tally.new result }
+    ensures theory { parts.new.checked ≡ parts.old.checked }
+    ensures steps { (soon : List PlainEvent) → HasWalkedTo T.rank parts.old.checked parts.old.store.events soon (view_of parts.old) tally.old walk →
+        steps.new ≤ steps.old + index_map_len walk.nets + steps_between parts.old.checked (history_of T.rank parts.old.store.events) soon }
+{
+    let mut walk = walk;
+    let Ok(change) = net_change(alloc, parts, &mut walk, steps) else {
+        undo(parts, tally, &walk, steps);
+        return Err(NoMemory);
+    };
+    match make_change(alloc, parts, change, steps) {
+        Ok(seen) => {
+            forget_listed(parts, &walk);
+            Ok(seen)
+        }
+        Err(change) => {
+            undo_change(parts, tally, &change, walk.fresh.as_slice(), steps);
+            Err(NoMemory)
+        }
+    }
+}

@@ -1,0 +1,13 @@
+pub mod Lasts
+pub mod LastBegins
+pub mod NextBreaks
+pub mod FirstCauses
+pub mod EventWalks
+pub mod ReasonCases
+pub mod BreakSearch
+pub mod OnMarks
+pub mod ShownEffects
+pub mod OnParts
+pub mod SoughtEntries
+pub mod KeptWalks
+pub mod Telling

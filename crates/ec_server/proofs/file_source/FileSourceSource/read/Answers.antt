@@ -1,0 +1,14 @@
+-- What is copied is the front of what is left.
+use Rattle.std.proofs.Common.{◌≡◌, ◌∙◌, ◌≤◌, sym, ap, take, drop, length, arith}
+use Rattle.std.proofs.lemmas.List.{take_rest}
+use Rattle.ec_outside.proofs.Streams.{Took-some, read_split}
+use Rattle.ec_server.proofs.file_source.FileSourceSource.read.Goals as goal
+
+pub returns-clause-took : goal.returns-clause-took
+returns-clause-took c =
+    let is_left : c.args.self.now ≡ drop c.self.inside.at c.self.inside.bytes.items = sym c.self.view_is in
+    let known : drop c.self.inside.at c.deref.result.now ≡ c.args.self.now = ap (λ all. drop c.self.inside.at all) c.deref.ensures.value ∙ sym is_left in
+    let copied : c.copy_from_slice.new.self ≡ take c.min-count.result c.args.self.now =
+    c.copy_from_slice.ensures.after ∙ ap (λ all. take c.min-count.result all) (take_rest c.deref.result.now c.self.inside.at ∙ known) in
+    let size : c.min-count.result ≤ length c.args.self.now = omega (arith, ap length (take_rest c.deref.result.now c.self.inside.at ∙ known)) in
+    Took-some (read_split c.self.inside.bytes.items c.args.self.now c.copy_from_slice.new.self _ c.self.inside.at c.min-count.result is_left copied size)

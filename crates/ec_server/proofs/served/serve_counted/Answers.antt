@@ -1,0 +1,20 @@
+-- What the ending of the serving says is what the status says.
+use Rattle.std.proofs.Common.{sym, subst}
+use Rattle.ec_terms.specs.declared.theory.Theory.{Theory}
+use Rattle.ec_server.specs.declared.status.Status.{Status}
+use Rattle.ec_server.specs.Ending.{IsEnding, SaysServed}
+use Rattle.ec_server.specs.Answered.{in_ticks}
+use Rattle.ec_server.proofs.Endings.{SaysServed-of}
+use Rattle.ec_server.proofs.served.serve_counted.Goals as goal
+
+pub returns : goal.returns
+returns g c =
+    let ending = c.serve_input.ensures.ending in
+    subst (λ (s : Status). SaysServed g.S.Source.left g.S.Source.faults g.K.Sink.stands g.K.Sink.faults (in_ticks c.args.checked) c.args.limit c.args.input.now c.serve_input.new.input c.args.output.now c.serve_input.new.output s) (sym c.status.ensures)
+    (SaysServed-of g.S.Source.left g.S.Source.faults g.K.Sink.stands g.K.Sink.faults (in_ticks c.args.checked) c.args.limit c.args.input.now c.serve_input.new.input c.args.output.now c.serve_input.new.output c.serve_input.result (record {
+      taken = ending.0;
+      took = ending.1;
+      ended = subst (λ (theory : Theory). IsEnding g.K.Sink.stands (in_ticks theory) c.serve_input.result c.args.limit (g.S.Source.left c.serve_input.new.input) ending.0 c.args.output.now c.serve_input.new.output) c.in-Ok-made.ensures.theory ending.2;
+      read_fault = c.serve_input.ensures.read_fault;
+      write_fault = c.serve_input.ensures.write_fault;
+    }))

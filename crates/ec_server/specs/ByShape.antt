@@ -1,0 +1,85 @@
+-- What a run needs and what it may leave, by the shape of its words.
+use Rattle.std.specs.Prelude.{◌≡◌, ◌⊎◌, ℕ, Bool, true, false, List, Option, Some, IsSome}
+use Rattle.ec_terms.specs.declared.theory.Theory.{Theory}
+use Rattle.ec_axioms.specs.Lines.{lines_of}
+use Rattle.ec_outside.specs.Files.{Files, IsMissing, IsTooLong}
+use Rattle.ec_outside.specs.Streams.{AppendedPart, Took}
+use Rattle.ec_server.specs.Answered.{AnswersPart, in_ticks}
+use Rattle.ec_server.specs.InputLimits.{most_input, IsShort}
+use Rattle.ec_server.specs.LineFiles.{HasLines}
+use Rattle.ec_server.specs.Soaking.{IsSoakLine}
+use Rattle.ec_server.specs.TheoryFiles.{HasTheory, IsNoTheory, accepted_line, most_theory_bytes}
+use Rattle.ec_server.specs.Words.{Shape, check_theory, replay_lines, serve_theory, soak_lines}
+
+-- ---- files
+
+-- the theory that the words name is refused, and this is said of it
+abbrev pub IsRefused : Shape → Option Files → List ℕ → Type 0
+IsRefused (check_theory name) told text = IsNoTheory told name text
+IsRefused (serve_theory name) told text = IsNoTheory told name text
+IsRefused (replay_lines name lines) told text = IsNoTheory told name text
+IsRefused (soak_lines lines seed) told text = ⊥
+
+-- the file of the theory is too long
+abbrev pub HasLongTheory : Shape → Option Files → Type 0
+HasLongTheory (check_theory name) told = IsTooLong told name most_theory_bytes
+HasLongTheory (serve_theory name) told = IsTooLong told name most_theory_bytes
+HasLongTheory (replay_lines name lines) told = IsTooLong told name most_theory_bytes
+HasLongTheory (soak_lines lines seed) told = ⊥
+
+-- a file that the words name is missing
+abbrev pub LacksFile : Shape → Option Files → Type 0
+LacksFile (check_theory name) told = IsMissing told name
+LacksFile (serve_theory name) told = IsMissing told name
+LacksFile (replay_lines name lines) told = IsMissing told name ⊎ IsMissing told lines
+LacksFile (soak_lines lines seed) told = ⊥
+
+-- ---- what is served
+
+-- only `serve` takes input
+abbrev pub takes_input : Shape → Bool
+takes_input (check_theory name) = false
+takes_input (serve_theory name) = true
+takes_input (replay_lines name lines) = false
+takes_input (soak_lines lines seed) = false
+
+-- The theory and the bytes that are served: the theory in its file, and what is left of the input or what stands in the file of
+-- lines. The other shapes serve no lines of the outside.
+abbrev pub Serves : Option Files → Option (List ℕ) → Shape → Theory → List ℕ → Type 0
+Serves told left (check_theory name) theory text = ⊥
+Serves told left (serve_theory name) theory text = HasTheory told name theory × (left ≡ Some text)
+Serves told left (replay_lines name lines) theory text = HasTheory told name theory × HasLines told lines text
+Serves told left (soak_lines lines seed) theory text = ⊥
+
+-- the folder and the source tell what is served
+abbrev pub TellsServed : Option Files → Option (List ℕ) → Shape → Type 0
+TellsServed told left (check_theory name) = ⊥
+TellsServed told left (serve_theory name) = IsSome told × IsSome left
+TellsServed told left (replay_lines name lines) = IsSome told
+TellsServed told left (soak_lines lines seed) = ⊥
+
+-- the folder tells the files that the words name
+abbrev pub TellsFiles : Option Files → Shape → Type 0
+TellsFiles told (check_theory name) = IsSome told
+TellsFiles told (serve_theory name) = IsSome told
+TellsFiles told (replay_lines name lines) = IsSome told
+TellsFiles told (soak_lines lines seed) = Unit {0}
+
+-- all is there for a run that is to end with 0: the theory, and an input or a file of lines that is not too long
+abbrev pub IsReady : Option Files → Option (List ℕ) → Shape → Type 0
+IsReady told left (check_theory name) = (theory : Theory) × HasTheory told name theory
+IsReady told left (serve_theory name) =
+    (theory : Theory) × (text : List ℕ) × HasTheory told name theory × (left ≡ Some text) × IsShort (in_ticks theory) most_input text
+IsReady told left (replay_lines name lines) = (theory : Theory) × (text : List ℕ) × HasTheory told name theory × HasLines told lines text
+IsReady told left (soak_lines lines seed) = Unit {0}
+
+-- ---- what is written where the output fails
+
+-- A first part of the replies to the lines that were read, or of the one line that is to be written.
+abbrev pub WrotePart : {K : Type 0} → (K → List ℕ → Type 0) → Option Files → Option (List ℕ) → Option (List ℕ) → Shape → K → K → Type 0
+WrotePart stands told before after (check_theory name) old new = (theory : Theory) × HasTheory told name theory × AppendedPart stands old new (accepted_line theory)
+WrotePart stands told before after (serve_theory name) old new =
+    (theory : Theory) × HasTheory told name theory × ((taken : List ℕ) × Took before after taken × AnswersPart stands (in_ticks theory) (lines_of taken) old new)
+WrotePart stands told before after (replay_lines name lines) old new =
+    (theory : Theory) × HasTheory told name theory × ((text : List ℕ) × HasLines told lines text × AnswersPart stands (in_ticks theory) (lines_of text) old new)
+WrotePart stands told before after (soak_lines lines seed) old new = (text : List ℕ) × IsSoakLine lines seed text × AppendedPart stands old new text

@@ -1,8 +1,0 @@
--- What lines are answered from.
-use Rattle.ec_terms.specs.declared.theory.Theory.{Theory}
-use Rattle.ec_axioms.specs.Replies.{State}
-
--- a theory, and what the lines so far have left
-pub record DeskState : Type 0 where
-  pub theory : Theory
-  pub state : State

@@ -1,0 +1,42 @@
+//! Serving the lines of a file.
+ghost use Rattle.std.specs.Prelude.{◌≡◌, ◌≤◌, length};
+ghost use Rattle.ec_server.specs.Answered.{in_ticks};
+ghost use Rattle.ec_server.specs.CommandEnds.{SaysBytes, SaysReplayed};
+
+use crate::file_source::FileSource;
+use crate::served::{MOST_INPUT, serve};
+use crate::status::Status;
+use ec_check::Checked;
+use ec_outside::{Folder, FolderAnswer, Sink};
+use std::alloc::Global;
+
+/// The most bytes that a file of lines has.
+pub const MOST_REPLAYED: usize = 67_108_864;
+
+/// Serves the lines of bytes with a theory.
+fn serve_bytes<K: Sink>(alloc: Global, checked: Checked, bytes: Vec<u8>, output: &mut K) -> Status
+    requires { length bytes.items ≤ MOST_REPLAYED }
+    ensures { SaysBytes K.stands K.faults (in_ticks checked) output.old output.new bytes.items result }
+{
+    let mut source = FileSource::new(bytes);
+    serve(alloc, checked, &mut source, output, MOST_INPUT)
+}
+
+/// Serves the lines of a file with a theory.
+pub(crate) fn replay_with<F: Folder, K: Sink>(
+    alloc: Global,
+    checked: Checked,
+    lines: &str,
+    files: &mut F,
+    output: &mut K,
+) -> Status
+    ensures { SaysReplayed K.stands K.faults (F.files files.old) lines.now (F.faults files.old) (F.faults files.new) output.old output.new checked result }
+{
+    let mut bytes = Vec::new(alloc);
+    match files.read_whole(lines, &mut bytes, MOST_REPLAYED) {
+        Ok(()) => serve_bytes(alloc, checked, bytes, output),
+        Err(FolderAnswer::Failed) => Status::FolderFault,
+        Err(FolderAnswer::Memory) => Status::NoMemory,
+        Err(FolderAnswer::Long) => Status::LongLines,
+    }
+}

@@ -1,0 +1,94 @@
+//! Serving generated lines.
+ghost use Rattle.std.specs.Prelude.{◌≡◌, ◌≤◌, ◌⊎◌, IfOk, length};
+ghost use Rattle.ec_outside.specs.Counts.{Rose};
+ghost use Rattle.ec_outside.specs.Streams.{Kept};
+ghost use Rattle.ec_server.specs.CommandEnds.{SaysSoaked};
+ghost use Rattle.ec_server.specs.Soaking.{IsSoaked, soak_text};
+
+use crate::served::serve;
+use crate::status::Status;
+use ec_outside::Sink;
+use ec_soak::{Counts, SoakSource, TallySink, write_summary};
+use ec_terms::NoMemory;
+use ec_theory::accept;
+use std::alloc::Global;
+
+/// The theory that generated lines are served with: lamps, and people who are at one place each.
+#[tactic(auto, unfolding(crate::specs::Soaking::soak_text))]
+fn soak_text() -> &'static [u8]
+    ensures text { result.now ≡ soak_text }
+    ensures short { length result.now ≤ 400 }
+{
+    b"initiates push(P,L) lit(L) if powered(L), not lit(L).
+terminates push(P,L) lit(L) if lit(L).
+initiates plug(L) powered(L).
+terminates unplug(L) powered(L).
+terminates unplug(L) lit(L).
+initiates move(P,Y) at(P,Y).
+terminates leave(P,Y) at(P,Y).
+exclusive at(X,Y) at(X,Z).
+strong at/2.
+"
+}
+
+/// Serves so many lines drawn from the seed, and counts the replies. `Err`: memory ran out, be it for one line.
+fn soak(alloc: Global, lines: u32, seed: u64) -> Result<Counts, NoMemory>
+    ensures { IfOk result (λ counts. IsSoaked lines seed counts) }
+{
+    let Ok(checked) = accept(alloc, soak_text()) else {
+        return Err(NoMemory); // there is no other fault: the text is a theory
+    };
+    let mut input = SoakSource::new(lines, seed);
+    let mut output = TallySink::new();
+    match serve(alloc, checked, &mut input, &mut output, u64::MAX) {
+        Status::Done => without_refusals(output.counts()),
+        _ => Err(NoMemory),
+    }
+}
+
+/// The counts, if no line says that memory ran out.
+fn without_refusals(counts: Counts) -> Result<Counts, NoMemory>
+    ensures same { IfOk result (λ all. all ≡ counts) }
+    ensures none { IfOk result (λ all. all.memory ≡ 0) }
+{
+    if counts.memory == 0 {
+        Ok(counts)
+    } else {
+        Err(NoMemory)
+    }
+}
+
+/// Hands on the one line of a run.
+fn hand_on_line<K: Sink>(output: &mut K) -> Status
+    ensures kept { Kept K.stands output.old output.new }
+    ensures either { (result ≡ Status.Done) ⊎ ((result ≡ Status.WriteFault) × Rose (K.faults output.old) (K.faults output.new)) }
+{
+    match output.flush() {
+        Ok(()) => Status::Done,
+        Err(_) => Status::WriteFault,
+    }
+}
+
+/// Writes the line that sums up a run, and hands it on.
+fn tell_summary<K: Sink>(lines: u32, seed: u64, counts: &Counts, output: &mut K) -> Status
+    requires { IsSoaked lines seed counts.now }
+    ensures { SaysSoaked K.stands K.faults output.old output.new lines seed result }
+{
+    match write_summary(lines, counts, output) {
+        Ok(()) => hand_on_line(output),
+        Err(_) => Status::WriteFault,
+    }
+}
+
+/// Serves so many lines drawn from the seed, with replies that are counted alone, and writes the line that sums them up.
+///
+/// The status is `Done` if the line was written, `WriteFault` if the output failed, and `NoMemory` if memory ran out, be it for one
+/// line; then nothing was written.
+pub fn soak_command<K: Sink>(alloc: Global, lines: u32, seed: u64, output: &mut K) -> Status
+    ensures { SaysSoaked K.stands K.faults output.old output.new lines seed result }
+{
+    match soak(alloc, lines, seed) {
+        Ok(counts) => tell_summary(lines, seed, &counts, output),
+        Err(NoMemory) => Status::NoMemory,
+    }
+}

@@ -1,0 +1,108 @@
+-- What the engine says of a batch is the reply to an update or to a commit.
+use Rattle.std.proofs.Common.{◌≡◌, ℕ, Bool, true, false, List, [], ◌∷◌, Option, Some, None, Result, Ok, Err, IsTrue, refl, sym, ap, ◌∙◌}
+use Rattle.std.specs.Prelude.{slice_set, length, nat_le, nat_lt, if◌then◌else◌}
+use Rattle.ec_terms.specs.declared.theory.Theory.{Theory}
+use Rattle.ec_axioms.specs.declared.event.Cut.{Cut}
+use Rattle.ec_axioms.specs.declared.event.Cut.TheVariants.{Duplicate, Unknown, FullEvents, FullMentions, FullLinks}
+use Rattle.ec_axioms.specs.declared.event.Seen.{Seen}
+use Rattle.ec_axioms.specs.Answers.{answer_ok, refused_commit, refused_update}
+use Rattle.ec_axioms.specs.Calculus.{PlainEvent}
+use Rattle.ec_axioms.specs.Changes.{PlainUpdate, PlacedCut, after_update, has_id, with_event}
+use Rattle.ec_axioms.specs.Links.{most_events, most_links, most_mentions, link_count, mentions_of}
+use Rattle.ec_replies.specs.State.{State, draft_of}
+use Rattle.ec_replies.specs.Updates.{asserted, retracted, updated, updated_by, updated_from, with_few_mentions}
+use Rattle.ec_replies.specs.Replies.{answering, commit_reply, reply_to_commit, update_reply}
+use Rattle.ec_replies.specs.Runs.{may_want_by}
+use Rattle.ec_replies.proofs.ByDraft.{reply_to_commit-open}
+use Rattle.ec_engine.specs.declared.refusal.Refusal.TheVariants.{Update, Memory}
+use Rattle.ec_engine.specs.Revise.{IsRevised, batch_may_want_memory}
+
+-- the state with other events, counts and drafts
+abbrev pub state_of : List PlainEvent → Seen → State → State
+state_of events last state = record { events = events; last = last; drafts = state.drafts }
+
+-- ---- one update
+
+-- a batch of one update does what the update does
+one-made : (theory : Theory) (events after : List PlainEvent) (update : PlainUpdate) → updated_by theory events (update ∷ []) ≡ Ok after → updated theory events update ≡ Ok after
+unfolding updated_from
+one-made theory events after update is = by_outcome (updated theory events update) is
+  where
+    by_outcome : (r : Result (List PlainEvent) Cut) → after_update 1 r (λ a. Ok a) ≡ Ok after → r ≡ Ok after
+    by_outcome (Ok a) so = let same : a ≡ after = cc in ap (λ (events : List PlainEvent). Ok events) same
+    by_outcome (Err cut) so = cc
+
+one-refused : (theory : Theory) (events : List PlainEvent) (update : PlainUpdate) (place : ℕ) (cut : Cut) → updated_by theory events (update ∷ []) ≡ Err (place, cut)
+    → updated theory events update ≡ Err cut
+unfolding updated_from
+one-refused theory events update place cut is = by_outcome (updated theory events update) is
+  where
+    by_outcome : (r : Result (List PlainEvent) Cut) → after_update 1 r (λ a. Ok a) ≡ Err (place, cut) → r ≡ Err cut
+    by_outcome (Ok a) so = cc
+    by_outcome (Err c) so = let same : (1, c) ≡ (place, cut) = cc in ap (λ (placed : PlacedCut). Err placed.1) same
+
+module _ (theory : Theory) (state : State) where
+  pub update_reply-made : (update : PlainUpdate) (seen : Seen) (after : List PlainEvent) → IsRevised theory state.events (update ∷ []) (Ok seen) after → (prefix : Option ℕ)
+      → update_reply theory prefix state (updated theory state.events update) ≡ answering prefix answer_ok (state_of after seen state)
+  update_reply-made update seen after made prefix =
+      ap (update_reply theory prefix state) (one-made theory state.events after update made.0) ∙ ap (λ (last : Seen). answering prefix answer_ok (state_of after last state)) (sym made.1)
+
+  pub update_reply-refused : (update : PlainUpdate) (place : ℕ) (cut : Cut) (after : List PlainEvent) → IsRevised theory state.events (update ∷ []) (Err (Update place cut)) after → (prefix : Option ℕ)
+      → update_reply theory prefix state (updated theory state.events update) ≡ answering prefix (refused_update cut) (state_of after state.last state)
+  update_reply-refused update place cut after refused prefix =
+      ap (update_reply theory prefix state) (one-refused theory state.events update place cut refused.0)
+      ∙ ap (λ (events : List PlainEvent). answering prefix (refused_update cut) (state_of events state.last state)) (sym refused.1)
+
+  -- memory may run out for it
+  pub may_want-one : (update : PlainUpdate) (after : List PlainEvent) → IsRevised theory state.events (update ∷ []) (Err Memory) after → IsTrue (may_want_by (updated theory state.events update))
+  unfolding batch_may_want_memory
+  may_want-one update after wanting = wanting.0
+
+  pub state-kept : (updates : List PlainUpdate) (after : List PlainEvent) → IsRevised theory state.events updates (Err Memory) after → state_of after state.last state ≡ state
+  state-kept updates after wanting = ap (λ (events : List PlainEvent). state_of events state.last state) wanting.1
+
+  -- ---- a commit
+
+  pub reply_to_commit-made : (session : ℕ) (held : List PlainUpdate) (seen : Seen) (after : List PlainEvent) → draft_of session state ≡ Some held
+      → IsRevised theory state.events held (Ok seen) after → (prefix : Option ℕ)
+      → reply_to_commit theory prefix session state ≡ answering prefix answer_ok (record { events = after; last = seen; drafts = slice_set state.drafts session None })
+  reply_to_commit-made session held seen after opened made prefix =
+      reply_to_commit-open prefix session state theory held opened ∙ ap (commit_reply theory prefix session state) made.0
+      ∙ ap (λ (last : Seen). answering prefix answer_ok (record { events = after; last = last; drafts = slice_set state.drafts session None })) (sym made.1)
+
+  pub reply_to_commit-refused : (session : ℕ) (held : List PlainUpdate) (place : ℕ) (cut : Cut) (after : List PlainEvent) → draft_of session state ≡ Some held
+      → IsRevised theory state.events held (Err (Update place cut)) after → (prefix : Option ℕ)
+      → reply_to_commit theory prefix session state ≡ answering prefix (refused_commit place cut) (state_of after state.last state)
+  reply_to_commit-refused session held place cut after opened refused prefix =
+      reply_to_commit-open prefix session state theory held opened ∙ ap (commit_reply theory prefix session state) refused.0
+      ∙ ap (λ (events : List PlainEvent). answering prefix (refused_commit place cut) (state_of events state.last state)) (sym refused.1)
+
+-- ---- what is always told
+
+pub asserted-duplicate : (theory : Theory) (events : List PlainEvent) (e : PlainEvent) → has_id e.id events ≡ true → asserted theory events e ≡ Err (Duplicate e.id)
+unfolding asserted
+asserted-duplicate theory events e present = rw present refl
+
+pub asserted-full : (theory : Theory) (events : List PlainEvent) (e : PlainEvent) → has_id e.id events ≡ false → nat_le most_events (length events) ≡ true
+    → asserted theory events e ≡ Err FullEvents
+unfolding asserted
+asserted-full theory events e absent full = rw (absent, full) refl
+
+-- memory may run out for any other event
+pub asserted-may_want : (theory : Theory) (events : List PlainEvent) (e : PlainEvent) → has_id e.id events ≡ false → nat_le most_events (length events) ≡ false
+    → IsTrue (may_want_by (asserted theory events e))
+unfolding asserted with_few_mentions
+asserted-may_want theory events e absent room = rw (absent, room) (by_limits (nat_lt most_mentions (length (mentions_of theory (with_event e events)))) (nat_lt most_links (link_count theory (with_event e events))))
+  where
+    by_limits : (mentions links : Bool) → IsTrue (may_want_by (if mentions then Err FullMentions else (if links then Err FullLinks else Ok (with_event e events))))
+    by_limits true links = refl
+    by_limits false true = refl
+    by_limits false false = refl
+
+pub retracted-unknown : (events : List PlainEvent) (id : List ℕ) → has_id id events ≡ false → retracted events id ≡ Err (Unknown id)
+unfolding retracted
+retracted-unknown events id absent = rw absent refl
+
+pub retracted-may_want : (events : List PlainEvent) (id : List ℕ) → has_id id events ≡ true → IsTrue (may_want_by (retracted events id))
+unfolding retracted
+retracted-may_want events id present = rw present refl

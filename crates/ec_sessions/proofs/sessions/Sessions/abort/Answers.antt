@@ -1,0 +1,19 @@
+-- The draft is closed, or it was closed and nothing changed.
+use Rattle.std.proofs.Common.{◌≡◌, ℕ, Option, List, sym, ap, ◌∙◌, subst}
+use Rattle.ec_axioms.specs.Answers.{answer_ok}
+use Rattle.ec_replies.specs.State.{Draft, State, draft_of}
+use Rattle.ec_replies.specs.Replies.{answering, reply_to_abort}
+use Rattle.ec_replies.proofs.ByDraft.{reply_to_abort-closed, reply_to_abort-open}
+use Rattle.ec_sessions.specs.SessionsState.{SessionsState}
+use Rattle.ec_sessions.proofs.sessions.Sessions.abort.Goals as goal
+
+pub returns-in-Some-clause-reply : goal.returns-in-Some-clause-reply
+returns-in-Some-clause-reply g c =
+    let inside : State = record { events = c.self.inside.engine.events; last = c.self.inside.last; drafts = c.self.inside.drafts } in
+    let after : List Draft → State = λ ds. record { events = inside.events; last = inside.last; drafts = ds } in
+    subst (λ (d : SessionsState). (prefix : Option ℕ) → reply_to_abort prefix c.args.session d.state ≡ answering prefix answer_ok (after c.close.new.self)) c.self.view_is
+    (λ prefix. reply_to_abort-open prefix c.args.session inside _ c.in-Some.ensures.open ∙ ap (λ ds. answering prefix answer_ok (after ds)) (sym c.close.ensures))
+
+pub returns-in-None-clause-reply : goal.returns-in-None-clause-reply
+returns-in-None-clause-reply g c = λ prefix.
+    reply_to_abort-closed prefix c.args.session c.args.self.now.state (ap (λ (d : SessionsState). draft_of c.args.session d.state) (sym c.self.view_is) ∙ c.in-None.ensures.closed)

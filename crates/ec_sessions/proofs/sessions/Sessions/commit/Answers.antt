@@ -1,0 +1,76 @@
+-- All updates of the draft are made and it is closed, or nothing changed.
+use Rattle.std.proofs.Common.{◌+◌, ◌≤◌, ℕ, Err, List, inl, inr, map, sym, ap, ◌∙◌, refl, subst}
+use Rattle.ec_axioms.specs.Answers.{answer_ok, refused_commit, refused_memory}
+use Rattle.ec_axioms.specs.Changes.{PlainUpdate}
+use Rattle.ec_axioms.specs.Events.{plain_update}
+use Rattle.ec_replies.specs.State.{Draft, State, draft_of}
+use Rattle.ec_replies.specs.Replies.{answering, reply_to_commit}
+use Rattle.ec_replies.specs.Runs.{commit_may_want_memory}
+use Rattle.ec_replies.proofs.ByDraft.{reply_to_commit-closed, commit_may_want_memory-open}
+use Rattle.ec_sessions.specs.Answering.{IsAnswerBy}
+use Rattle.ec_sessions.specs.LineSteps.{most_commit_steps}
+use Rattle.ec_engine.specs.declared.refusal.Refusal.{Refusal}
+use Rattle.ec_engine.specs.Revise.{IsRevised}
+use Rattle.ec_sessions.specs.SessionsState.{SessionsState}
+use Rattle.ec_sessions.proofs.Revisions.{reply_to_commit-made, reply_to_commit-refused, state-kept}
+use Rattle.ec_sessions.proofs.StepCounts.{most_commit_steps-open}
+use Rattle.ec_sessions.proofs.sessions.Sessions.commit.Goals as goal
+
+pub returns-in_default-clause-reply : goal.returns-in_default-clause-reply
+returns-in_default-clause-reply g c = inl (λ prefix.
+    reply_to_commit-closed prefix c.args.session c.args.self.now.state c.args.self.now.theory
+    (ap (λ (d : SessionsState). draft_of c.args.session d.state) (sym c.self.view_is) ∙ c.in_default.ensures.closed))
+
+pub returns-in-Ok-clause-reply : goal.returns-in-Ok-clause-reply
+returns-in-Ok-clause-reply g c =
+    let inside : State = record { events = c.self.inside.engine.events; last = c.self.inside.last; drafts = c.self.inside.drafts } in
+    let theory = c.self.inside.engine.theory in
+    let after : List Draft → State = λ ds. record { events = c.revise.new.self.events; last = c.in-Ok.seen; drafts = ds } in
+    subst (λ (d : SessionsState). IsAnswerBy (λ prefix. reply_to_commit d.theory prefix c.args.session d.state) (commit_may_want_memory c.args.session d.state) d.state answer_ok (after c.close.new.self)) c.self.view_is
+    (inl (λ prefix. reply_to_commit-made theory inside c.args.session _ c.in-Ok.seen c.revise.new.self.events c.in-Some.ensures.open c.in-Ok.ensures.revised prefix
+    ∙ ap (λ ds. answering prefix answer_ok (after ds)) (sym c.close.ensures)))
+
+pub returns-in-Err-Update-clause-reply : goal.returns-in-Err-Update-clause-reply
+returns-in-Err-Update-clause-reply g c =
+    let inside : State = record { events = c.self.inside.engine.events; last = c.self.inside.last; drafts = c.self.inside.drafts } in
+    let theory = c.self.inside.engine.theory in
+    let held : List PlainUpdate = map (plain_update g.T.Moment.rank) c.in-Some.held.now in
+    let after : State = record { events = c.revise.new.self.events; last = c.self.inside.last; drafts = c.self.inside.drafts } in
+    subst (λ (d : SessionsState). IsAnswerBy (λ prefix. reply_to_commit d.theory prefix c.args.session d.state) (commit_may_want_memory c.args.session d.state) d.state (refused_commit c.in-Err-Update.place c.in-Err-Update.cut) after) c.self.view_is
+    (inl (λ prefix. reply_to_commit-refused theory inside c.args.session _ c.in-Err-Update.place c.in-Err-Update.cut c.revise.new.self.events c.in-Some.ensures.open
+    (subst (λ (r : Refusal). IsRevised theory inside.events held (Err r) after.events) c.in-Err-Update.field-0-is c.in-Err-Update.ensures.revised) prefix))
+
+pub returns-in-Err-Memory-clause-reply : goal.returns-in-Err-Memory-clause-reply
+returns-in-Err-Memory-clause-reply g c =
+    let inside : State = record { events = c.self.inside.engine.events; last = c.self.inside.last; drafts = c.self.inside.drafts } in
+    let theory = c.self.inside.engine.theory in
+    let held : List PlainUpdate = map (plain_update g.T.Moment.rank) c.in-Some.held.now in
+    let after : State = record { events = c.revise.new.self.events; last = c.self.inside.last; drafts = c.self.inside.drafts } in
+    subst (λ (d : SessionsState). IsAnswerBy (λ prefix. reply_to_commit d.theory prefix c.args.session d.state) (commit_may_want_memory c.args.session d.state) d.state refused_memory after) c.self.view_is
+    (inr (
+      commit_may_want_memory-open c.args.session inside held c.in-Some.ensures.open,
+      refl,
+      state-kept theory inside held c.revise.new.self.events
+          (subst (λ (r : Refusal). IsRevised theory inside.events held (Err r) after.events) c.in-Err-Memory.field-0-is c.in-Err-Memory.ensures.revised),
+    ))
+
+pub returns-in-Ok-clause-steps : goal.returns-in-Ok-clause-steps
+returns-in-Ok-clause-steps g c =
+    let inside : State = record { events = c.self.inside.engine.events; last = c.self.inside.last; drafts = c.self.inside.drafts } in
+    let held : List PlainUpdate = map (plain_update g.T.Moment.rank) c.in-Some.held.now in
+    subst (λ (d : SessionsState). c.revise.new.steps ≤ c.args.steps.now + most_commit_steps d.theory c.args.session d.state) c.self.view_is
+    (subst (λ (n : ℕ). c.revise.new.steps ≤ c.args.steps.now + n) (sym (most_commit_steps-open c.self.inside.engine.theory c.args.session inside held c.in-Some.ensures.open)) c.revise.ensures.steps)
+
+pub returns-in-Err-Update-clause-steps : goal.returns-in-Err-Update-clause-steps
+returns-in-Err-Update-clause-steps g c =
+    let inside : State = record { events = c.self.inside.engine.events; last = c.self.inside.last; drafts = c.self.inside.drafts } in
+    let held : List PlainUpdate = map (plain_update g.T.Moment.rank) c.in-Some.held.now in
+    subst (λ (d : SessionsState). c.revise.new.steps ≤ c.args.steps.now + most_commit_steps d.theory c.args.session d.state) c.self.view_is
+    (subst (λ (n : ℕ). c.revise.new.steps ≤ c.args.steps.now + n) (sym (most_commit_steps-open c.self.inside.engine.theory c.args.session inside held c.in-Some.ensures.open)) c.revise.ensures.steps)
+
+pub returns-in-Err-Memory-clause-steps : goal.returns-in-Err-Memory-clause-steps
+returns-in-Err-Memory-clause-steps g c =
+    let inside : State = record { events = c.self.inside.engine.events; last = c.self.inside.last; drafts = c.self.inside.drafts } in
+    let held : List PlainUpdate = map (plain_update g.T.Moment.rank) c.in-Some.held.now in
+    subst (λ (d : SessionsState). c.revise.new.steps ≤ c.args.steps.now + most_commit_steps d.theory c.args.session d.state) c.self.view_is
+    (subst (λ (n : ℕ). c.revise.new.steps ≤ c.args.steps.now + n) (sym (most_commit_steps-open c.self.inside.engine.theory c.args.session inside held c.in-Some.ensures.open)) c.revise.ensures.steps)

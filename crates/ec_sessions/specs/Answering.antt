@@ -1,0 +1,53 @@
+-- What it is to answer a command: by one of the fixed forms, or by a list that is still to be written.
+use Rattle.std.specs.Prelude.{◌≡◌, ◌⊎◌, ℕ, ℤ, Bool, true, false, List, Option, IsTrue}
+use Rattle.ec_terms.specs.Term.{ground_of}
+use Rattle.ec_axioms.specs.Commands.{PlainCommand, silent, ask_intervals, ask_broken, ask_at, ask_clashes, ask_events, ask_why}
+use Rattle.ec_axioms.specs.Answers.{PlainAnswer, answer_bye, refused_memory}
+use Rattle.ec_lines.specs.ShownAnswer.{plain_answer}
+use Rattle.ec_outside.specs.Streams.{Appended, AppendedPart}
+use Rattle.ec_replies.specs.State.{State}
+use Rattle.ec_replies.specs.Replies.{Language, Reply, answering, command_reply}
+use Rattle.ec_replies.specs.Runs.{command_may_want_memory, command_quits}
+use Rattle.ec_sessions.specs.declared.handled.Handled.{Handled}
+use Rattle.ec_sessions.specs.declared.handled.Handled.TheVariants.{Go, Bye, WriteFault}
+use Rattle.ec_sessions.specs.declared.told.Listing.{Listing}
+use Rattle.ec_sessions.specs.declared.told.Listing.TheVariants.{Intervals, Broken, At, Clashes, Events, Why}
+use Rattle.ec_sessions.specs.declared.told.Told.{Told}
+use Rattle.ec_sessions.specs.declared.told.Told.TheVariants.{Nothing, Answer, List as ToList}
+
+-- The answer is that of a reply, whatever prefix the line has, and the state is the one after the reply; or memory ran out,
+-- where it may, and the state is as it was.
+abbrev pub IsAnswerBy : (Option ℕ → Reply) → Bool → State → PlainAnswer → State → Type 0
+IsAnswerBy reply may before answer after =
+    ((prefix : Option ℕ) → reply prefix ≡ answering prefix answer after) ⊎ (IsTrue may × (answer ≡ refused_memory) × (after ≡ before))
+
+-- the answer to `quit`
+abbrev pub is_bye : PlainAnswer → Bool
+is_bye answer_bye = true
+is_bye answer = false
+
+-- the answer is that to a command of a session, and only `quit` is answered by `bye`
+pub record IsAnswerTo (language : Language) (session : ℕ) (before : State) (command : PlainCommand) (answer : PlainAnswer) (after : State) : Type 0 where
+  pub by : IsAnswerBy (λ prefix. command_reply language prefix session before command) (command_may_want_memory language.theory session before command) before answer after
+  pub quits : is_bye answer ≡ command_quits command
+
+-- the query that asks for a list or a reason
+abbrev pub plain_listing : {T : Type 0} → (T → ℤ) → Listing T → PlainCommand
+plain_listing rank (Intervals prop) = ask_intervals (ground_of prop)
+plain_listing rank (Broken prop) = ask_broken (ground_of prop)
+plain_listing rank (At at) = ask_at (rank at)
+plain_listing rank Clashes = ask_clashes
+plain_listing rank Events = ask_events
+plain_listing rank (Why prop at) = ask_why (ground_of prop) (rank at)
+
+-- A command is silent, or its answer is told, or it is a query whose list is still to be written.
+abbrev pub IsTold : {T : Type 0} → (T → ℤ) → Language → ℕ → State → PlainCommand → Told T → State → Type 0
+IsTold rank language session before command Nothing after = (command ≡ silent) × (after ≡ before)
+IsTold rank language session before command (Answer answer) after = IsAnswerTo language session before command (plain_answer answer) after
+IsTold rank language session before command (ToList listing) after = (command ≡ plain_listing rank listing) × (after ≡ before)
+
+-- a text was written whole, and how the line was handled says whether it quits; or a first part of the text was written
+abbrev pub IsWritten : {K : Type 0} → (K → List ℕ → Type 0) → Handled → Bool → List ℕ → K → K → Type 0
+IsWritten stands Go quits text old new = (quits ≡ false) × Appended stands old new text
+IsWritten stands Bye quits text old new = (quits ≡ true) × Appended stands old new text
+IsWritten stands WriteFault quits text old new = AppendedPart stands old new text

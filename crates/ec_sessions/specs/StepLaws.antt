@@ -1,0 +1,49 @@
+-- The laws of the steps that lines may take, as statements. Each is the contract of a function of the module of laws.
+use Rattle.std.specs.Prelude.{◌≡◌, ℕ, ℤ, Bool, true, false, ◌||◌, List, length, Some, IsTrue, IsFalse}
+use Rattle.ec_terms.specs.declared.ground.Ground.{Ground}
+use Rattle.ec_axioms.specs.Changes.{PlainUpdate}
+use Rattle.ec_axioms.specs.Commands.{PlainCommand, assert_event, retract_event, commit_draft, ask_events, ask_why, parsed_of}
+use Rattle.ec_axioms.specs.Lines.{is_long}
+use Rattle.ec_engine.specs.Revise.{most_steps}
+use Rattle.ec_reasons.specs.ReadEvents.{why_steps}
+use Rattle.ec_replies.specs.State.{State, draft_of}
+use Rattle.ec_replies.specs.Replies.{Language, session_of}
+use Rattle.ec_replies.specs.Laws.{IsOpen, asked_update, line_command}
+use Rattle.ec_sessions.specs.LineSteps.{most_line_steps}
+
+-- the command changes no event, lists none and names none as a cause
+abbrev pub reads_no_event : PlainCommand → Bool
+reads_no_event (assert_event id t term) = false
+reads_no_event (retract_event id) = false
+reads_no_event commit_draft = false
+reads_no_event ask_events = false
+reads_no_event (ask_why p t) = false
+reads_no_event command = true
+
+-- Such a line takes no step, and neither does a long one: its answer is read off the caches.
+abbrev pub OtherLinesTakeNoStep : Type 0
+OtherLinesTakeNoStep =
+    (language : Language) (state : State) (line : List ℕ) → IsTrue (is_long line || reads_no_event (line_command language line)) → most_line_steps language state line ≡ 0
+
+-- To list the events takes one step for each of them.
+abbrev pub EventsTakeAStepEach : Type 0
+EventsTakeAStepEach =
+    (language : Language) (state : State) (line : List ℕ) → IsFalse (is_long line) → line_command language line ≡ ask_events → most_line_steps language state line ≡ length state.events
+
+-- To tell a reason takes two steps for each event at its instants.
+abbrev pub ReasonsTakeTheirSteps : Type 0
+ReasonsTakeTheirSteps =
+    (language : Language) (state : State) (line : List ℕ) (p : Ground) (t : ℤ) → IsFalse (is_long line) → line_command language line ≡ ask_why p t
+    → most_line_steps language state line ≡ why_steps language.theory state.events p t
+
+-- An update that is held in a draft, or refused by one that is full, takes no step.
+abbrev pub HeldUpdatesTakeNoStep : Type 0
+HeldUpdatesTakeNoStep =
+    (language : Language) (state : State) (line : List ℕ) (update : PlainUpdate) → IsFalse (is_long line) → asked_update (line_command language line) ≡ Some update
+    → IsOpen (session_of (parsed_of language.spelt line)) state → most_line_steps language state line ≡ 0
+
+-- A commit takes the steps of its draft as one batch.
+abbrev pub CommitsTakeTheirBatch : Type 0
+CommitsTakeTheirBatch =
+    (language : Language) (state : State) (line : List ℕ) (held : List PlainUpdate) → IsFalse (is_long line) → line_command language line ≡ commit_draft
+    → draft_of (session_of (parsed_of language.spelt line)) state ≡ Some held → most_line_steps language state line ≡ most_steps language.theory state.events held

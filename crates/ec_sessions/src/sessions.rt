@@ -1,0 +1,156 @@
+//! The sessions, and how they handle one line.
+ghost use Rattle.std.specs.Prelude.{◌≡◌, ◌≤◌, ◌+◌, ◌<◌, ℕ, List, false, IfOk, IfSome};
+ghost use Rattle.ec_axioms.specs.Commands.{parsed_of};
+ghost use Rattle.ec_axioms.specs.Lines.{is_long};
+ghost use Rattle.ec_axioms.specs.declared.limits.TheConstants.{SESSIONS};
+ghost use Rattle.ec_lines.specs.ShownCommand.{plain_command, plain_parsed, AreNamed};
+ghost use Rattle.ec_lines.specs.ShownLine.{ShowsLine};
+ghost use Rattle.ec_outside.specs.Counts.{Rose};
+ghost use Rattle.ec_replies.specs.State.{empty_state};
+ghost use Rattle.ec_sessions.specs.Answering.{IsTold};
+ghost use Rattle.ec_sessions.specs.Handling.{IsHandled};
+ghost use Rattle.ec_sessions.specs.LineSteps.{most_change_steps, most_line_steps, most_parsed_steps};
+
+use crate::asking::{answer_holds, answer_through};
+use crate::drafts::Drafts;
+use crate::handled::Handled;
+use crate::reply::reply;
+use crate::told::{Listing, Told};
+use ec_axioms::{Seen, Steps};
+use ec_check::Checked;
+use ec_engine::Engine;
+use ec_lines::{Answer, Command, Line, Parsed, read_command};
+use ec_moment::Moment;
+use ec_outside::Sink;
+use ec_rows::{MarkRow, SpanRow, TimeRow};
+use ec_terms::NoMemory;
+use std::alloc::Global;
+use std::marker::Model;
+use std::sync::ledger::Ledger;
+
+/// The counts of a change that changed nothing.
+const NO_CHANGE: Seen = Seen {
+    seen: 0,
+    on: 0,
+    off: 0,
+    props: 0,
+};
+
+/// What lines are answered from: the engine, which keeps the present events and what the calculus makes of them; what the
+/// last accepted update changed; and the draft of each session. Contracts see the theory and the state of the replies.
+#[derive(Drop)]
+pub struct Sessions<T: Moment, M: MarkRow<T>, I: SpanRow<T>, X: TimeRow<T>> {
+    pub(crate) engine: Engine<T, M, I, X>,
+    pub(crate) last: Seen,
+    pub(crate) drafts: Drafts<T>,
+    pub(crate) alloc: Global,
+}
+
+impl<T: Moment, M: MarkRow<T>, I: SpanRow<T>, X: TimeRow<T>> Model for Sessions<T, M, I, X> {
+    ghost use Rattle.ec_sessions.specs.SessionsState.{SessionsState};
+
+    ghost Value = { SessionsState };
+
+    ghost view = { λ s. record { theory = s.engine.theory; state = record { events = s.engine.events; last = s.last; drafts = s.drafts } } };
+}
+
+impl<T: Moment, M: MarkRow<T>, I: SpanRow<T>, X: TimeRow<T>> Sessions<T, M, I, X> {
+    /// Sessions before the first line. `Err`: memory ran out, and the theory is dropped.
+    pub fn new(alloc: Global, checked: Checked) -> Result<Sessions<T, M, I, X>, NoMemory>
+        ensures theory { IfOk result (λ sessions. sessions.theory ≡ checked) }
+        ensures empty { IfOk result (λ sessions. sessions.state ≡ empty_state) }
+    {
+        let engine = Engine::new(alloc, checked)?;
+        let drafts = Drafts::new(alloc)?;
+        Ok(Sessions {
+            engine,
+            last: NO_CHANGE,
+            drafts,
+            alloc,
+        })
+    }
+
+    /// Answers a line: does what it says and writes its reply, if it has one. Of a reply that can't be written whole a first
+    /// part is written, and what the line changed stands. Only a well-formed `assert`, `retract` or `commit` takes memory.
+    pub fn handle<K: Sink, L: Ledger>(
+        &mut self,
+        line: Line<'_>,
+        out: &mut K,
+        steps: &mut Steps<L>,
+    ) -> Handled
+        ensures theory { self.new.theory ≡ self.old.theory }
+        ensures handled { (shown : List ℕ) → ShowsLine line.entry shown →
+            IsHandled K.stands (record { theory = self.old.theory; spelt = T.spelt; canon = T.canon }) result shown self.old.state self.new.state out.old out.new }
+        ensures failed { result ≡ Handled.WriteFault → Rose (K.faults out.old) (K.faults out.new) }
+        ensures counted { K.faults out.old ≤ K.faults out.new }
+        ensures steps { (shown : List ℕ) → ShowsLine line.entry shown →
+            steps.new ≤ steps.old + most_line_steps (record { theory = self.old.theory; spelt = T.spelt; canon = T.canon }) self.old.state shown }
+    {
+        match line {
+            Line::Text(bytes) => self.handle_parsed(read_command(bytes), out, steps),
+            Line::Long => reply(None, &Answer::LongLine, out),
+        }
+    }
+
+    /// Answers a line that is read.
+    fn handle_parsed<K: Sink, L: Ledger>(
+        &mut self,
+        parsed: Parsed<'_, T>,
+        out: &mut K,
+        steps: &mut Steps<L>,
+    ) -> Handled
+        requires named { AreNamed (plain_command T.rank parsed.command) }
+        requires session { IfSome parsed.session (λ session. session < SESSIONS) }
+        ensures theory { self.new.theory ≡ self.old.theory }
+        ensures handled { (line : List ℕ) → is_long line ≡ false → plain_parsed T.rank parsed.entry ≡ parsed_of T.spelt line →
+            IsHandled K.stands (record { theory = self.old.theory; spelt = T.spelt; canon = T.canon }) result line self.old.state self.new.state out.old out.new }
+        ensures failed { result ≡ Handled.WriteFault → Rose (K.faults out.old) (K.faults out.new) }
+        ensures counted { K.faults out.old ≤ K.faults out.new }
+        ensures steps { steps.new ≤ steps.old + most_parsed_steps self.old.theory self.old.state (plain_parsed T.rank parsed.entry) }
+    {
+        let prefix = parsed.session;
+        match self.answer(prefix.unwrap_or(0), parsed.command, steps) {
+            Told::Nothing => Handled::Go,
+            Told::Answer(answer) => reply(prefix, &answer, out),
+            Told::List(listing) => self.list(prefix, &listing, out, steps),
+        }
+    }
+
+    /// Does what a command of a session says, and tells its answer, or what is to be listed.
+    fn answer<'a, L: Ledger>(
+        &mut self,
+        session: u8,
+        command: Command<'a, T>,
+        steps: &mut Steps<L>,
+    ) -> Told<'a, T>
+        requires named { AreNamed (plain_command T.rank command) }
+        requires session { session < SESSIONS }
+        ensures theory { self.new.theory ≡ self.old.theory }
+        ensures told { IsTold T.rank (record { theory = self.old.theory; spelt = T.spelt; canon = T.canon }) session self.old.state (plain_command T.rank command.entry) result self.new.state }
+        ensures steps { steps.new ≤ steps.old + most_change_steps self.old.theory session self.old.state (plain_command T.rank command.entry) }
+    {
+        match command {
+            Command::Silent => Told::Nothing,
+            Command::Bad => Told::Answer(Answer::Syntax),
+            Command::Assert { id, at, event } => {
+                Told::Answer(self.assert(session, id, at, &event, steps))
+            }
+            Command::Retract { id } => Told::Answer(self.retract(session, id, steps)),
+            Command::Begin => Told::Answer(self.begin(session)),
+            Command::Commit => Told::Answer(self.commit(session, steps)),
+            Command::Abort => Told::Answer(self.abort(session)),
+            Command::Holds { prop, at } => Told::Answer(answer_holds(&self.engine, &prop, at)),
+            Command::Through { prop, from, until } => {
+                Told::Answer(answer_through(&self.engine, &prop, from, until))
+            }
+            Command::Intervals { prop } => Told::List(Listing::Intervals(prop)),
+            Command::Broken { prop } => Told::List(Listing::Broken(prop)),
+            Command::At { at } => Told::List(Listing::At(at)),
+            Command::Clashes => Told::List(Listing::Clashes),
+            Command::Events => Told::List(Listing::Events),
+            Command::Why { prop, at } => Told::List(Listing::Why(prop, at)),
+            Command::Last => Told::Answer(Answer::Last(self.last)),
+            Command::Quit => Told::Answer(Answer::Bye),
+        }
+    }
+}

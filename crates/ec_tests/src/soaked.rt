@@ -1,0 +1,70 @@
+//! Runs over generated lines.
+use crate::whole::{ROOM, folder, words};
+use ec_outside::{MemSink, MemSource};
+use ec_server::run;
+use ec_terms::NoMemory;
+use std::alloc::Global;
+use std::test::Fail;
+
+/// The status of a run over generated lines, where each call on the folder and on the input would fail, and what it wrote.
+fn soaked(
+    alloc: Global,
+    lines: &str,
+    seed: &str,
+    writes: &[u64],
+    flushes: &[u64],
+) -> Result<(u8, MemSink), NoMemory> {
+    let mut files = folder(alloc, b"", &[1])?;
+    let mut input = MemSource::new(alloc, b"quit\n", 4_096, &[1])?;
+    let mut output = MemSink::new(alloc, ROOM, 8, writes, flushes)?;
+    let words = words(alloc, &["soak", lines, seed])?;
+    let status = run(alloc, &words, &mut files, &mut input, &mut output);
+    Ok((status, output))
+}
+
+const ONE: &[u8] = b"soak lines 1 ok 1 yes 0 no 0 refused 0 bytes 3\n";
+
+/// How many lines, the seed, the writes and the flushes that fail, the status and what is written.
+const CASES: [(&str, &str, &[u64], &[u64], u8, &[u8]); 5] = [
+    ("1", "0", &[], &[], 0, ONE),
+    ("000001", "00000000000000000000", &[], &[], 0, ONE),
+    ("1", "0", &[2], &[], 5, b"soak lin"),
+    ("1", "0", &[1], &[], 5, b""),
+    ("1", "0", &[], &[1], 5, ONE),
+];
+
+#[test]
+fn generated_lines_are_served_and_counted(rt: HostRuntime) -> Result<(), Fail> {
+    for (lines, seed, writes, flushes, code, written) in CASES {
+        let (status, output) = soaked(rt.alloc(), lines, seed, writes, flushes)?;
+        assert_eq!(rt; status, code);
+        assert_eq!(rt; output.bytes(), written);
+    }
+    Ok(())
+}
+
+/// How many lines, the seed and the line, which an independent program told.
+const LINES: [(&str, &str, &[u8]); 2] = [
+    (
+        "2000",
+        "7",
+        b"soak lines 2000 ok 1052 yes 22 no 583 refused 124 bytes 11620\n",
+    ),
+    (
+        "100",
+        "18446744073709551615",
+        b"soak lines 100 ok 54 yes 0 no 26 refused 8 bytes 595\n",
+    ),
+];
+
+#[test]
+fn a_seed_gives_the_same_line_each_time(rt: HostRuntime) -> Result<(), Fail> {
+    for (lines, seed, line) in LINES {
+        for _ in 0..2 {
+            let (status, output) = soaked(rt.alloc(), lines, seed, &[], &[])?;
+            assert_eq!(rt; status, 0);
+            assert_eq!(rt; output.bytes(), line);
+        }
+    }
+    Ok(())
+}
