@@ -165,7 +165,9 @@ impl EntryList {
         ensures ok { OnOk result (self.new ≡ self.old ++ entry ∷ []) }
         ensures err { OnErr result (self.new ≡ self.old) }
     {
-        self.items.push(entry)?;
+        // Most events have an entry or two, and there may be very many events: no room is kept for more.
+        self.items.reserve_exact(1)?;
+        self.items.push_reserved(entry);
         Ok(())
     }
 }
