@@ -2,7 +2,13 @@
 #![tactic(auto)]
 
 #[cfg(test)]
+mod dialogue;
+#[cfg(test)]
 mod faults;
+#[cfg(test)]
+mod initial;
+#[cfg(test)]
+mod library;
 #[cfg(test)]
 mod lines;
 #[cfg(test)]
@@ -10,6 +16,10 @@ mod replayed;
 #[cfg(test)]
 mod soaked;
 #[cfg(test)]
+mod texts;
+#[cfg(test)]
 mod theories;
 #[cfg(test)]
 mod whole;
+#[cfg(test)]
+mod worked;

@@ -68,3 +68,14 @@ fn a_seed_gives_the_same_line_each_time(rt: HostRuntime) -> Result<(), Fail> {
     }
     Ok(())
 }
+
+/// The line of 20,000 lines from the seed 7, which an independent program told.
+const MANY: &[u8] = b"soak lines 20000 ok 10825 yes 580 no 5407 refused 1146 bytes 177596\n";
+
+#[test]
+fn many_generated_lines_are_served(rt: HostRuntime) -> Result<(), Fail> {
+    let (status, output) = soaked(rt.alloc(), "20000", "7", &[], &[])?;
+    assert_eq!(rt; status, 0);
+    assert_eq!(rt; output.bytes(), MANY);
+    Ok(())
+}

@@ -1,28 +1,7 @@
 //! Theories that are accepted and theories that are not, by `check` and by `serve`.
+use crate::texts::{ROOMS, STRONG_ROOMS};
 use crate::whole::ran;
 use std::test::Fail;
-
-/// Rooms and lamps: what is pushed lights up where there is power, and nobody is at two places.
-const ROOMS: &[u8] = b"initiates push(P,L) lit(L) if powered(L), not lit(L).
-terminates push(P,L) lit(L) if lit(L).
-initiates plug(L) powered(L).
-terminates unplug(L) powered(L).
-terminates unplug(L) lit(L).
-initiates move(P,Y) at(P,Y).
-terminates leave(P,Y) at(P,Y).
-exclusive at(X,Y) at(X,Z).
-";
-
-const STRONG_ROOMS: &[u8] = b"initiates push(P,L) lit(L) if powered(L), not lit(L).
-terminates push(P,L) lit(L) if lit(L).
-initiates plug(L) powered(L).
-terminates unplug(L) powered(L).
-terminates unplug(L) lit(L).
-initiates move(P,Y) at(P,Y).
-terminates leave(P,Y) at(P,Y).
-exclusive at(X,Y) at(X,Z).
-strong at/2.
-";
 
 /// The rooms and lamps, where one lamp has power from before all events.
 const POWERED_ROOMS: &[u8] = b"initiates push(P,L) lit(L) if powered(L), not lit(L).
