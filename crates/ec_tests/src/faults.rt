@@ -1,4 +1,5 @@
 //! Words without a shape, faults of the outside, and the limit of an input.
+use crate::texts::{LAMP, LAMPS, ROOMS};
 use crate::whole::{ROOM, folder, ran, words};
 use ec_outside::{MemSink, MemSource};
 use ec_server::{Status, run, serve};
@@ -6,10 +7,6 @@ use ec_terms::NoMemory;
 use ec_theory::accept;
 use std::alloc::Global;
 use std::test::Fail;
-
-const LAMP: &[u8] = b"initiates plug powered. terminates unplug powered.";
-
-const LAMPS: &[u8] = b"initiates plug(L) powered(L). terminates unplug(L) powered(L).";
 
 const LINES: &[u8] = b"assert p 5 plug\nholds powered 6\nquit\nholds powered 6\n";
 
@@ -52,20 +49,33 @@ fn words_without_a_shape_get_the_usage_line(rt: HostRuntime) -> Result<(), Fail>
 }
 
 /// Which calls fail: those of the folder, the reads, the writes and the flushes; and how many bytes a read gives.
-struct Failing {
-    files: &'static [u64],
-    reads: &'static [u64],
-    writes: &'static [u64],
-    flushes: &'static [u64],
+#[derive(Clone, Copy)]
+struct Failing<'a> {
+    files: &'a [u64],
+    reads: &'a [u64],
+    writes: &'a [u64],
+    flushes: &'a [u64],
     most: usize,
 }
 
-const NONE: &[u64] = &[];
+const NOTHING_FAILS: Failing<'static> = Failing {
+    files: &[],
+    reads: &[],
+    writes: &[],
+    flushes: &[],
+    most: 16,
+};
 
-/// The status of a run that serves the lamp's lines with those faults, and what it wrote, a byte at a time.
-fn ran_with(alloc: Global, name: &str, failing: &Failing) -> Result<(u8, MemSink), NoMemory> {
-    let mut files = folder(alloc, LAMP, failing.files)?;
-    let mut input = MemSource::new(alloc, LINES, failing.most.max(1), failing.reads)?;
+/// The status of a run that serves lines with those faults, and what it wrote, a byte at a time.
+fn ran_with(
+    alloc: Global,
+    name: &str,
+    theory: &[u8],
+    lines: &[u8],
+    failing: &Failing<'_>,
+) -> Result<(u8, MemSink), NoMemory> {
+    let mut files = folder(alloc, theory, failing.files)?;
+    let mut input = MemSource::new(alloc, lines, failing.most.max(1), failing.reads)?;
     let mut output = MemSink::new(alloc, ROOM, 1, failing.writes, failing.flushes)?;
     let words = words(alloc, &["serve", name])?;
     let status = run(alloc, &words, &mut files, &mut input, &mut output);
@@ -73,65 +83,32 @@ fn ran_with(alloc: Global, name: &str, failing: &Failing) -> Result<(u8, MemSink
 }
 
 /// The file that is asked for, what fails, the status and what is written.
-const FAULTS: [(&str, Failing, u8, &[u8]); 8] = [
-    (
-        "t.ec",
-        Failing {
-            files: NONE,
-            reads: NONE,
-            writes: NONE,
-            flushes: NONE,
-            most: 16,
-        },
-        0,
-        b"ok\nyes\nbye\n",
-    ),
-    (
-        "u.ec",
-        Failing {
-            files: NONE,
-            reads: NONE,
-            writes: NONE,
-            flushes: NONE,
-            most: 16,
-        },
-        7,
-        b"",
-    ),
+const FAULTS: [(&str, Failing<'static>, u8, &[u8]); 8] = [
+    ("t.ec", NOTHING_FAILS, 0, b"ok\nyes\nbye\n"),
+    ("u.ec", NOTHING_FAILS, 7, b""),
     (
         "t.ec",
         Failing {
             files: &[1],
-            reads: NONE,
-            writes: NONE,
-            flushes: NONE,
-            most: 16,
+            ..NOTHING_FAILS
         },
         7,
         b"",
     ),
-    // the second read fails
     (
         "t.ec",
         Failing {
-            files: NONE,
             reads: &[2],
-            writes: NONE,
-            flushes: NONE,
-            most: 16,
+            ..NOTHING_FAILS
         },
         4,
         b"ok\n",
     ),
-    // the third write fails
     (
         "t.ec",
         Failing {
-            files: NONE,
-            reads: NONE,
             writes: &[3],
-            flushes: NONE,
-            most: 16,
+            ..NOTHING_FAILS
         },
         5,
         b"ok",
@@ -140,11 +117,8 @@ const FAULTS: [(&str, Failing, u8, &[u8]); 8] = [
     (
         "t.ec",
         Failing {
-            files: NONE,
-            reads: NONE,
-            writes: NONE,
             flushes: &[1],
-            most: 16,
+            ..NOTHING_FAILS
         },
         5,
         b"",
@@ -152,11 +126,8 @@ const FAULTS: [(&str, Failing, u8, &[u8]); 8] = [
     (
         "t.ec",
         Failing {
-            files: NONE,
-            reads: NONE,
-            writes: NONE,
             flushes: &[2],
-            most: 16,
+            ..NOTHING_FAILS
         },
         5,
         b"ok\n",
@@ -164,11 +135,9 @@ const FAULTS: [(&str, Failing, u8, &[u8]); 8] = [
     (
         "t.ec",
         Failing {
-            files: NONE,
-            reads: NONE,
-            writes: NONE,
             flushes: &[2],
             most: 4_096,
+            ..NOTHING_FAILS
         },
         5,
         b"ok\nyes\nbye\n",
@@ -178,9 +147,79 @@ const FAULTS: [(&str, Failing, u8, &[u8]); 8] = [
 #[test]
 fn faults_of_the_outside_have_their_statuses(rt: HostRuntime) -> Result<(), Fail> {
     for (name, failing, code, written) in &FAULTS {
-        let (status, output) = ran_with(rt.alloc(), name, failing)?;
+        let (status, output) = ran_with(rt.alloc(), name, LAMP, LINES, failing)?;
         assert_eq!(rt; status, *code);
         assert_eq!(rt; output.bytes(), *written);
+    }
+    Ok(())
+}
+
+/// Lines without a `quit` behind them, each with its reply.
+const PUSHED: [(&[u8], &[u8]); 5] = [
+    (b"assert p 5 plug(a)\n", b"ok\n"),
+    (b"assert q 10 push(bob,a)\n", b"ok\n"),
+    (b"holds lit(a) 10\n", b"no\n"),
+    (b"holds lit(a) 11\n", b"yes\n"),
+    (b"intervals lit(a)\n", b"1 (10,inf)\n"),
+];
+
+/// Those lines, and the replies to the ones that are whole within the first `taken` bytes.
+fn pushed(alloc: Global, taken: usize) -> Result<(Vec<u8>, Vec<u8>), NoMemory> {
+    let mut lines = Vec::new(alloc);
+    let mut replies = Vec::new(alloc);
+    for (line, reply) in PUSHED {
+        lines.extend_from_slice(line)?;
+        if lines.len() <= taken {
+            replies.extend_from_slice(reply)?;
+        }
+    }
+    Ok((lines, replies))
+}
+
+#[test]
+fn any_write_may_fail(rt: HostRuntime) -> Result<(), Fail> {
+    let (lines, replies) = pushed(rt.alloc(), usize::MAX)?;
+    assert_eq!(rt; replies.len(), 24);
+    for k in 1..=25_usize {
+        let writes = [k as u64];
+        let failing = Failing {
+            writes: &writes,
+            ..NOTHING_FAILS
+        };
+        let (status, output) = ran_with(rt.alloc(), "t.ec", ROOMS, &lines, &failing)?;
+        assert_eq!(rt; status, if k <= 24 { 5 } else { 0 });
+        assert_eq!(rt; output.bytes(), &replies[..k - 1]);
+    }
+    Ok(())
+}
+
+/// How many bytes a read gives, and how many reads those lines take, with the one that finds their end.
+const READS: [(usize, usize); 4] = [(1, 93), (19, 6), (22, 6), (4_096, 2)];
+
+#[test]
+fn any_read_and_any_flush_may_fail(rt: HostRuntime) -> Result<(), Fail> {
+    for (most, reads) in READS {
+        for k in 1..=95_usize {
+            let (lines, replies) = pushed(rt.alloc(), most.saturating_mul(k - 1))?;
+            let call = [k as u64];
+            let failing = Failing {
+                reads: &call,
+                most,
+                ..NOTHING_FAILS
+            };
+            let (status, output) = ran_with(rt.alloc(), "t.ec", ROOMS, &lines, &failing)?;
+            assert_eq!(rt; status, if k <= reads { 4 } else { 0 });
+            assert_eq!(rt; output.bytes(), replies.as_slice());
+            // a flush stands before each read, and one before the end
+            let failing = Failing {
+                flushes: &call,
+                most,
+                ..NOTHING_FAILS
+            };
+            let (status, output) = ran_with(rt.alloc(), "t.ec", ROOMS, &lines, &failing)?;
+            assert_eq!(rt; status, if k - 1 <= reads { 5 } else { 0 });
+            assert_eq!(rt; output.bytes(), replies.as_slice());
+        }
     }
     Ok(())
 }

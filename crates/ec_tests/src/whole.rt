@@ -6,7 +6,7 @@ use std::alloc::Global;
 use std::string::String;
 
 /// More than any reply or line here has.
-pub const ROOM: usize = 1 << 16;
+pub const ROOM: usize = 1 << 20;
 
 /// Words as the program gets them.
 pub fn words(alloc: Global, all: &[&str]) -> Result<Vec<String>, NoMemory> {
