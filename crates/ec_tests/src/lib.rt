@@ -2,9 +2,23 @@
 #![tactic(auto)]
 
 #[cfg(test)]
+mod drawn;
+#[cfg(test)]
 mod faults;
 #[cfg(test)]
+mod held;
+#[cfg(test)]
+mod histories;
+#[cfg(test)]
 mod lines;
+#[cfg(test)]
+mod plain;
+#[cfg(test)]
+mod plain_replies;
+#[cfg(test)]
+mod plain_terms;
+#[cfg(test)]
+mod plain_theory;
 #[cfg(test)]
 mod replayed;
 #[cfg(test)]
