@@ -4,9 +4,15 @@
 #[cfg(test)]
 mod dialogue;
 #[cfg(test)]
+mod drawn;
+#[cfg(test)]
 mod faults;
 #[cfg(test)]
 mod full;
+#[cfg(test)]
+mod held;
+#[cfg(test)]
+mod histories;
 #[cfg(test)]
 mod initial;
 #[cfg(test)]
@@ -15,6 +21,14 @@ mod library;
 mod limits;
 #[cfg(test)]
 mod lines;
+#[cfg(test)]
+mod plain;
+#[cfg(test)]
+mod plain_replies;
+#[cfg(test)]
+mod plain_terms;
+#[cfg(test)]
+mod plain_theory;
 #[cfg(test)]
 mod replayed;
 #[cfg(test)]
