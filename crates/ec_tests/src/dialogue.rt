@@ -1,6 +1,6 @@
 //! Lines beside their replies.
-use crate::whole::{ROOM, serves, words};
-use ec_outside::{MemFolder, MemSink, MemSource};
+use crate::whole::{ROOM, folder_with_lines, serves, words};
+use ec_outside::{MemSink, MemSource};
 use ec_server::run;
 use ec_terms::NoMemory;
 use std::alloc::Global;
@@ -64,9 +64,7 @@ impl Script {
 
     /// Whether `replay` gives the replies to a file of the lines.
     pub fn is_replayed(&self, alloc: Global, theory: &[u8]) -> Result<bool, NoMemory> {
-        let mut files = MemFolder::new(alloc, &[])?;
-        files.add("t.ec", theory)?;
-        files.add("a.lines", &self.lines)?;
+        let mut files = folder_with_lines(alloc, theory, &self.lines, &[])?;
         let mut input = MemSource::new(alloc, b"", 1, &[])?;
         let mut output = MemSink::new(alloc, ROOM, ROOM, &[], &[])?;
         let words = words(alloc, &["replay", "t.ec", "a.lines"])?;

@@ -12,7 +12,7 @@ fn loans(alloc: Global) -> Result<Script, NoMemory> {
         let join = format!(in alloc; "assert join{member} 0 join(m{member})")?;
         script.add(join.as_str(), "ok")?;
     }
-    for book in 1..=40 {
+    for book in 1..41_u32 {
         let member = book % 5;
         let from = 10 * book;
         let until = from + 25;

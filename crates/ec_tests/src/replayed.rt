@@ -1,6 +1,6 @@
 //! Files of lines that are replayed.
-use crate::whole::{ROOM, words};
-use ec_outside::{MemFolder, MemSink, MemSource};
+use crate::whole::{ROOM, folder_with_lines, words};
+use ec_outside::{MemSink, MemSource};
 use ec_server::run;
 use ec_terms::NoMemory;
 use std::alloc::Global;
@@ -24,38 +24,85 @@ const NONE: &[u64] = &[];
 
 const SPACES: &[u8] = &[b' '; 65_536];
 
-/// The status of a replay with those faults, and what it wrote, a byte at a time. The input fails if it is read.
+/// The status of a replay of lines over a theory with those faults, where the words name these two files, and what it wrote, a
+/// byte at a time. The theory is in `t.ec` and the lines are in `a.lines`. The input fails if it is read.
 fn replayed(
     alloc: Global,
-    theory: &str,
-    lines: &str,
+    contents: (&[u8], &[u8]),
+    names: (&str, &str),
     failing: &Failing,
 ) -> Result<(u8, MemSink), NoMemory> {
-    let mut files = MemFolder::new(alloc, failing.files)?;
-    files.add("t.ec", LAMPS)?;
-    files.add("bad.ec", b"initiates a")?;
-    files.add("a.lines", LINES)?;
-    files.add("quit.lines", b"holds p 1\nquit\nholds p 1\n")?;
-    files.add("none.lines", b"")?;
+    let mut files = folder_with_lines(alloc, contents.0, contents.1, failing.files)?;
     let mut input = MemSource::new(alloc, b"holds p 1\n", 4_096, &[1])?;
     let mut output = MemSink::new(alloc, ROOM, 1, failing.writes, failing.flushes)?;
-    let words = words(alloc, &["replay", theory, lines])?;
+    let words = words(alloc, &["replay", names.0, names.1])?;
     let status = run(alloc, &words, &mut files, &mut input, &mut output);
     Ok((status, output))
 }
 
-/// The files of the theory and of the lines, the status and what is written.
-const WHOLE: [(&str, &str, u8, &[u8]); 8] = [
-    ("t.ec", "a.lines", 0, REPLIES),
-    ("t.ec", "quit.lines", 0, b"no\nbye\n"),
-    ("t.ec", "none.lines", 0, b""),
+/// A theory and lines, and the names of the files that are asked for; the status, and what is written.
+struct Replay {
+    contents: (&'static [u8], &'static [u8]),
+    names: (&'static str, &'static str),
+    status: u8,
+    written: &'static [u8],
+}
+
+const FILES: (&str, &str) = ("t.ec", "a.lines");
+
+const BAD: &[u8] = b"initiates a";
+
+const REPLAYS: [Replay; 8] = [
+    Replay {
+        contents: (LAMPS, LINES),
+        names: FILES,
+        status: 0,
+        written: REPLIES,
+    },
+    Replay {
+        contents: (LAMPS, b"holds p 1\nquit\nholds p 1\n"),
+        names: FILES,
+        status: 0,
+        written: b"no\nbye\n",
+    },
+    Replay {
+        contents: (LAMPS, b""),
+        names: FILES,
+        status: 0,
+        written: b"",
+    },
     // the text of a theory is one line that is no command
-    ("t.ec", "t.ec", 0, b"refused syntax\n"),
-    ("bad.ec", "a.lines", 3, b"theory 1 12 syntax\n"),
+    Replay {
+        contents: (LAMPS, LINES),
+        names: ("t.ec", "t.ec"),
+        status: 0,
+        written: b"refused syntax\n",
+    },
+    Replay {
+        contents: (BAD, LINES),
+        names: FILES,
+        status: 3,
+        written: b"theory 1 12 syntax\n",
+    },
     // the theory comes first
-    ("bad.ec", "other.lines", 3, b"theory 1 12 syntax\n"),
-    ("t.ec", "other.lines", 7, b""),
-    ("other.ec", "a.lines", 7, b""),
+    Replay {
+        contents: (BAD, LINES),
+        names: ("t.ec", "other.lines"),
+        status: 3,
+        written: b"theory 1 12 syntax\n",
+    },
+    Replay {
+        contents: (LAMPS, LINES),
+        names: ("t.ec", "other.lines"),
+        status: 7,
+        written: b"",
+    },
+    Replay {
+        contents: (LAMPS, LINES),
+        names: ("other.ec", "a.lines"),
+        status: 7,
+        written: b"",
+    },
 ];
 
 #[test]
@@ -65,10 +112,10 @@ fn the_lines_of_a_file_are_replayed(rt: HostRuntime) -> Result<(), Fail> {
         writes: NONE,
         flushes: NONE,
     };
-    for (theory, lines, code, written) in WHOLE {
-        let (status, output) = replayed(rt.alloc(), theory, lines, &failing)?;
-        assert_eq!(rt; status, code);
-        assert_eq!(rt; output.bytes(), written);
+    for replay in &REPLAYS {
+        let (status, output) = replayed(rt.alloc(), replay.contents, replay.names, &failing)?;
+        assert_eq!(rt; status, replay.status);
+        assert_eq!(rt; output.bytes(), replay.written);
     }
     Ok(())
 }
@@ -127,7 +174,7 @@ const FAULTS: [(Failing, u8, &[u8]); 5] = [
 #[test]
 fn a_replay_tells_what_fails(rt: HostRuntime) -> Result<(), Fail> {
     for (failing, code, written) in &FAULTS {
-        let (status, output) = replayed(rt.alloc(), "t.ec", "a.lines", failing)?;
+        let (status, output) = replayed(rt.alloc(), (LAMPS, LINES), FILES, failing)?;
         assert_eq!(rt; status, *code);
         assert_eq!(rt; output.bytes(), *written);
     }
@@ -148,9 +195,7 @@ fn the_file_of_lines_has_a_limit(rt: HostRuntime) -> Result<(), Fail> {
             let more = (length - spaces.len()).min(SPACES.len());
             spaces.extend_from_slice(&SPACES[..more])?;
         }
-        let mut files = MemFolder::new(rt.alloc(), NONE)?;
-        files.add("t.ec", LAMPS)?;
-        files.add("a.lines", &spaces)?;
+        let mut files = folder_with_lines(rt.alloc(), LAMPS, &spaces, NONE)?;
         let mut input = MemSource::new(rt.alloc(), b"", 1, NONE)?;
         let mut output = MemSink::new(rt.alloc(), ROOM, ROOM, NONE, NONE)?;
         let words = words(rt.alloc(), &["replay", "t.ec", "a.lines"])?;

@@ -24,6 +24,19 @@ pub fn folder(alloc: Global, theory: &[u8], failing: &[u64]) -> Result<MemFolder
     Ok(files)
 }
 
+/// A folder with a theory, named `t.ec`, and lines, named `a.lines`, whose calls of these numbers fail.
+pub fn folder_with_lines(
+    alloc: Global,
+    theory: &[u8],
+    lines: &[u8],
+    failing: &[u64],
+) -> Result<MemFolder, NoMemory> {
+    let mut files = MemFolder::new(alloc, failing)?;
+    files.add("t.ec", theory)?;
+    files.add("a.lines", lines)?;
+    Ok(files)
+}
+
 /// The status of a run over one file named `t.ec` and an input that comes in pieces of at most `most` bytes, and what it
 /// wrote.
 pub fn ran(
