@@ -160,9 +160,9 @@ module _ {X B : Type 0} (items : B → List X) (capacity : B → ℕ) where
     lasts-count = sym (length-map lasts Some) ∙ ap length chain.lasts_are ∙ length-map (map items blocks) last_of ∙ length-map blocks items
 
     -- where a block begins
-    pub start-is : (lists : List (List X)) (k start : ℕ) → map items blocks ≡ lists → k < length lists → start ≡ get_or starts k start → start ≡ start_of k lists
+    pub start-is : (lists : List (List X)) (k start : ℕ) → map items blocks ≡ lists → k < length lists → start ≡ get_or starts k 0 → start ≡ start_of k lists
     start-is lists k start are within is =
-        is ∙ ap (λ ps. get_or ps k start) (chain.starts_are ∙ ap (starts_from 0) are) ∙ starts-at 0 lists k start within ∙ zero-add (start_of k lists)
+        is ∙ ap (λ ps. get_or ps k 0) (chain.starts_are ∙ ap (starts_from 0) are) ∙ starts-at 0 lists k 0 within ∙ zero-add (start_of k lists)
 
     lists-are-blocks : list_all is_block (map items blocks) ≡ true
     lists-are-blocks = kept-blocks blocks chain.kept

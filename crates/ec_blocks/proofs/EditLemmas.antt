@@ -109,7 +109,7 @@ module _ {X B : Type 0} (items : B → List X) (capacity : B → ℕ) (blocks : 
   pub halved : (k : ℕ) (block : k < length lists) (old : B) (is : old ≡ get_or blocks k old) (front behind read : B) (members : List X) (start : ℕ)
       (blocks' : List B) (starts' : List ℕ) (lasts' : List X) (spares' : List B) → length (block_at k lists) ≡ 64 →
       items front ≡ take 32 (items old) → items behind ≡ drop 32 (items old) → capacity front ≡ capacity old → 64 ≤ capacity behind →
-      read ≡ get_or (set blocks k front) k read → members ≡ items read → start ≡ get_or starts k start →
+      read ≡ get_or (set blocks k front) k read → members ≡ items read → start ≡ get_or starts k 0 →
       blocks' ≡ insert (set blocks k front) (k + 1) behind → starts' ≡ insert starts (k + 1) (start + 32) →
       map Some lasts' ≡ insert (map Some lasts) k (last_of members) → list_all (is_spare items capacity) spares' ≡ true → IsChain items capacity blocks' starts' lasts' spares'
   halved k block old is front behind read members start blocks' starts' lasts' spares' full is_front is_behind same room read_is members_are begins bs ss ls empty =

@@ -2,7 +2,7 @@ pub mod ChainLemmas
 pub mod DebtLemmas
 pub mod EditLemmas
 pub mod JoinLemmas
-pub mod PlaceLemmas
+pub mod NumberLemmas
 pub mod SearchLemmas
 pub mod SpliceLemmas
 pub mod StartLemmas

@@ -1,3 +1,4 @@
 pub mod Body
 pub mod Chain
 pub mod ChainParts
+pub mod Starts

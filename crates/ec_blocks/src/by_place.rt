@@ -189,6 +189,9 @@ impl<X: Copied + Drop> Chain<X> {
         if n <= self.spares() {
             return Ok(()); // each insertion takes one spare block at the most
         }
+        if n == self.spares() + 1 {
+            return self.add_spare(); // so one more serves, and the blocks need not be looked at
+        }
         let debt = self.debt();
         let _count = self.count();
         for _k in 0..n {

@@ -7,7 +7,7 @@ ghost use Rattle.std.specs.Vec.{vec_capacity};
 ghost use Rattle.ec_blocks.specs.Chain.{joined, block_at, start_of, last_of, is_block};
 ghost use Rattle.ec_blocks.specs.ChainParts.{is_kept, is_spare};
 
-use crate::places::{count_up_to, lower, raise};
+use crate::starts::Starts;
 use ec_rows::Copied;
 use ec_terms::NoMemory;
 use std::alloc::Global;
@@ -27,7 +27,7 @@ const LIMIT: usize = 1 << 57;
 pub(crate) struct Chain<X> {
     blocks: Vec<Vec<X>>,
     /// How many members are in front of each block.
-    starts: Vec<usize>,
+    starts: Starts,
     /// A copy of the last member of each block, so that a search reads one array.
     lasts: Vec<X>,
     spares: Vec<Vec<X>>,
@@ -43,7 +43,7 @@ impl<X> Model for Chain<X> {
 
     ghost view = { λ chain. record { blocks = map (λ block. block.items) chain.blocks.items; spares = vec_len chain.spares } };
 
-    ghost invariant = { λ chain. IsChain (λ block. block.items) (λ block. vec_capacity block) chain.blocks.items chain.starts.items chain.lasts.items chain.spares.items × HasRooms (vec_len chain.blocks) (vec_len chain.spares) (vec_capacity chain.blocks) (vec_capacity chain.starts) (vec_capacity chain.lasts) (vec_capacity chain.spares) };
+    ghost invariant = { λ chain. IsChain (λ block. block.items) (λ block. vec_capacity block) chain.blocks.items chain.starts.items chain.lasts.items chain.spares.items × HasRooms (vec_len chain.blocks) (vec_len chain.spares) (vec_capacity chain.blocks) chain.starts.room (vec_capacity chain.lasts) (vec_capacity chain.spares) };
 }
 
 impl<X: Copied + Drop> Chain<X> {
@@ -53,7 +53,7 @@ impl<X: Copied + Drop> Chain<X> {
     {
         Chain {
             blocks: Vec::new(alloc),
-            starts: Vec::new(alloc),
+            starts: Starts::new(alloc),
             lasts: Vec::new(alloc),
             spares: Vec::new(alloc),
         }
@@ -81,7 +81,7 @@ impl<X: Copied + Drop> Chain<X> {
         requires { k < length self.now.blocks }
         ensures { result ≡ start_of k self.now.blocks }
     {
-        self.starts[k]
+        self.starts.get(k)
     }
 
     /// The members of a block.
@@ -114,7 +114,7 @@ impl<X: Copied + Drop> Chain<X> {
     {
         insert_within(&mut self.blocks[k], place, x);
         keep_last(&self.blocks[k], &mut self.lasts, k);
-        raise(&mut self.starts, k + 1);
+        self.starts.raise_behind(k);
     }
 
     /// How many members there are.
@@ -125,7 +125,7 @@ impl<X: Copied + Drop> Chain<X> {
         if count == 0 {
             return 0;
         }
-        self.starts[count - 1] + self.blocks[count - 1].len()
+        self.starts.get(count - 1) + self.blocks[count - 1].len()
     }
 
     /// The block that a place is in.
@@ -137,7 +137,7 @@ impl<X: Copied + Drop> Chain<X> {
         ensures kept { IsTrue (list_all is_block self.now.blocks) }
         ensures few { length self.now.blocks ≤ 2 ^ 57 }
     {
-        count_up_to(&self.starts, i) - 1
+        self.starts.count_up_to(i) - 1
     }
 
     /// The place where the members that pass a test end.
@@ -150,7 +150,7 @@ impl<X: Copied + Drop> Chain<X> {
         if k == self.blocks.len() {
             return self.total();
         }
-        self.starts[k] + cut(&self.blocks[k], pred)
+        self.starts.get(k) + cut(&self.blocks[k], pred)
     }
 
     /// Takes out a member of a block of several.
@@ -164,7 +164,7 @@ impl<X: Copied + Drop> Chain<X> {
     {
         let x = remove_within(&mut self.blocks[k], place);
         keep_last(&self.blocks[k], &mut self.lasts, k);
-        lower(&mut self.starts, k + 1);
+        self.starts.lower_behind(k);
         x
     }
 
@@ -176,7 +176,7 @@ impl<X: Copied + Drop> Chain<X> {
         ensures blocks { self.new.blocks ≡ remove self.old.blocks k }
         ensures spares { self.new.spares ≡ self.old.spares + 1 }
     {
-        lower(&mut self.starts, k + 1);
+        self.starts.lower_behind(k);
         self.starts.remove(k);
         self.lasts.remove(k);
         let mut block = self.blocks.remove(k);
@@ -196,8 +196,8 @@ impl<X: Copied + Drop> Chain<X> {
         let mut behind = take_spare(&mut self.spares);
         move_half(&mut self.blocks[k], &mut behind);
         insert_last(&self.blocks[k], &mut self.lasts, k);
-        let start = self.starts[k] + HALF;
-        insert_within(&mut self.starts, k + 1, start);
+        let start = self.starts.get(k) + HALF;
+        self.starts.insert(k + 1, start);
         insert_within(&mut self.blocks, k + 1, behind);
     }
 
@@ -211,7 +211,7 @@ impl<X: Copied + Drop> Chain<X> {
         let start = self.total();
         let mut block = take_spare(&mut self.spares);
         fill(&mut block, members);
-        self.starts.push_reserved(start);
+        self.starts.push(start);
         self.lasts
             .push_reserved(members[members.len() - 1].copied());
         self.blocks.push_reserved(block);
@@ -227,7 +227,7 @@ impl<X: Copied + Drop> Chain<X> {
         let mut block = take_spare(&mut self.spares);
         let last = x.copied();
         block.push_reserved(x);
-        self.starts.push_reserved(start);
+        self.starts.push(start);
         self.lasts.push_reserved(last);
         self.blocks.push_reserved(block);
     }

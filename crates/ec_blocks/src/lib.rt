@@ -10,10 +10,10 @@ mod block_times;
 mod blocks;
 mod by_place;
 mod chain;
-mod places;
 mod search;
 #[cfg(test)]
 mod span_tests;
+mod starts;
 #[cfg(test)]
 mod tests;
 #[cfg(test)]

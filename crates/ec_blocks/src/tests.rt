@@ -88,12 +88,15 @@ fn go_the_same_way<A: MarkRow<Tick>, B: MarkRow<Tick>>(alloc: Global) -> Result<
     Ok(100 < a.len())
 }
 
+/// How many members fill several groups of blocks.
+const MANY: usize = 5000;
+
 /// The places where members stand that were put in front of all others, one by one.
 fn filled_from_behind(alloc: Global) -> Result<Blocks<PropId>, NoMemory> {
     let mut list = Blocks::new(alloc);
-    for i in 0..300 {
+    for i in 0..MANY {
         list.reserve(1)?;
-        list.insert(0, PropId(299 - i));
+        list.insert(0, PropId(MANY - 1 - i));
     }
     Ok(list)
 }
@@ -107,12 +110,16 @@ fn rows_in_blocks_go_as_rows_in_one_vec(rt: HostRuntime) -> Result<(), NoMemory>
 #[test]
 fn a_list_in_blocks_keeps_its_order(rt: HostRuntime) -> Result<(), NoMemory> {
     let mut list = filled_from_behind(rt.alloc())?;
-    list.push(PropId(300))?;
-    assert!(rt; list.len() == 301);
-    for i in 0..301 {
+    list.push(PropId(MANY))?;
+    for i in 0..MANY / 2 {
         assert!(rt; i < list.len());
-        assert!(rt; *list.get(i) == PropId(i));
+        assert!(rt; list.remove(i) == PropId(2 * i)); // each second one
     }
-    assert!(rt; list.partition_point(|p| p.0 < 77) == 77);
+    assert!(rt; list.len() == MANY / 2 + 1);
+    for i in 0..MANY / 2 {
+        assert!(rt; i < list.len());
+        assert!(rt; *list.get(i) == PropId(2 * i + 1));
+    }
+    assert!(rt; list.partition_point(|p| p.0 < 2000) == 1000);
     Ok(())
 }

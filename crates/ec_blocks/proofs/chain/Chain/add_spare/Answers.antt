@@ -5,6 +5,9 @@ use Rattle.ec_blocks.proofs.ChainLemmas.{starts-count, lasts-count}
 use Rattle.ec_blocks.proofs.EditLemmas.{spare-more, is_spare-from}
 use Rattle.ec_blocks.proofs.chain.Chain.add_spare.Goals as goal
 
+pub reserve-requires-2 : goal.reserve-requires-2
+reserve-requires-2 g c = omega (arith, starts-count (λ b. b.items) (λ b. vec_capacity b) _ _ _ _ c.self.invariant.0)
+
 pub invariant_of-self-2 : goal.invariant_of-self-2
 invariant_of-self-2 g c = (
   spare-more (λ b. b.items) (λ b. vec_capacity b) _ _ _ _ c.self.invariant.0 _ refl _ _ _ _ c.in_ok-block.block c.reserve.ensures.items c.reserve-2.ensures.items c.reserve-3.ensures.items

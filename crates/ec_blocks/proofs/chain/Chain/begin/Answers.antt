@@ -5,18 +5,18 @@ use Rattle.ec_blocks.proofs.ChainLemmas.{starts-count, lasts-count}
 use Rattle.ec_blocks.proofs.EditLemmas.{appended}
 use Rattle.ec_blocks.proofs.chain.Chain.begin.Goals as goal
 
-pub push_reserved-requires-2 : goal.push_reserved-requires-2
-push_reserved-requires-2 g c = let rooms = c.self.invariant.1 in omega (arith, ap (λ v. v.spares) c.self.view_is, starts-count (λ b. b.items) (λ b. vec_capacity b) _ _ _ _ c.self.invariant.0)
+pub push-requires : goal.push-requires
+push-requires g c = let rooms = c.self.invariant.1 in omega (arith, ap (λ v. v.spares) c.self.view_is, starts-count (λ b. b.items) (λ b. vec_capacity b) _ _ _ _ c.self.invariant.0)
 
-pub push_reserved-requires-3 : goal.push_reserved-requires-3
-push_reserved-requires-3 g c = let rooms = c.self.invariant.1 in omega (arith, ap (λ v. v.spares) c.self.view_is, lasts-count (λ b. b.items) (λ b. vec_capacity b) _ _ _ _ c.self.invariant.0)
+pub push_reserved-requires-2 : goal.push_reserved-requires-2
+push_reserved-requires-2 g c = let rooms = c.self.invariant.1 in omega (arith, ap (λ v. v.spares) c.self.view_is, lasts-count (λ b. b.items) (λ b. vec_capacity b) _ _ _ _ c.self.invariant.0)
 
 pub invariant_of-self : goal.invariant_of-self
 invariant_of-self g c =
     let rooms = c.self.invariant.1 in
     let spares = ap (λ v. v.spares) c.self.view_is in (
       appended (λ b. b.items) (λ b. vec_capacity b) c.self.inside.blocks.items c.self.inside.starts.items c.self.inside.lasts.items c.self.inside.spares.items c.self.invariant.0 c.args.self.now.blocks (ap (λ v. v.blocks) c.self.view_is) _ _ _ _ c.push_reserved.new.self c.total-start.result c.copied-last.result (c.args.x ∷ [])
-          c.push_reserved-4.ensures.items c.push_reserved-2.ensures.items c.push_reserved-3.ensures.items
+          c.push_reserved-3.ensures.items c.push.ensures.items c.push_reserved-2.ensures.items
           (c.push_reserved.ensures.items ∙ ap (λ xs. xs ++ c.args.x ∷ []) c.take_spare-block.ensures.empty) refl (omega arith) c.total-start.ensures
           (ap (λ x. Some x) c.copied-last.ensures) c.take_spare-block.ensures.spare,
       record {

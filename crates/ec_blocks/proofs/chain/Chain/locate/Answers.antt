@@ -12,22 +12,22 @@ use Rattle.ec_blocks.proofs.chain.Chain.locate.Goals as goal
 
 pub count_up_to-requires : goal.count_up_to-requires
 count_up_to-requires g c =
-    subst (IsNonDecreasingBy (λ (place : ℕ). place)) (sym (c.deref.ensures.value ∙ c.self.invariant.0.starts_are ∙ ap (λ v. starts_from 0 v.blocks) c.self.view_is))
+    subst (IsNonDecreasingBy (λ (place : ℕ). place)) (sym (c.self.invariant.0.starts_are ∙ ap (λ v. starts_from 0 v.blocks) c.self.view_is))
     (starts-rise 0 c.args.self.now.blocks)
 
 pub overflow_sub-result : goal.overflow_sub-result
 overflow_sub-result g c =
     some-start c.args.self.now.blocks c.args.i c.count_up_to.result c.requires
     (subst (λ (ps : _). IsPartitionPoint (λ place. nat_le place c.args.i ≡ true) (λ place. nat_le place c.args.i ≡ false) ps c.count_up_to.result)
-    (c.deref.ensures.value ∙ c.self.invariant.0.starts_are ∙ ap (λ v. starts_from 0 v.blocks) c.self.view_is) c.count_up_to.ensures.cut)
+    (c.self.invariant.0.starts_are ∙ ap (λ v. starts_from 0 v.blocks) c.self.view_is) c.count_up_to.ensures.cut)
 
 pub returns : goal.returns
 returns g c =
     let cut = subst (λ (ps : _). IsPartitionPoint (λ place. nat_le place c.args.i ≡ true) (λ place. nat_le place c.args.i ≡ false) ps c.count_up_to.result)
-    (c.deref.ensures.value ∙ c.self.invariant.0.starts_are ∙ ap (λ v. starts_from 0 v.blocks) c.self.view_is) c.count_up_to.ensures.cut in
+    (c.self.invariant.0.starts_are ∙ ap (λ v. starts_from 0 v.blocks) c.self.view_is) c.count_up_to.ensures.cut in
     let some : 1 ≤ c.count_up_to.result = overflow_sub-result g c in
-    let count : length c.deref.result.now ≡ length c.args.self.now.blocks =
-    ap length (c.deref.ensures.value ∙ c.self.invariant.0.starts_are ∙ ap (λ v. starts_from 0 v.blocks) c.self.view_is) ∙ starts-length 0 c.args.self.now.blocks in
+    let count : length c.self.inside.starts.items ≡ length c.args.self.now.blocks =
+    ap length (c.self.invariant.0.starts_are ∙ ap (λ v. starts_from 0 v.blocks) c.self.view_is) ∙ starts-length 0 c.args.self.now.blocks in
     let more : c.count_up_to.result ≡ suc (c.count_up_to.result - 1) = omega arith in
     let found : IsIn c.args.self.now.blocks c.args.i (c.count_up_to.result - 1) =
     IsIn-from_cut c.args.self.now.blocks c.args.i (c.count_up_to.result - 1) c.requires (omega arith)

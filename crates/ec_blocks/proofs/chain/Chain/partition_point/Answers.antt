@@ -20,16 +20,16 @@ returns-then-k-len-clause-partitioned g c p computes parted =
     subst (λ (n : ℕ). IsPartitionPoint (λ x. p x ≡ true) (λ x. p x ≡ false) (joined c.args.self.now.blocks) n) (sym c.total.ensures)
     (found-behind p c.args.self.now.blocks all parted c.deref.result.now are c.cut-k.result (omega arith) (λ m d e. cut.0 m d (omega arith) (omega (arith, e))))
 
-pub index-requires : goal.index-requires
-index-requires g c =
+pub get-requires : goal.get-requires
+get-requires g c =
     omega (arith, starts-count (λ b. b.items) (λ b. vec_capacity b) _ _ _ _ c.self.invariant.0, lasts-count (λ b. b.items) (λ b. vec_capacity b) _ _ _ _ c.self.invariant.0, ap length c.deref.ensures.value)
 
 pub returns-clause-bound : goal.returns-clause-bound
 returns-clause-bound g c =
     let within : c.cut-k.result < length c.args.self.now.blocks =
     omega (arith, lasts-count (λ b. b.items) (λ b. vec_capacity b) _ _ _ _ c.self.invariant.0, ap (λ v. length v.blocks) (sym c.self.view_is), length-map c.self.inside.blocks.items (λ b. b.items), ap length c.deref.ensures.value) in
-    let start = start-is (λ b. b.items) (λ b. vec_capacity b) _ _ _ _ c.self.invariant.0 c.args.self.now.blocks c.cut-k.result c.index.result.now (ap (λ v. v.blocks) c.self.view_is) within c.index.ensures in
-    let block = c.deref-2.ensures.value ∙ block-is (λ b. b.items) (λ b. vec_capacity b) c.self.inside.blocks.items c.args.self.now.blocks c.cut-k.result c.index-2.result.now (ap (λ v. v.blocks) c.self.view_is) within c.index-2.ensures in
+    let start = start-is (λ b. b.items) (λ b. vec_capacity b) _ _ _ _ c.self.invariant.0 c.args.self.now.blocks c.cut-k.result c.get.result (ap (λ v. v.blocks) c.self.view_is) within c.get.ensures in
+    let block = c.deref-2.ensures.value ∙ block-is (λ b. b.items) (λ b. vec_capacity b) c.self.inside.blocks.items c.args.self.now.blocks c.cut-k.result c.index.result.now (ap (λ v. v.blocks) c.self.view_is) within c.index.ensures in
     omega (
       arith,
       start,
@@ -55,8 +55,8 @@ returns-clause-partitioned g c p computes parted =
     let cut = c.cut-k.ensures.partitioned p computes (lasts-parted p c.args.self.now.blocks all parted c.deref.result.now are) in
     let within : c.cut-k.result < length c.args.self.now.blocks =
     omega (arith, lasts-count (λ b. b.items) (λ b. vec_capacity b) _ _ _ _ c.self.invariant.0, ap (λ v. length v.blocks) (sym c.self.view_is), length-map c.self.inside.blocks.items (λ b. b.items), ap length c.deref.ensures.value) in
-    let start = start-is (λ b. b.items) (λ b. vec_capacity b) _ _ _ _ c.self.invariant.0 c.args.self.now.blocks c.cut-k.result c.index.result.now (ap (λ v. v.blocks) c.self.view_is) within c.index.ensures in
-    let block = c.deref-2.ensures.value ∙ block-is (λ b. b.items) (λ b. vec_capacity b) c.self.inside.blocks.items c.args.self.now.blocks c.cut-k.result c.index-2.result.now (ap (λ v. v.blocks) c.self.view_is) within c.index-2.ensures in
+    let start = start-is (λ b. b.items) (λ b. vec_capacity b) _ _ _ _ c.self.invariant.0 c.args.self.now.blocks c.cut-k.result c.get.result (ap (λ v. v.blocks) c.self.view_is) within c.get.ensures in
+    let block = c.deref-2.ensures.value ∙ block-is (λ b. b.items) (λ b. vec_capacity b) c.self.inside.blocks.items c.args.self.now.blocks c.cut-k.result c.index.result.now (ap (λ v. v.blocks) c.self.view_is) within c.index.ensures in
     let point = c.cut.ensures.partitioned p computes (subst (λ (xs : List _). IsPartitionedBy p xs) (sym block) (block-parted p c.args.self.now.blocks all parted c.cut-k.result within)) in
     subst (λ (n : ℕ). IsPartitionPoint (λ x. p x ≡ true) (λ x. p x ≡ false) (joined c.args.self.now.blocks) (n + c.cut.result)) (sym start)
     (found-within p c.args.self.now.blocks all parted c.deref.result.now are c.cut-k.result c.cut.result within

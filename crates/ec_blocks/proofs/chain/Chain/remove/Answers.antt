@@ -7,19 +7,19 @@ use Rattle.ec_blocks.proofs.ChainLemmas.{starts-count, starts-some, place-within
 use Rattle.ec_blocks.proofs.EditLemmas.{old-list, edited, edited-less}
 use Rattle.ec_blocks.proofs.chain.Chain.remove.Goals as goal
 
-pub lower-requires-clause-within : goal.lower-requires-clause-within
-lower-requires-clause-within g c =
+pub lower_behind-requires-clause-within : goal.lower_behind-requires-clause-within
+lower_behind-requires-clause-within g c =
     omega (arith, starts-count (λ b. b.items) (λ b. vec_capacity b) _ _ _ _ c.self.invariant.0, place-within (λ b. b.items) (λ b. vec_capacity b) c.self.inside.blocks.items _ c.args.k (ap (λ v. v.blocks) c.self.view_is) c.requires.block)
 
-pub lower-requires-clause-some : goal.lower-requires-clause-some
-lower-requires-clause-some g c = starts-some (λ b. b.items) (λ b. vec_capacity b) _ _ _ _ c.self.invariant.0 c.args.k
+pub lower_behind-requires-clause-some : goal.lower_behind-requires-clause-some
+lower_behind-requires-clause-some g c = starts-some (λ b. b.items) (λ b. vec_capacity b) _ _ _ _ c.self.invariant.0 c.args.k
 
 pub invariant_of-self : goal.invariant_of-self
 invariant_of-self g c =
     let list = old-list (λ b. b.items) (λ b. vec_capacity b) c.self.inside.blocks.items c.self.inside.starts.items c.self.inside.lasts.items c.self.inside.spares.items c.self.invariant.0 c.args.self.now.blocks (ap (λ v. v.blocks) c.self.view_is) c.args.k c.requires.block c.index_mut.result.now c.index_mut.ensures.value in (
-      edited-less (λ b. b.items) (λ b. vec_capacity b) c.self.inside.blocks.items c.self.inside.starts.items c.self.inside.lasts.items c.self.inside.spares.items c.self.invariant.0 c.args.self.now.blocks (ap (λ v. v.blocks) c.self.view_is) c.args.k c.requires.block c.index_mut.result.now c.index_mut.ensures.value c.remove_within-x.new.block c.index.result.now c.index.ensures c.deref.result.now c.deref.ensures.value c.keep_last.new.lasts.items c.keep_last.ensures.lasts c.remove_within-x.ensures.capacity c.lower.new.places.items
+      edited-less (λ b. b.items) (λ b. vec_capacity b) c.self.inside.blocks.items c.self.inside.starts.items c.self.inside.lasts.items c.self.inside.spares.items c.self.invariant.0 c.args.self.now.blocks (ap (λ v. v.blocks) c.self.view_is) c.args.k c.requires.block c.index_mut.result.now c.index_mut.ensures.value c.remove_within-x.new.block c.index.result.now c.index.ensures c.deref.result.now c.deref.ensures.value c.keep_last.new.lasts.items c.keep_last.ensures.lasts c.remove_within-x.ensures.capacity c.lower_behind.new.self.items
           (omega (arith, ap length c.remove_within-x.ensures.items, length-remove c.index_mut.result.now.items c.args.place (omega (arith, ap length list))))
-          (omega (arith, ap length list)) c.lower.ensures.places,
+          (omega (arith, ap length list)) c.lower_behind.ensures.items,
       record {
         few = c.self.invariant.1.few;
         blocks_fit = c.self.invariant.1.blocks_fit;

@@ -1,21 +1,25 @@
 -- A block goes, and is a spare one.
-use Rattle.std.proofs.Common.{◌≡◌, length, [], map, ap, ◌∙◌, arith}
+use Rattle.std.proofs.Common.{◌≡◌, ◌+◌, ◌-◌, ◌≤◌, length, [], map, ap, ◌∙◌, arith}
 use Rattle.std.specs.List.{remove}
 use Rattle.std.specs.Vec.{vec_capacity}
 use Rattle.std.proofs.lemmas.List.{nil_from_length}
 use Rattle.std.proofs.lemmas.List.Edits.{length-remove}
 use Rattle.ec_blocks.proofs.ChainLemmas.{starts-count, starts-some, place-within, map-remove}
 use Rattle.ec_blocks.proofs.EditLemmas.{old-list, old-room, gone, is_spare-from}
+use Rattle.ec_blocks.proofs.NumberLemmas.{behind-length}
 use Rattle.ec_blocks.proofs.chain.Chain.remove_block.Goals as goal
 
-pub lower-requires-clause-within : goal.lower-requires-clause-within
-lower-requires-clause-within g c = omega (arith, starts-count (λ b. b.items) (λ b. vec_capacity b) _ _ _ _ c.self.invariant.0, place-within (λ b. b.items) (λ b. vec_capacity b) c.self.inside.blocks.items _ c.args.k (ap (λ v. v.blocks) c.self.view_is) c.requires.block)
+pub lower_behind-requires-clause-within : goal.lower_behind-requires-clause-within
+lower_behind-requires-clause-within g c = omega (arith, starts-count (λ b. b.items) (λ b. vec_capacity b) _ _ _ _ c.self.invariant.0, place-within (λ b. b.items) (λ b. vec_capacity b) c.self.inside.blocks.items _ c.args.k (ap (λ v. v.blocks) c.self.view_is) c.requires.block)
 
-pub lower-requires-clause-some : goal.lower-requires-clause-some
-lower-requires-clause-some g c = starts-some (λ b. b.items) (λ b. vec_capacity b) _ _ _ _ c.self.invariant.0 c.args.k
+pub lower_behind-requires-clause-some : goal.lower_behind-requires-clause-some
+lower_behind-requires-clause-some g c = starts-some (λ b. b.items) (λ b. vec_capacity b) _ _ _ _ c.self.invariant.0 c.args.k
 
 pub remove-requires : goal.remove-requires
-remove-requires g c = omega (arith, starts-count (λ b. b.items) (λ b. vec_capacity b) _ _ _ _ c.self.invariant.0, place-within (λ b. b.items) (λ b. vec_capacity b) c.self.inside.blocks.items _ c.args.k (ap (λ v. v.blocks) c.self.view_is) c.requires.block)
+remove-requires g c =
+    let upto : c.args.k + 1 ≤ length c.self.inside.starts.items =
+    omega (arith, starts-count (λ b. b.items) (λ b. vec_capacity b) _ _ _ _ c.self.invariant.0, place-within (λ b. b.items) (λ b. vec_capacity b) c.self.inside.blocks.items _ c.args.k (ap (λ v. v.blocks) c.self.view_is) c.requires.block) in
+    omega (arith, ap length c.lower_behind.ensures.items, behind-length (λ start. start - 1) c.self.inside.starts.items (c.args.k + 1) upto)
 
 pub invariant_of-self : goal.invariant_of-self
 invariant_of-self g c =
@@ -25,7 +29,7 @@ invariant_of-self g c =
     let none : c.remove_within-x.new.block.items ≡ [] =
     nil_from_length c.remove_within-x.new.block.items
     (omega (arith, ap length c.remove_within-x.ensures.items, length-remove c.remove-block.result.items 0 (omega (arith, ap length list)), ap length list)) in (
-      gone (λ b. b.items) (λ b. vec_capacity b) c.self.inside.blocks.items c.self.inside.starts.items c.self.inside.lasts.items c.self.inside.spares.items c.self.invariant.0 c.args.self.now.blocks (ap (λ v. v.blocks) c.self.view_is) c.args.k c.requires.block c.requires.alone _ _ _ _ _ c.remove_within-x.new.block c.remove-block.ensures.items c.lower.ensures.places c.remove.ensures.items c.remove-2.ensures.items
+      gone (λ b. b.items) (λ b. vec_capacity b) c.self.inside.blocks.items c.self.inside.starts.items c.self.inside.lasts.items c.self.inside.spares.items c.self.invariant.0 c.args.self.now.blocks (ap (λ v. v.blocks) c.self.view_is) c.args.k c.requires.block c.requires.alone _ _ _ _ _ c.remove_within-x.new.block c.remove-block.ensures.items c.lower_behind.ensures.items c.remove.ensures.items c.remove-2.ensures.items
           c.push_reserved.ensures.items (is_spare-from (λ b. b.items) (λ b. vec_capacity b) c.self.inside.blocks.items c.self.inside.starts.items c.self.inside.lasts.items c.self.inside.spares.items c.self.invariant.0 c.args.self.now.blocks (ap (λ v. v.blocks) c.self.view_is) c.remove_within-x.new.block none (omega arith)),
       record {
         few = omega arith;

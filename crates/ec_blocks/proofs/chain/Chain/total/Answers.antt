@@ -8,15 +8,15 @@ use Rattle.ec_blocks.proofs.StartLemmas.{start_of-suc, start_of-all}
 use Rattle.ec_blocks.proofs.ChainLemmas.{starts-count, start-is, block-is, kept-blocks, joined-most}
 use Rattle.ec_blocks.proofs.chain.Chain.total.Goals as goal
 
-pub index-requires : goal.index-requires
-index-requires g c = omega (arith, starts-count (λ b. b.items) (λ b. vec_capacity b) _ _ _ _ c.self.invariant.0)
+pub get-requires : goal.get-requires
+get-requires g c = omega (arith, starts-count (λ b. b.items) (λ b. vec_capacity b) _ _ _ _ c.self.invariant.0)
 
 pub returns : goal.returns
 returns g c =
     let count : length c.args.self.now.blocks ≡ length c.self.inside.blocks.items =
     ap (λ v. length v.blocks) (sym c.self.view_is) ∙ length-map c.self.inside.blocks.items (λ b. b.items) in
-    let start = start-is (λ b. b.items) (λ b. vec_capacity b) _ _ _ _ c.self.invariant.0 c.args.self.now.blocks (c.len-count.result - 1) c.index.result.now (ap (λ v. v.blocks) c.self.view_is) (omega arith) c.index.ensures in
-    let block = block-is (λ b. b.items) (λ b. vec_capacity b) c.self.inside.blocks.items c.args.self.now.blocks (c.len-count.result - 1) c.index-2.result.now (ap (λ v. v.blocks) c.self.view_is) (omega arith) c.index-2.ensures in
+    let start = start-is (λ b. b.items) (λ b. vec_capacity b) _ _ _ _ c.self.invariant.0 c.args.self.now.blocks (c.len-count.result - 1) c.get.result (ap (λ v. v.blocks) c.self.view_is) (omega arith) c.get.ensures in
+    let block = block-is (λ b. b.items) (λ b. vec_capacity b) c.self.inside.blocks.items c.args.self.now.blocks (c.len-count.result - 1) c.index.result.now (ap (λ v. v.blocks) c.self.view_is) (omega arith) c.index.ensures in
     omega (
       arith,
       start,

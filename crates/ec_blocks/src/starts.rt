@@ -1,0 +1,220 @@
+//! Where blocks begin, kept so that all that begin behind a block are raised or lowered together.
+ghost use Rattle.std.specs.Prelude.{◌≡◌, ℕ, ◌+◌, ◌-◌, ◌*◌, ◌/◌, ◌%◌, ◌^◌, ◌<◌, ◌≤◌, ◌++◌, ◌∷◌, [], ◌⊎◌, IsTrue, true, false, OnOk, nat_lt, nat_le, length, take, drop, map, vec_len, slice_index_or};
+ghost use Rattle.std.specs.List.{insert, remove, list_all};
+ghost use Rattle.std.specs.List.Sorted.{IsNonDecreasingBy, IsPartitionPoint};
+ghost use Rattle.ec_blocks.specs.Starts.{number_at};
+
+use crate::chain::insert_within;
+use ec_terms::NoMemory;
+use std::alloc::Global;
+use std::marker::Model;
+
+/// How many numbers have a base together.
+const GROUP: usize = 64;
+
+/// A list of numbers, in which all behind a place are raised or lowered by one at little cost. Each group of 64 has
+/// a base, and a number is the sum of its own part and of the base of its group, modulo 2^64: so a part
+/// can be moved to any base. It is seen as the list of the numbers, and how many there is room for.
+#[derive(Drop)]
+pub(crate) struct Starts {
+    parts: Vec<usize>,
+    /// One for each group, and for groups to come.
+    bases: Vec<usize>,
+}
+
+impl Model for Starts {
+    ghost use Rattle.std.specs.Prelude.{◌*◌, ◌≤◌, min, vec_len};
+    ghost use Rattle.std.specs.Vec.{vec_capacity};
+    ghost use Rattle.ec_blocks.specs.Starts.{Listed, numbers_of};
+
+    ghost Value = { Listed };
+
+    ghost view = { λ starts. record { items = numbers_of starts.parts.items starts.bases.items; room = min (vec_capacity starts.parts) (64 * vec_len starts.bases) } };
+
+    ghost invariant = { λ starts. vec_len starts.parts ≤ 64 * vec_len starts.bases };
+}
+
+impl Starts {
+    /// No numbers. It takes no memory.
+    pub(crate) fn new(alloc: Global) -> Starts
+        ensures { result ≡ record { items = []; room = 0 } }
+    {
+        Starts {
+            parts: Vec::new(alloc),
+            bases: Vec::new(alloc),
+        }
+    }
+
+    /// The number at a place.
+    pub(crate) fn get(&self, k: usize) -> usize
+        requires { k < length self.now.items }
+        ensures { result ≡ slice_index_or self.now.items k 0 }
+    {
+        self.parts[k].wrapping_add(self.bases[k / GROUP])
+    }
+
+    /// How many numbers are up to one, where they never fall.
+    pub(crate) fn count_up_to(&self, i: usize) -> usize
+        requires { IsNonDecreasingBy (λ start. start) self.now.items }
+        ensures within { result ≤ length self.now.items }
+        ensures cut { IsPartitionPoint (λ start. nat_le start i ≡ true) (λ start. nat_le start i ≡ false) self.now.items result }
+    {
+        let mut low = 0;
+        let mut high = self.parts.len();
+        while low < high {
+            let middle = low + (high - low) / 2;
+            if self.get(middle) <= i {
+                low = middle + 1;
+            } else {
+                high = middle;
+            }
+        }
+        low
+    }
+
+    /// Adds 1 to the numbers behind a place.
+    pub(crate) fn raise_behind(&mut self, k: usize)
+        requires within { k < length self.old.items }
+        requires fits { IsTrue (list_all (λ start. nat_lt start (2 ^ 64 - 1)) (drop (k + 1) self.old.items)) }
+        ensures items { self.new.items ≡ take (k + 1) self.old.items ++ map (λ start. start + 1) (drop (k + 1) self.old.items) }
+        ensures room { self.new.room ≡ self.old.room }
+    {
+        self.add_behind(k, 1);
+    }
+
+    /// Takes 1 from the numbers behind a place.
+    pub(crate) fn lower_behind(&mut self, k: usize)
+        requires within { k < length self.old.items }
+        requires some { IsTrue (list_all (λ start. nat_le 1 start) (drop (k + 1) self.old.items)) }
+        ensures items { self.new.items ≡ take (k + 1) self.old.items ++ map (λ start. start - 1) (drop (k + 1) self.old.items) }
+        ensures room { self.new.room ≡ self.old.room }
+    {
+        self.add_behind(k, usize::MAX);
+    }
+
+    /// Adds a number, modulo 2^64, to those behind a place: to the parts as far as the group goes, and to the
+    /// bases of the groups behind it.
+    fn add_behind(&mut self, k: usize, more: usize)
+        requires { k < length self.old.items }
+        ensures small { IsTrue (list_all (λ start. nat_lt start (2 ^ 64)) self.old.items) }
+        ensures items { self.new.items ≡ take (k + 1) self.old.items ++ map (λ start. (start + more) % 2 ^ 64) (drop (k + 1) self.old.items) }
+        ensures room { self.new.room ≡ self.old.room }
+    {
+        let count = self.parts.len();
+        let groups = self.bases.len();
+        let group = k / GROUP + 1;
+        add(&mut self.parts, k + 1, count.min(group * GROUP), more);
+        add(&mut self.bases, group, groups, more);
+    }
+
+    /// Inserts a number at a place, where there is room for it.
+    pub(crate) fn insert(&mut self, k: usize, start: usize)
+        requires within { k ≤ length self.old.items }
+        requires room { length self.old.items < self.old.room }
+        ensures items { self.new.items ≡ insert self.old.items k start }
+        ensures room { self.old.room ≤ self.new.room }
+    {
+        let group = k / GROUP;
+        insert_within(&mut self.parts, k, rebased(start, 0, self.bases[group]));
+        carry_up(&mut self.parts, &self.bases, group + 1);
+    }
+
+    /// Adds a number at the end, where there is room for it.
+    pub(crate) fn push(&mut self, start: usize)
+        requires { length self.old.items < self.old.room }
+        ensures items { self.new.items ≡ self.old.items ++ start ∷ [] }
+        ensures room { self.old.room ≤ self.new.room }
+    {
+        let end = self.parts.len();
+        self.insert(end, start);
+    }
+
+    /// Takes out the number at a place.
+    pub(crate) fn remove(&mut self, k: usize)
+        requires { k < length self.old.items }
+        ensures items { self.new.items ≡ remove self.old.items k }
+        ensures room { self.new.room ≡ self.old.room }
+    {
+        self.parts.remove(k);
+        carry_down(&mut self.parts, &self.bases, k / GROUP);
+    }
+
+    /// Makes room for further numbers. `Err`: memory ran out.
+    pub(crate) fn reserve(&mut self, more: usize) -> Result<(), NoMemory>
+        requires { length self.old.items + more ≤ 2 ^ 57 }
+        ensures items { self.new.items ≡ self.old.items }
+        ensures room { self.old.room ≤ self.new.room }
+        ensures ok { OnOk result (length self.old.items + more ≤ self.new.room) }
+    {
+        self.parts.reserve(more)?;
+        let groups = (self.parts.len() + more).div_ceil(GROUP);
+        extend(&mut self.bases, groups)
+    }
+
+    /// Takes out all numbers.
+    pub(crate) fn clear(&mut self)
+        ensures items { self.new.items ≡ [] }
+        ensures room { self.new.room ≡ self.old.room }
+    {
+        self.parts.clear();
+    }
+}
+
+/// Adds a number, modulo 2^64, to those from one place up to another.
+fn add(numbers: &mut [usize], from: usize, to: usize, more: usize)
+    requires ordered { from ≤ to }
+    requires within { to ≤ length numbers.old }
+    ensures len { length numbers.new ≡ length numbers.old }
+    ensures within { (k : ℕ) → from ≤ k → k < to → slice_index_or numbers.new k 0 ≡ (slice_index_or numbers.old k 0 + more) % 2 ^ 64 }
+    ensures others { (k : ℕ) → (k < from) ⊎ (to ≤ k) → slice_index_or numbers.new k 0 ≡ slice_index_or numbers.old k 0 }
+{
+    for k in from..to {
+        numbers[k] = numbers[k].wrapping_add(more);
+    }
+}
+
+/// Adds bases until there are as many as groups. `Err`: memory ran out.
+fn extend(bases: &mut Vec<usize>, groups: usize) -> Result<(), NoMemory>
+    ensures same { (g : ℕ) → g < vec_len bases.old → slice_index_or bases.new.items g 0 ≡ slice_index_or bases.old.items g 0 }
+    ensures more { vec_len bases.old ≤ vec_len bases.new }
+    ensures ok { OnOk result (groups ≤ vec_len bases.new) }
+{
+    while bases.len() < groups {
+        bases.push(0)?;
+    }
+    Ok(())
+}
+
+/// What a part beside one base is beside another.
+fn rebased(part: usize, from: usize, to: usize) -> usize
+    ensures { (result + to) % 2 ^ 64 ≡ (part + from) % 2 ^ 64 }
+{
+    part.wrapping_add(from).wrapping_sub(to)
+}
+
+/// Moves the first part of each group from one on, which comes from the group in front, to the base of its group.
+fn carry_up(parts: &mut [usize], bases: &[usize], from: usize)
+    requires some { 1 ≤ from }
+    requires based { length parts.old ≤ 64 * length bases.now }
+    ensures len { length parts.new ≡ length parts.old }
+    ensures moved { (k : ℕ) → k < length parts.old → from ≤ k / 64 → k % 64 ≡ 0 → number_at parts.new bases.now k ≡ (slice_index_or parts.old k 0 + slice_index_or bases.now (k / 64 - 1) 0) % 2 ^ 64 }
+    ensures others { (k : ℕ) → (k / 64 < from) ⊎ (1 ≤ k % 64) → slice_index_or parts.new k 0 ≡ slice_index_or parts.old k 0 }
+{
+    for group in from..parts.len().div_ceil(GROUP) {
+        let first = group * GROUP;
+        parts[first] = rebased(parts[first], bases[group - 1], bases[group]);
+    }
+}
+
+/// Moves the last part of each full group from one on, which comes from the group behind, to the base of its group.
+fn carry_down(parts: &mut [usize], bases: &[usize], from: usize)
+    requires based { length parts.old < 64 * length bases.now }
+    ensures len { length parts.new ≡ length parts.old }
+    ensures moved { (k : ℕ) → k < length parts.old → from ≤ k / 64 → k % 64 ≡ 63 → number_at parts.new bases.now k ≡ (slice_index_or parts.old k 0 + slice_index_or bases.now (k / 64 + 1) 0) % 2 ^ 64 }
+    ensures others { (k : ℕ) → (k / 64 < from) ⊎ (k % 64 < 63) → slice_index_or parts.new k 0 ≡ slice_index_or parts.old k 0 }
+{
+    for group in from..parts.len() / GROUP {
+        let last = group * GROUP + (GROUP - 1);
+        parts[last] = rebased(parts[last], bases[group + 1], bases[group]);
+    }
+}
