@@ -11,11 +11,12 @@ use ec_terms::NoMemory;
 use std::alloc::Global;
 use std::marker::Model;
 
-/// What holds the members: one `Vec` as long as they are few, so that a short list takes little memory.
+/// What holds the members: one `Vec` as long as they are few, so that a short list takes little memory. A chain stands in a box, so
+/// that a list of lists is short too.
 #[derive(Drop)]
 pub(crate) enum Body<X> {
     Few(Vec<X>),
-    Many(Chain<X>),
+    Many(Box<Chain<X>>),
 }
 
 /// A list in which members are put in and taken out cheaply anywhere: in blocks of at most 64 members, found
@@ -259,11 +260,11 @@ impl<X: Copied + Drop> Blocks<X> {
 }
 
 /// The chain to take the place of few members, if they and `n` more are too many for one `Vec`.
-fn chain_for<X: Copied + Drop>(body: &Body<X>, n: usize) -> Result<Option<Chain<X>>, NoMemory>
+fn chain_for<X: Copied + Drop>(body: &Body<X>, n: usize) -> Result<Option<Box<Chain<X>>>, NoMemory>
     requires { IsBody body.now }
-    ensures members { IfOk result (λ found. IfSome found (λ chain. joined chain.blocks ≡ (seen_of body.now).items)) }
-    ensures room { IfOk result (λ found. IfSome found (λ chain. n ≤ room_of chain.blocks chain.spares)) }
-    ensures spare { IfOk result (λ found. IfSome found (λ chain. (seen_of body.now).spare ≤ room_of chain.blocks chain.spares)) }
+    ensures members { IfOk result (λ found. IfSome found (λ chain. joined chain.value.blocks ≡ (seen_of body.now).items)) }
+    ensures room { IfOk result (λ found. IfSome found (λ chain. n ≤ room_of chain.value.blocks chain.value.spares)) }
+    ensures spare { IfOk result (λ found. IfSome found (λ chain. (seen_of body.now).spare ≤ room_of chain.value.blocks chain.value.spares)) }
     ensures none { IfOk result (λ found. IfNone found (HasPlace body.now n)) }
 {
     match body {
@@ -271,7 +272,8 @@ fn chain_for<X: Copied + Drop>(body: &Body<X>, n: usize) -> Result<Option<Chain<
             if n <= CAPACITY - members.len() {
                 return Ok(None);
             }
-            Ok(Some(chain_of(*members.allocator(), members, n)?))
+            let alloc = *members.allocator();
+            Ok(Some(Box::new(alloc, chain_of(alloc, members, n)?)?))
         }
         Body::Many(_) => Ok(None),
     }
