@@ -12,7 +12,7 @@ use std::string::String;
 /// How many bytes of output are held back before they are handed on.
 const OUTPUT_ROOM: usize = 65_536;
 
-/// The words behind the program's name; none, which have no shape, where one of them is no text.
+/// The words behind the program's name. If one of them is no text there are none, which is no form that the program takes.
 fn words(rt: &HostRuntime) -> Result<Vec<String>, NoMemory> {
     let mut words = Vec::new(rt.alloc());
     match env::args(rt) {

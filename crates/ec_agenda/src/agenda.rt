@@ -61,7 +61,7 @@ impl<T: Moment> Agenda<T> {
         Ok(())
     }
 
-    /// The earliest time at which a property is due. `None` exactly where nothing is due.
+    /// The earliest time at which a property is due. `None` exactly when nothing is due.
     pub fn first_time(&self) -> Option<T>
         ensures some { IfSome result (λ at. option_map (λ due. due.0) (slice_get self.now 0) ≡ Some at) }
         ensures none { IfNone result (self.now ≡ []) }
@@ -72,7 +72,7 @@ impl<T: Moment> Agenda<T> {
         }
     }
 
-    /// Takes out the property that is due first. `None` exactly where nothing is due.
+    /// Takes out the property that is due first. `None` exactly when nothing is due.
     pub fn pop(&mut self) -> Option<(T, PropId)>
         ensures some { IfSome result (λ due. self.old ≡ due ∷ self.new) }
         ensures none { IfNone result (self.old ≡ []) }

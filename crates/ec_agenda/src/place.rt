@@ -36,7 +36,7 @@ fn count_before<T: Moment>(dues: &VecDeque<(T, PropId)>, at: T, p: PropId) -> us
     )
 }
 
-/// The place that a property at a time would take. `None` exactly where it is there already.
+/// The place that a property at a time would take. `None` exactly when it is there already.
 pub(crate) fn free_place<T: Moment>(dues: &VecDeque<(T, PropId)>, at: T, p: PropId) -> Option<usize>
     requires { IsTrue (are_in_order T.rank dues.now.items) }
     ensures some { is_some result ≡ not (has_due T.rank (T.rank at) p.0 dues.now.items) }

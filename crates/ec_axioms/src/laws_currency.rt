@@ -14,7 +14,7 @@ pub fn past_is_closed_law()
     ensures { PastIsClosed }
 {}
 
-/// A property holds at a time exactly where it is current there and the first break from there on, if there
+/// A property holds at a time exactly when it is current there and the first break from there on, if there
 /// is one, terminates it.
 pub fn holds_where_current_law()
     ensures { HoldsWhereCurrent }

@@ -2,7 +2,7 @@
 //! history, which is a list of events in order with distinct identities.
 ghost use Rattle.ec_axioms.specs.Laws.{AtMostOneIntervalCovers, CurrencyIsOfTheLastMark, ExclusivesShareOnlyABeginning, HoldingIsTheReasonYes, IntervalsAreDisjoint, SpansAreTheIntervals, ThroughIsEachInstant};
 
-/// A property is current at a time exactly where the last of its marks before that time initiates it, or it has no mark
+/// A property is current at a time exactly when the last of its marks before that time initiates it, or it has no mark
 /// before that time and is initial. So one search in the row of a property's marks tells its currency.
 pub fn currency_is_of_the_last_mark_law()
     ensures { CurrencyIsOfTheLastMark }
@@ -31,13 +31,13 @@ pub fn exclusives_share_only_a_beginning_law()
     ensures { ExclusivesShareOnlyABeginning }
 {}
 
-/// A property holds through a stretch exactly where it holds at each whole number of the stretch, its ends among them.
+/// A property holds through a stretch exactly when it holds at each whole number of the stretch, its ends among them.
 /// An end with a start at the same instant is no gap.
 pub fn through_is_each_instant_law()
     ensures { ThroughIsEachInstant }
 {}
 
-/// A property holds at a time exactly where the reason for it there is yes: holding and reasons, which are defined apart,
+/// A property holds at a time exactly when the reason for it there is yes: holding and reasons, which are defined apart,
 /// never disagree.
 pub fn holding_is_the_reason_yes_law()
     ensures { HoldingIsTheReasonYes }

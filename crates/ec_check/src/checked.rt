@@ -63,7 +63,7 @@ fn first_wrong(theory: &Theory) -> Option<CheckFault>
     )
 }
 
-/// Checks that a numbered theory is well formed. A fault comes exactly where the theory has one: of the
+/// Checks that a numbered theory is well formed. A fault comes exactly when the theory has one: of the
 /// clauses with a fault that with the least number is told, with its first fault. It takes no memory.
 pub fn check(theory: Theory) -> Result<Checked, CheckFault>
     requires numbered { IsNumbered theory }

@@ -88,7 +88,7 @@ impl<T: Moment, X: TimeRow<T>> EventStore<T, X> {
         self.times.reserve(n)
     }
 
-    /// The slot of the event with an identity. `None` exactly where no present event has it.
+    /// The slot of the event with an identity. `None` exactly when no present event has it.
     pub fn find(&self, id: &Name) -> Option<Slot>
         ensures slot { result ≡ slot_of id.now self.now.events }
         ensures live { IfSome result (λ slot. IsSome (event_at slot self.now.events)) }

@@ -76,7 +76,7 @@ pub(crate) fn leave(groups: &mut Groups, keys: &[Vec<u8>], p: PropId)
     }
 }
 
-/// Puts a property into the groups of its keys. After want of memory it may stand in some of them.
+/// Puts a property into the groups of its keys. If memory runs out, it may stand in some of them.
 fn enter_each(
     groups: &mut Groups,
     alloc: Global,

@@ -101,7 +101,7 @@ impl Neighbours {
 
     /// Adds a property that the table keeps: its neighbours are found, and it becomes a neighbour of each of them.
     /// Only those added properties are looked at that have, for some declaration, the values that its two sides share.
-    /// `Err` is for want of memory, and then all is as it was.
+    /// `Err`: memory ran out, and all is as it was.
     pub fn add(&mut self, theory: &Theory, props: &PropTable, p: PropId) -> Result<(), NoMemory>
         requires matchable { IsMatchable theory.now }
         requires kept { IsSome (prop_at p.0 props.now) }

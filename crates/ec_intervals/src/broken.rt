@@ -106,7 +106,7 @@ fn find_first<T: Moment, M: MarkRow<T>>(
 }
 
 /// The first broken begin of a row of marks after a begin, or the first of all where none is given, with its break.
-/// `None` exactly where there is none. It reads the marks from the given begin on, up to the break.
+/// `None` exactly when there is none. It reads the marks from the given begin on, up to the break.
 pub fn broken_after<T: Moment, M: MarkRow<T>>(
     row: &M,
     strong: bool,

@@ -54,7 +54,7 @@ impl<T: Moment, I: SpanRow<T>> Intervals<T, I> {
         }
     }
 
-    /// The spans of a property. `None` exactly where it has no row.
+    /// The spans of a property. `None` exactly when it has no row.
     pub fn spans(&self, p: PropId) -> Option<&I>
         ensures there { IfSome result (λ row. IsTrue (has_row p.0 self.now)) }
         ensures spans { IfSome result (λ row. spans_at p.0 self.now ≡ I.spans row.now) }
@@ -65,7 +65,7 @@ impl<T: Moment, I: SpanRow<T>> Intervals<T, I> {
         Some(kept.spans.inner())
     }
 
-    /// The end of the interval of a property from before all events. `None` exactly where it has no such interval.
+    /// The end of the interval of a property from before all events. `None` exactly when it has no such interval.
     pub fn front(&self, p: PropId) -> Option<End<T>>
         ensures { result ≡ front_at p.0 self.now }
     {

@@ -15,7 +15,7 @@ pub fn marks_are_read_in_parts_law<T: Moment>()
     ensures { MarksAreReadInParts T.rank }
 {}
 
-/// Behind a mark with a count a begin is open exactly where the mark initiates, whatever was open in front of it.
+/// Behind a mark with a count a begin is open exactly when the mark initiates, whatever was open in front of it.
 pub fn open_begins_are_told_by_one_mark_law()
     ensures { OpenBeginsAreToldByOneMark }
 {}

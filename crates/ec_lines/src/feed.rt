@@ -68,7 +68,7 @@ impl Feed {
         ensures line { self.new.is_ready ≡ true → (bytes : List ℕ) → IsPart self.old bytes →
             IsReady self.new (without_return (bytes ++ take (result - 1) piece.now)) }
 
-        // In all that was taken since the feed was made, a line is ready exactly where it is the next whole line.
+        // In all that was taken since the feed was made, a line is ready exactly when it is the next whole line.
         ensures stream { (stream : List ℕ) → IsPart self.old (cut_of stream).rest →
             Advances self.new.is_ready self.new stream (stream ++ take result piece.now) }
     {
@@ -122,7 +122,7 @@ impl Feed {
         requires { self.old.is_ready ≡ false }
         ensures line { (bytes : List ℕ) → IsPart self.old bytes → IsEnded self.new bytes }
 
-        // In all that was taken since the feed was made, a line is ready exactly where one stands behind the whole lines.
+        // In all that was taken since the feed was made, a line is ready exactly when one stands behind the whole lines.
         ensures stream { (stream : List ℕ) → IsPart self.old (cut_of stream).rest → Finishes self.new.is_ready self.new stream }
     {
         if self.is_long || !self.kept.is_empty() {

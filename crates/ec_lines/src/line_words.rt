@@ -49,7 +49,7 @@ impl<'a> Words<'a> {
         Words { rest: line }
     }
 
-    /// Takes the next word. `None` exactly where there is none.
+    /// Takes the next word. `None` exactly when there is none.
     pub fn next(&mut self) -> Option<&'a [u8]>
         ensures some { IfSome result (λ word. self.old ≡ word.now ∷ self.new) }
         ensures nonempty { IfSome result (λ word. 0 < length word.now) }

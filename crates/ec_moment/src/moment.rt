@@ -35,7 +35,7 @@ pub trait Moment: Copy {
         ensures in_range { IsWithin LEAST MOST (rank self.now) }
         ensures other_in_range { IsWithin LEAST MOST (rank other.now) };
 
-    /// The moment that the whole of `bytes` spells. `None` exactly where they spell none.
+    /// The moment that the whole of `bytes` spells. `None` exactly when they spell none.
     fn read(bytes: &[u8]) -> Option<Self>
         ensures value { IfSome result (λ moment. spelt bytes.now ≡ Some (rank moment)) }
         ensures none { IfNone result (spelt bytes.now ≡ None) }

@@ -48,7 +48,7 @@ fn signed(is_negative: bool, magnitude: u64) -> Option<i64>
 
 /// Reads a number from the whole of `bytes`: an optional `-` and 1 to 20 digits, with a value from
 /// `i64::MIN` to `i64::MAX`. Leading zeros and `-0` are allowed; a `+`, a blank or any other byte is
-/// not. `None` exactly where the bytes spell no number.
+/// not. `None` exactly when the bytes spell no number.
 pub fn read_number(bytes: &[u8]) -> Option<i64>
     ensures exact { result ≡ number_value bytes.now }
 {

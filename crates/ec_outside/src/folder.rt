@@ -22,7 +22,7 @@ pub trait Folder {
     ghost faults: { Self → ℕ };
 
     /// Reads the file `name` into the empty `into`, if it has no more than `most` bytes. After a
-    /// refusal `into` is of no further use. Want of memory may be answered at any call.
+    /// refusal `into` is of no further use. Any call may answer that memory ran out.
     fn read_whole(
         &mut self,
         name: &str,

@@ -149,7 +149,7 @@ impl<T: Moment> Clashes<T> {
         }
     }
 
-    /// The first clash behind a time, or the first of all. `None` exactly where there is none.
+    /// The first clash behind a time, or the first of all. `None` exactly when there is none.
     pub fn next(&self, after: Option<T>) -> Option<Clash<T>>
         ensures some { IfSome result (λ clash. IsTrue (has_clash T.rank clash.p.0 (T.rank clash.at) self.now.items)) }
         ensures behind { IfSome result (λ clash. IsTrue (is_behind T.rank after (T.rank clash.at))) }

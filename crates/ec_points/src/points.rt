@@ -84,7 +84,7 @@ impl<T: Moment, M: MarkRow<T>> Points<T, M> {
         self.initials.contains(p)
     }
 
-    /// The row of a property. `None` exactly where it has none.
+    /// The row of a property. `None` exactly when it has none.
     pub fn row(&self, p: PropId) -> Option<&M>
         ensures some { IfSome result (λ row. row_at p.0 self.now ≡ Some (row_of M.marks M.spare row.now)) }
         ensures none { IfNone result (row_at p.0 self.now ≡ None) }
@@ -92,7 +92,7 @@ impl<T: Moment, M: MarkRow<T>> Points<T, M> {
         self.rows.get(p)
     }
 
-    /// The mark of a property at a time. `None` exactly where it has none there.
+    /// The mark of a property at a time. `None` exactly when it has none there.
     pub fn mark_at(&self, p: PropId, at: T) -> Option<Mark<T>>
         ensures { result ≡ mark_at T.rank (T.rank at) (marks_at p.0 self.now) }
     {

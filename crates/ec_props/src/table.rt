@@ -90,7 +90,7 @@ impl PropTable {
         self.records.mentions(p)
     }
 
-    /// The number under which a term is kept. `None` exactly where it is not. It takes no memory.
+    /// The number under which a term is kept. `None` exactly when it is not. It takes no memory.
     pub fn lookup(&self, term: &GroundRef<'_>) -> Option<PropId>
         ensures number { option_map (λ p. p.0) result ≡ prop_of (ground_of term.now) self.now }
         ensures kept { IfSome result (λ p. IsSome (prop_at p.0 self.now)) }
@@ -104,7 +104,7 @@ impl PropTable {
     }
 
     /// The number of a term, which is kept from then on. A term that is kept stays as it is, and takes no memory.
-    /// `Err` is for want of memory, and then all is as it was.
+    /// `Err`: memory ran out, and all is as it was.
     pub fn intern(&mut self, term: &GroundRef<'_>) -> Result<PropId, NoMemory>
         requires { IsTrue (names_are_names (ground_of term.now)) }
         ensures number { IfOk result (λ p. prop_of (ground_of term.now) self.new ≡ Some p.0) }

@@ -37,7 +37,7 @@ fn term<'a>(rt: &impl Abort, spelt: &'a [u8]) -> GroundRef<'a>
     term
 }
 
-/// Keeps a term. Where memory is wanting, it sees that the table is as it was, and tries again.
+/// Keeps a term. If memory runs out, it sees that the table is as it was, and tries again.
 fn keep(rt: &impl Abort, table: &mut PropTable, term: &GroundRef<'_>) -> PropId
     requires { IsTrue (names_are_names (ground_of term.now)) }
 {

@@ -51,11 +51,11 @@ fn obey<F: Folder, S: Source, K: Sink>(
 /// Does what the words behind the program's name ask for, and answers the exit status.
 ///
 /// Theories and files of lines are read from `files`, other lines from `input`; what is to be said is written to `output`. The
-/// statuses are: 0 the lines were answered to their end or to `quit`, or the theory is accepted; 2 the words have no shape; 3 the
-/// theory is not accepted; 4 the input failed; 5 the output failed; 6 memory ran out before anything was written; 7 a file could
-/// not be read; 8 as many bytes of input were taken as may be; 9 the file of lines is too long. What is said of bytes taken and left
-/// says nothing if the source does not tell what it has left, and what is said of files says nothing if the folder does not tell
-/// them.
+/// statuses are: 0 the lines were answered to their end or to `quit`, or the theory is accepted; 2 the words are none of the forms
+/// that the usage line shows; 3 the theory is not accepted; 4 the input failed; 5 the output failed; 6 memory ran out before anything
+/// was written; 7 a file could not be read; 8 as many bytes of input were taken as may be; 9 the file of lines is too long. What is
+/// said of bytes taken and left says nothing if the source does not tell what it has left, and what is said of files says nothing if
+/// the folder does not tell them.
 pub fn run<F: Folder, S: Source, K: Sink>(
     alloc: Global,
     words: &[String],
@@ -87,7 +87,7 @@ pub fn run<F: Folder, S: Source, K: Sink>(
     ensures soaks { result ≡ 0 → (lines seed : ℕ) → asked words.now ≡ Some (soak_lines lines seed) →
         (text : List ℕ) × IsSoakLine lines seed text × Appended K.stands output.old output.new text }
 
-    // Words without a shape.
+    // Words that are none of the forms.
     ensures no_shape { (result ≡ 2) ↔ (asked words.now ≡ None) }
     ensures usage { result ≡ 2 → Wrote K.stands K.faults output.old output.new usage_line }
 

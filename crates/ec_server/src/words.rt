@@ -8,7 +8,7 @@ ghost use Rattle.ec_server.specs.ShownShape.{plain_shape};
 
 use std::string::String;
 
-/// The line that is written where the words have no shape.
+/// The line that is written if the words are none of its forms.
 pub(crate) const USAGE: &[u8] =
     b"usage: ec check THEORY / serve THEORY / replay THEORY LINES / soak N SEED\n";
 
@@ -133,7 +133,7 @@ fn shape_by_two<'a>(command: &str, first: &'a str, second: &'a str) -> Option<Sh
     }
 }
 
-/// The shape of the words, or none where they have no shape.
+/// The shape of the words. `None`: they are none of the forms that the usage line shows.
 #[tactic(auto, unfolding(crate::specs::Words::shape_of))]
 pub fn shape_of(words: &[String]) -> Option<Shape<'_>>
     ensures { option_map plain_shape result ≡ shape_of (map string_bytes words.now) }

@@ -50,7 +50,7 @@ fn next_entry<T: Moment>(entries: &Entries<T>, p: PropId, at: T) -> Option<T>
     entries.next_dependent_after(p, at)
 }
 
-/// The next time behind one at which anything bears on a property. `None` exactly where nothing does.
+/// The next time behind one at which anything bears on a property. `None` exactly when nothing does.
 pub(crate) fn next_time<T: Moment, M: MarkRow<T>, I: SpanRow<T>, X: TimeRow<T>>(
     parts: &Parts<T, M, I, X>,
     p: PropId,

@@ -12,8 +12,8 @@ pub fn exclusive_is_symmetric()
     ensures not_itself { (theory : Theory) → NeverExcludesItself theory }
 {}
 
-/// The patterns of a declaration fit two properties together exactly where there is one binding under
-/// which each fits its property. So two properties are exclusive exactly where they differ and some
+/// The patterns of a declaration fit two properties together exactly when there is one binding under
+/// which each fits its property. So two properties are exclusive exactly when they differ and some
 /// declaration has a binding under which one of its patterns fits the one and the other the other.
 pub fn exclusive_is_under_one_binding()
     ensures patterns { (left right : Pattern) (p q : Ground) → FitTogether left right p q }

@@ -45,7 +45,7 @@ pub fn fill_ref<'a>(pattern: &'a Pattern, binding: &Binding<'a>) -> GroundRef<'a
     }
 }
 
-/// The same term as `fill_ref` gives, with its own copy of each name. Only want of memory refuses it.
+/// The same term as `fill_ref` gives, with its own copy of each name. It is refused only if memory runs out.
 pub fn fill(alloc: Global, pattern: &Pattern, binding: &Binding<'_>) -> Result<Ground, NoMemory>
     requires small { IsSmall pattern.now }
     requires bound { IsTrue (fills (values_of binding.now) pattern.now) }

@@ -137,8 +137,8 @@ impl Args {
         self.items.as_slice()
     }
 
-    /// Adds an argument at the end. Only want of memory refuses it, and then the arguments are as
-    /// they were and the new one is dropped.
+    /// Adds an argument at the end. It is refused only if memory runs out, and then the arguments
+    /// are as they were and the new one is dropped.
     pub fn push(&mut self, arg: Arg) -> Result<(), NoMemory>
         requires { length self.old < MOST_ARGS }
         ensures ok { OnOk result (self.new ≡ self.old ++ arg ∷ []) }
@@ -164,7 +164,7 @@ impl Args {
 }
 
 impl<'a> ArgRefs<'a> {
-    /// The same arguments, with names of their own. Only want of memory refuses it.
+    /// The same arguments, with names of their own. It is refused only if memory runs out.
     pub fn to_args(&self, alloc: Global) -> Result<Args, NoMemory>
         requires { IsTrue (list_all is_argument (map arg_of self.now)) }
         ensures { IfOk result (λ args. args ≡ map arg_of self.now) }
@@ -203,7 +203,7 @@ impl Ground {
 }
 
 impl<'a> GroundRef<'a> {
-    /// The same term, with names of its own. Only want of memory refuses it.
+    /// The same term, with names of its own. It is refused only if memory runs out.
     #[tactic(auto, unfolding(crate::specs::Term::names_are_names))]
     pub fn to_ground(&self, alloc: Global) -> Result<Ground, NoMemory>
         requires { IsTrue (names_are_names (ground_of self.now)) }

@@ -17,7 +17,7 @@ pub fn terms_are_ordered()
     ensures exact { IsEqualOnlyIfSame term_cmp }
 {}
 
-/// The tests of equality pass two arguments, or two terms, exactly where they are the same.
+/// The tests of equality pass two arguments, or two terms, exactly when they are the same.
 pub fn equality_is_decided()
     ensures arguments { IsEquality arg_eq }
     ensures terms { IsEquality term_eq }

@@ -60,8 +60,8 @@ impl<T> Sequence<T> {
 }
 
 impl<T: Drop> Sequence<T> {
-    /// Adds a member at the end. Only want of memory refuses it, and then the list is as it was
-    /// and the member is dropped.
+    /// Adds a member at the end. It is refused only if memory runs out, and then the list is as
+    /// it was and the member is dropped.
     pub fn push(&mut self, item: T) -> Result<(), NoMemory>
         ensures ok { OnOk result (self.new ≡ self.old ++ item ∷ []) }
         ensures err { OnErr result (self.new ≡ self.old) }

@@ -15,7 +15,7 @@ use std::alloc::Global;
 /// Reads a list of tokens as a theory by the grammar of clauses. Clauses are numbered from 1, and the
 /// variables of a clause from 0 by their first appearance.
 ///
-/// `Syntax` comes exactly where the tokens are no theory, at the first token with which they begin
+/// `Syntax` comes exactly when the tokens are no theory, at the first token with which they begin
 /// none, or at their end where all of them begin one.
 #[tactic(auto, using(crate::proofs::WalkLaws::no_reading, crate::proofs::WalkLaws::syntax_fault, crate::proofs::NumberedReadings::reads_numbered))]
 pub fn read_theory(alloc: Global, tokens: &TokenList<'_>) -> Result<Theory, SyntaxFault>

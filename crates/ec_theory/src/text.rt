@@ -16,7 +16,7 @@ pub enum Refused {
     Wrong(CheckFault),
 }
 
-/// Reads the bytes of a text as a theory. A fault other than one of memory comes exactly where the
+/// Reads the bytes of a text as a theory. A fault other than one of memory comes exactly when the
 /// bytes have it.
 pub fn accept(alloc: Global, bytes: &[u8]) -> Result<Checked, Refused>
     requires { length bytes.now ≤ MOST_BYTES }

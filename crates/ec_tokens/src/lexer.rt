@@ -12,7 +12,7 @@ use std::alloc::Global;
 /// Cuts a theory's text into its tokens, the longest at each place. Blanks and comments stand between
 /// tokens and mean nothing.
 ///
-/// A fault other than `Memory` comes exactly where the text has one, and is the first from the left.
+/// A fault other than `Memory` comes exactly when the text has one, and is the first from the left.
 pub fn tokens<'a>(alloc: Global, bytes: &'a [u8]) -> Result<TokenList<'a>, TokenFault>
     requires { length bytes.now ≤ MOST_BYTES }
     ensures ok { IfOk result (λ list. tokens_of bytes.now ≡ Ok list) }
