@@ -10,8 +10,6 @@ mod limited;
 mod net;
 mod net_change;
 mod refusal;
-#[cfg(test)]
-mod tests;
 mod through;
 mod undo;
 mod undo_change;

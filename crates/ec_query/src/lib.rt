@@ -10,8 +10,6 @@ mod interval_reply;
 mod marked;
 mod property_reply;
 mod stretches;
-#[cfg(test)]
-mod tests;
 mod text;
 
 pub use broken_reply::broken;

@@ -8,8 +8,6 @@ mod explaining;
 mod reason;
 mod reply;
 mod sought;
-#[cfg(test)]
-mod tests;
 mod text;
 
 pub use explaining::why;

@@ -1,10 +1,13 @@
-//! Whole runs of the program's top call, over folders, sources and sinks in memory.
+//! Whole runs of the program's top call, over folders, sources and sinks in memory; and calls of the crates below it that
+//! are too large to be proved twice.
 #![tactic(auto)]
 
 #[cfg(test)]
 mod dialogue;
 #[cfg(test)]
 mod drawn;
+#[cfg(test)]
+mod engine;
 #[cfg(test)]
 mod faults;
 #[cfg(test)]
@@ -29,6 +32,10 @@ mod plain_replies;
 mod plain_terms;
 #[cfg(test)]
 mod plain_theory;
+#[cfg(test)]
+mod queries;
+#[cfg(test)]
+mod reasons;
 #[cfg(test)]
 mod replayed;
 #[cfg(test)]

@@ -1,9 +1,9 @@
 //! What no clause shows: that batches are applied where memory is given, and the counts of worked ones.
 ghost use Rattle.std.specs.Prelude.{◌≡◌, ◌<◌, ◌^◌, length};
 
-use crate::{Engine, Refusal};
 use ec_axioms::{Cut, Event, Steps, Update};
 use ec_blocks::{BlockMarks, BlockSpans, BlockTimes};
+use ec_engine::{Engine, Refusal};
 use ec_moment::Tick;
 use ec_terms::{Name, NoMemory, read_ground};
 use ec_theory::accept;

@@ -1,9 +1,9 @@
 //! What no clause shows: that a reason of each kind is told, read as text.
 
-use crate::{Cause, Origin, Reason, write_reason};
 use ec_intervals::Begin;
 use ec_moment::Tick;
 use ec_outside::MemSink;
+use ec_reasons::{Cause, Origin, Reason, write_reason};
 use ec_terms::{Name, NoMemory};
 use std::alloc::Global;
 

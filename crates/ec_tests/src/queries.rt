@@ -1,7 +1,6 @@
 //! What no clause shows: that the calls run, on parts that are filled by hand.
 ghost use Rattle.std.specs.Prelude.{◌≡◌, ◌<◌};
 
-use crate::{Held, Marked, at, broken, clashes, events, holds_at, intervals, through};
 use ec_axioms::{Event, Steps};
 use ec_events::EventStore;
 use ec_intervals::Intervals;
@@ -9,6 +8,7 @@ use ec_moment::Tick;
 use ec_outside::MemSink;
 use ec_points::Points;
 use ec_props::PropTable;
+use ec_query::{Held, Marked, at, broken, clashes, events, holds_at, intervals, through};
 use ec_rows::{VecMarks, VecSpans, VecTimes};
 use ec_terms::{Args, Ground, GroundRef, Name, NoMemory, Sequence, Theory};
 use std::alloc::Global;
