@@ -1,13 +1,12 @@
 -- Which kept properties hold at a time: the members of a list one after the other, and all of them in term order.
-use Rattle.std.proofs.Common.{◌≡◌, ℕ, ℤ, ◌+◌, ◌<◌, get_or, suc, Bool, true, false, List, [], ◌∷◌, ◌++◌, length, take, drop, map, filter, find, Option, Some, None, option_map, IsTrue, All, refl, sym, ap, ap₂, subst, ◌∙◌, inl, inr, take-append-drop, arith}
+use Rattle.std.proofs.Common.{◌≡◌, ℕ, ℤ, ◌+◌, ◌<◌, get_or, suc, Bool, true, false, List, [], ◌∷◌, ◌++◌, length, take, drop, map, filter, find, Option, Some, None, option_map, IsTrue, IsSome, All, refl, sym, ap, ap₂, subst, ◌∙◌, inl, inr, take-append-drop, arith}
 use Rattle.std.specs.Option.{option_map_or}
 use Rattle.std.specs.Prelude.{slice_get, decimal}
 use Rattle.std.specs.List.{list_all}
 use Rattle.std.proofs.lemmas.Bool.{false≢true, and_parts}
 use Rattle.std.proofs.lemmas.List.{length-map, drop-drop, get_or_default}
 use Rattle.std.proofs.lemmas.Option.{slice_get_read}
-use Rattle.std.proofs.lemmas.List.Elements.{filter-append}
-use Rattle.std.proofs.lemmas.List.Elements.{All-head, All-tail}
+use Rattle.std.proofs.lemmas.List.Elements.{All-filter, All-head, All-map, All-tail, filter-append}
 use Rattle.ec_lists.proofs.Filters.{filter-map}
 use Rattle.ec_lists.proofs.Fronts.{drop-slice_get}
 use Rattle.ec_lists.proofs.Orderings.{Less-from_is_lt}
@@ -55,6 +54,13 @@ filter-next_run p xs run i is =
     ap (filter p) (sym (take-append-drop (length run) (drop i xs)))
     ∙ filter-append p (take (length run) (drop i xs)) (drop (length run) (drop i xs))
     ∙ ap₂ (λ ys zs. filter p ys ++ filter p zs) (sym is) (drop-drop (length run) i xs)
+
+-- what holds is kept
+pub held_numbers-kept : {T : Type 0} (rank : T → ℤ) (table : List KeptProp) (intervals : IntervalTable T) (t : ℤ) → All (λ kept. prop_at kept.id table ≡ Some kept) table
+    → All (λ (p : PropId). IsSome (prop_at p.0 table)) (held_numbers rank intervals t (map number_of table))
+held_numbers-kept rank table intervals t numbers =
+    All-filter (λ (p : PropId). is_held_at (plain_intervals rank (members_at p.0 intervals)) t) (λ (p : PropId). IsSome (prop_at p.0 table)) (map number_of table)
+    (All-map (λ (p : PropId). IsSome (prop_at p.0 table)) number_of table (λ k d within. subst (λ (o : Option KeptProp). IsSome o) (sym (numbers k d within)) refl))
 
 -- ---- in term order
 

@@ -4,6 +4,7 @@ mod ClashSearch
 mod ClashTimes
 mod EventLemmas
 mod HoldingLemmas
+mod ListedLemmas
 mod NextOfOrder
 mod SpanLemmas
 mod WritingLemmas

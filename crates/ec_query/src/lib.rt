@@ -6,6 +6,7 @@ mod clash_reply;
 mod counted;
 mod event_reply;
 mod held;
+mod held_list;
 mod interval_reply;
 mod marked;
 mod property_reply;

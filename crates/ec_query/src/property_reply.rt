@@ -1,5 +1,5 @@
 //! The reply that lists the properties that hold at a time.
-ghost use Rattle.std.specs.Prelude.{◌≡◌, ◌≤◌, ◌∷◌, [], List, OnOk, OnErr, All, IsSome, length, map};
+ghost use Rattle.std.specs.Prelude.{◌≡◌, ◌≤◌, ◌∷◌, [], List, OnOk, OnErr, All, IsSome, map};
 ghost use Rattle.ec_terms.specs.declared.theory.Theory.{Theory};
 ghost use Rattle.ec_axioms.specs.Calculus.{PlainEvent};
 ghost use Rattle.ec_axioms.specs.QueryTexts.{at_reply};
@@ -9,42 +9,49 @@ ghost use Rattle.ec_outside.specs.Streams.{Appended, AppendedPart};
 ghost use Rattle.ec_props.specs.Table.{number_of, prop_at};
 ghost use Rattle.ec_query.specs.Held.{AreHeldOf};
 ghost use Rattle.ec_query.specs.Holding.{held_numbers, number_text};
+ghost use Rattle.ec_query.specs.Listed.{Lists};
 ghost use Rattle.ec_query.specs.Members.{members_text};
 
 use crate::counted::write_count;
 use crate::held::Held;
+use crate::held_list::{HeldList, list_held};
 use crate::text::MemberText;
 use ec_moment::Moment;
 use ec_outside::{Failed, Sink, write_all};
+use ec_props::PropTable;
 use ec_rows::SpanRow;
 use ec_terms::PropId;
 
-/// How many of some properties hold at a time.
-fn count_run<T: Moment, I: SpanRow<T>>(held: &Held<'_, T, I>, run: &[PropId], at: T) -> usize
-    ensures count { result ≡ length (held_numbers T.rank held.now.intervals.now (T.rank at) run.now) }
-    ensures within { result ≤ length run.now }
+/// Writes a kept property as a member.
+fn write_member<K: Sink>(
+    props: &PropTable,
+    p: PropId,
+    text: &mut MemberText,
+    out: &mut K,
+) -> Result<(), Failed>
+    requires { IsSome (prop_at p.0 props.now) }
+    ensures written { OnOk result (Appended K.stands out.old out.new (members_text (number_text props.now) (p ∷ []))) }
+    ensures part { OnErr result (AppendedPart K.stands out.old out.new (members_text (number_text props.now) (p ∷ []))) }
+    ensures failed { OnErr result (Rose (K.faults out.old) (K.faults out.new)) }
+    ensures counted { K.faults out.old ≤ K.faults out.new }
 {
-    let mut count = 0;
-    for p in run {
-        if held.intervals.covers(*p, at) {
-            count += 1;
-        }
-    }
-    count
+    text.set_term(&props.ground(p));
+    write_all(out, text.as_bytes())
 }
 
-/// How many kept properties hold at a time.
-fn count_held<T: Moment, I: SpanRow<T>>(held: &Held<'_, T, I>, at: T) -> usize
-    ensures { result ≡ length (held_numbers T.rank held.now.intervals.now (T.rank at) (map number_of held.now.props.now)) }
+/// Writes kept properties, each as a member.
+fn write_members<K: Sink>(props: &PropTable, numbers: &[PropId], out: &mut K) -> Result<(), Failed>
+    requires { All (λ p. IsSome (prop_at p.0 props.now)) numbers.now }
+    ensures written { OnOk result (Appended K.stands out.old out.new (members_text (number_text props.now) numbers.now)) }
+    ensures part { OnErr result (AppendedPart K.stands out.old out.new (members_text (number_text props.now) numbers.now)) }
+    ensures failed { OnErr result (Rose (K.faults out.old) (K.faults out.new)) }
+    ensures counted { K.faults out.old ≤ K.faults out.new }
 {
-    let mut count = 0;
-    let mut i = 0;
-    while i < held.props.len() {
-        let run = held.props.run_in_order(i);
-        count += count_run(held, run, at);
-        i += run.len();
+    let mut text = MemberText::new();
+    for p in numbers {
+        write_member(props, *p, &mut text, out)?;
     }
-    count
+    Ok(())
 }
 
 /// Writes a kept property as a member, if it holds at a time.
@@ -64,8 +71,7 @@ fn write_one<T: Moment, I: SpanRow<T>, K: Sink>(
     if !held.intervals.covers(p, at) {
         return Ok(());
     }
-    text.set_term(&held.props.ground(p));
-    write_all(out, text.as_bytes())
+    write_member(held.props, p, text, out)
 }
 
 /// Writes those of some kept properties that hold at a time, each as a member.
@@ -108,6 +114,27 @@ fn write_held<T: Moment, I: SpanRow<T>, K: Sink>(
     Ok(())
 }
 
+/// Writes the kept properties that hold at a time, in their order, each as a member: from their list, or by going over
+/// all kept properties again where the list had no room for all that hold.
+fn write_listed<T: Moment, I: SpanRow<T>, K: Sink>(
+    held: &Held<'_, T, I>,
+    list: &HeldList,
+    at: T,
+    out: &mut K,
+) -> Result<(), Failed>
+    requires { Lists list.now (held_numbers T.rank held.now.intervals.now (T.rank at) (map number_of held.now.props.now)) }
+    ensures written { OnOk result (Appended K.stands out.old out.new (members_text (number_text held.now.props.now) (held_numbers T.rank held.now.intervals.now (T.rank at) (map number_of held.now.props.now)))) }
+    ensures part { OnErr result (AppendedPart K.stands out.old out.new (members_text (number_text held.now.props.now) (held_numbers T.rank held.now.intervals.now (T.rank at) (map number_of held.now.props.now)))) }
+    ensures failed { OnErr result (Rose (K.faults out.old) (K.faults out.new)) }
+    ensures counted { K.faults out.old ≤ K.faults out.new }
+{
+    let _ = held.props.len();
+    match list.all() {
+        Some(numbers) => write_members(held.props, numbers, out),
+        None => write_held(held, at, out),
+    }
+}
+
 /// Writes the properties that hold at a time: how many they are, and each of them in term order. The theory lists its
 /// initial properties, as each that is checked does. `Failed` comes only where a call of the sink failed, and then some
 /// first part of the reply was written.
@@ -122,6 +149,7 @@ pub fn at<T: Moment, I: SpanRow<T>, K: Sink>(
     ensures counted { K.faults out.old ≤ K.faults out.new }
 {
     let _ = held.props.len();
-    write_count(count_held(held, at) as u64, out)?;
-    write_held(held, at, out)
+    let list = list_held(held, at);
+    write_count(list.count() as u64, out)?;
+    write_listed(held, &list, at, out)
 }

@@ -1,5 +1,5 @@
 -- What the numbers say is what holds, in term order.
-use Rattle.std.proofs.Common.{◌++◌, length, map, refl, sym, ap}
+use Rattle.std.proofs.Common.{◌++◌, length, map, refl, sym, ap, ◌∙◌}
 use Rattle.std.specs.Prelude.{decimal}
 use Rattle.ec_props.specs.Table.{number_of}
 use Rattle.ec_query.specs.Holding.{held_numbers, number_text}
@@ -16,9 +16,9 @@ returns-in_err-write_count-clause-part g c = λ theory events held lists.
     OnErr-renamed g.K.Sink.stands c.args.out.now c.write_count.new.out c.from_residual.result
     (at_reply-held rank theory events table c.args.held.now.intervals.now held c.len.ensures.numbers (rank c.args.at) c.len.ensures.order lists)
     (OnErr-anyway c.from_residual.result
-    (IsLeft-part (decimal c.count_held.result) (members_text (number_text table) numbers)
-    (IsLeft-start {faults = g.K.Sink.faults} c.args.out.now (decimal (length numbers) ++ members_text (number_text table) numbers) (decimal c.count_held.result ++ members_text (number_text table) numbers)
-    (ap (λ n. decimal n ++ members_text (number_text table) numbers) (sym c.count_held.ensures)))
+    (IsLeft-part (decimal c.count.result) (members_text (number_text table) numbers)
+    (IsLeft-start {faults = g.K.Sink.faults} c.args.out.now (decimal (length numbers) ++ members_text (number_text table) numbers) (decimal c.count.result ++ members_text (number_text table) numbers)
+    (ap (λ n. decimal n ++ members_text (number_text table) numbers) (sym (c.count.ensures ∙ c.list_held-list.ensures.count))))
     refl c.in_err-write_count.ensures.part))
 
 pub returns-clause-written : goal.returns-clause-written
@@ -26,25 +26,25 @@ returns-clause-written g c = λ theory events held lists.
     let rank = g.T.Moment.rank in
     let table = c.args.held.now.props.now in
     let numbers = held_numbers rank c.args.held.now.intervals.now (rank c.args.at) (map number_of table) in
-    OnOk-renamed g.K.Sink.stands c.args.out.now c.write_held.new.out c.write_held.result
+    OnOk-renamed g.K.Sink.stands c.args.out.now c.write_listed.new.out c.write_listed.result
     (at_reply-held rank theory events table c.args.held.now.intervals.now held c.len.ensures.numbers (rank c.args.at) c.len.ensures.order lists)
-    (IsLeft-last c.write_held.new.out c.write_held.result (members_text (number_text table) numbers)
-    (IsLeft-next (decimal c.count_held.result) (members_text (number_text table) numbers)
-    (IsLeft-start {faults = g.K.Sink.faults} c.args.out.now (decimal (length numbers) ++ members_text (number_text table) numbers) (decimal c.count_held.result ++ members_text (number_text table) numbers)
-    (ap (λ n. decimal n ++ members_text (number_text table) numbers) (sym c.count_held.ensures)))
+    (IsLeft-last c.write_listed.new.out c.write_listed.result (members_text (number_text table) numbers)
+    (IsLeft-next (decimal c.count.result) (members_text (number_text table) numbers)
+    (IsLeft-start {faults = g.K.Sink.faults} c.args.out.now (decimal (length numbers) ++ members_text (number_text table) numbers) (decimal c.count.result ++ members_text (number_text table) numbers)
+    (ap (λ n. decimal n ++ members_text (number_text table) numbers) (sym (c.count.ensures ∙ c.list_held-list.ensures.count))))
     refl c.in_ok-write_count.ensures.written c.write_count.ensures.counted)
-    refl c.write_held.ensures.written)
+    refl c.write_listed.ensures.written)
 
 pub returns-clause-part : goal.returns-clause-part
 returns-clause-part g c = λ theory events held lists.
     let rank = g.T.Moment.rank in
     let table = c.args.held.now.props.now in
     let numbers = held_numbers rank c.args.held.now.intervals.now (rank c.args.at) (map number_of table) in
-    OnErr-renamed g.K.Sink.stands c.args.out.now c.write_held.new.out c.write_held.result
+    OnErr-renamed g.K.Sink.stands c.args.out.now c.write_listed.new.out c.write_listed.result
     (at_reply-held rank theory events table c.args.held.now.intervals.now held c.len.ensures.numbers (rank c.args.at) c.len.ensures.order lists)
-    (IsLeft-last_part c.write_held.new.out c.write_held.result (members_text (number_text table) numbers)
-    (IsLeft-next (decimal c.count_held.result) (members_text (number_text table) numbers)
-    (IsLeft-start {faults = g.K.Sink.faults} c.args.out.now (decimal (length numbers) ++ members_text (number_text table) numbers) (decimal c.count_held.result ++ members_text (number_text table) numbers)
-    (ap (λ n. decimal n ++ members_text (number_text table) numbers) (sym c.count_held.ensures)))
+    (IsLeft-last_part c.write_listed.new.out c.write_listed.result (members_text (number_text table) numbers)
+    (IsLeft-next (decimal c.count.result) (members_text (number_text table) numbers)
+    (IsLeft-start {faults = g.K.Sink.faults} c.args.out.now (decimal (length numbers) ++ members_text (number_text table) numbers) (decimal c.count.result ++ members_text (number_text table) numbers)
+    (ap (λ n. decimal n ++ members_text (number_text table) numbers) (sym (c.count.ensures ∙ c.list_held-list.ensures.count))))
     refl c.in_ok-write_count.ensures.written c.write_count.ensures.counted)
-    refl c.write_held.ensures.part)
+    refl c.write_listed.ensures.part)
