@@ -180,7 +180,7 @@ impl<X: Copied + Drop> Chain<X> {
         owed
     }
 
-    /// Makes room for `n` further members, by as few spare blocks as serve.
+    /// Makes room for `n` further members, by few spare blocks and never more than `n`.
     pub(crate) fn reserve(&mut self, n: usize) -> Result<(), NoMemory>
         ensures same { self.new.blocks ≡ self.old.blocks }
         ensures ok { OnOk result (n ≤ room_of self.new.blocks self.new.spares) }
