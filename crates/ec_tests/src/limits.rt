@@ -5,10 +5,10 @@ use std::alloc::Global;
 use std::test::Fail;
 
 /// A piece of a text, and how often it stands there.
-type Piece = (usize, &'static [u8]);
+pub type Piece = (usize, &'static [u8]);
 
 /// The text that the pieces make, one behind the other.
-fn text_of(alloc: Global, pieces: &[Piece]) -> Result<Vec<u8>, NoMemory> {
+pub fn text_of(alloc: Global, pieces: &[Piece]) -> Result<Vec<u8>, NoMemory> {
     let mut text = Vec::new(alloc);
     for (count, piece) in pieces {
         for _ in 0..*count {

@@ -69,13 +69,24 @@ fn a_seed_gives_the_same_line_each_time(rt: HostRuntime) -> Result<(), Fail> {
     Ok(())
 }
 
-/// The line of 20,000 lines from the seed 7, which an independent program told.
-const MANY: &[u8] = b"soak lines 20000 ok 10825 yes 580 no 5407 refused 1146 bytes 177596\n";
+/// How many lines from the seed 7, up to as many as may be, and the line, which an independent program told.
+const MANY: [(&str, &[u8]); 2] = [
+    (
+        "20000",
+        b"soak lines 20000 ok 10825 yes 580 no 5407 refused 1146 bytes 177596\n",
+    ),
+    (
+        "100000",
+        b"soak lines 100000 ok 54392 yes 3267 no 26665 refused 5568 bytes 2229629\n",
+    ),
+];
 
 #[test]
 fn many_generated_lines_are_served(rt: HostRuntime) -> Result<(), Fail> {
-    let (status, output) = soaked(rt.alloc(), "20000", "7", &[], &[])?;
-    assert_eq!(rt; status, 0);
-    assert_eq!(rt; output.bytes(), MANY);
+    for (lines, line) in MANY {
+        let (status, output) = soaked(rt.alloc(), lines, "7", &[], &[])?;
+        assert_eq!(rt; status, 0);
+        assert_eq!(rt; output.bytes(), line);
+    }
     Ok(())
 }
