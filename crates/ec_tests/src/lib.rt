@@ -5,17 +5,11 @@
 #[cfg(test)]
 mod dialogue;
 #[cfg(test)]
-mod drawn;
-#[cfg(test)]
 mod engine;
 #[cfg(test)]
 mod faults;
 #[cfg(test)]
 mod full;
-#[cfg(test)]
-mod held;
-#[cfg(test)]
-mod histories;
 #[cfg(test)]
 mod initial;
 #[cfg(test)]
@@ -24,14 +18,6 @@ mod library;
 mod limits;
 #[cfg(test)]
 mod lines;
-#[cfg(test)]
-mod plain;
-#[cfg(test)]
-mod plain_replies;
-#[cfg(test)]
-mod plain_terms;
-#[cfg(test)]
-mod plain_theory;
 #[cfg(test)]
 mod queries;
 #[cfg(test)]
