@@ -17,3 +17,4 @@ pub mod HoldingLaws
 pub mod NotInitial
 pub mod NextBreak
 pub mod BareTheories
+pub mod LineEnds

@@ -21,6 +21,10 @@ use Rattle.ec_axioms.proofs.Instants.{is_ascending, is_ascending-head, is_ascend
 not_marked-initiates : (mark : PlainMark) → IsFalse (is_marked mark) → IsFalse (mark_initiates mark)
 not_marked-initiates mark empty = grind (arith, nat_tests)
 
+-- so one that initiates has a count
+pub is_marked-initiates : (mark : PlainMark) → mark_initiates mark ≡ true → is_marked mark ≡ true
+is_marked-initiates mark initiates = grind (arith, nat_tests)
+
 -- it does not terminate
 not_marked-terminates : (mark : PlainMark) → IsFalse (is_marked mark) → IsFalse (mark_terminates mark)
 not_marked-terminates mark empty = grind (arith, nat_tests)
@@ -144,7 +148,7 @@ start_if true t starts = t ∷ starts
 start_if false t starts = starts
 
 -- the starts of a row with a first mark, by those of the marks behind it
-row_starts-first : (strong initial : Bool) (before : Option PlainMark) (first : PlainMark) (marks : List PlainMark)
+pub row_starts-first : (strong initial : Bool) (before : Option PlainMark) (first : PlainMark) (marks : List PlainMark)
     → row_starts strong initial before (first ∷ marks)
     ≡ cond (mark_starts strong initial before first)
     (first.instant ∷ row_starts strong initial (Some first) marks)

@@ -1,10 +1,12 @@
 -- Lemmas on the members of lists: what a filter, a search and a test over a list say of them, and lists whose members stand in an order.
 use Rattle.std.proofs.Common.{◌≡◌, ◌⊎◌, ℕ, zero, suc, ◌<◌, Bool, true, false, cond, ◌||◌, List, [], ◌∷◌, ◌++◌, length, get_or, nat_lt, map, filter, find, filter_map, Option, Some, None, Contains, IsTrue, IsFalse, IsSomeAnd, refl, ap, ap₂, sym, subst, ◌∙◌, inl, inr, ⊎_elim, arith}
 use Rattle.std.specs.Bool.{⊤}
+use Rattle.std.specs.Prelude.{slice_get}
 use Rattle.std.specs.List.{list_any, list_all, last_or, cons_option}
 use Rattle.std.specs.Option.{option_map_or}
 use Rattle.std.proofs.lemmas.Bool.{cond_both, cond-true, false≢true, or_cases, or_left, or_right, and_parts, and_from, lt-ltb}
 use Rattle.std.proofs.lemmas.Option.{none-some}
+use Rattle.ec_lists.proofs.Filters.{length-filter_wider}
 pub use Rattle.ec_lists.proofs.Filters.{filter_comm, filter-map}
 pub use Rattle.ec_lists.proofs.Tests.{list_any-filter, list_any-filter_map}
 pub use Rattle.ec_lists.proofs.Finds.{find-filter, find_agree, find-map}
@@ -31,6 +33,18 @@ pub Contains-from_member : {X : Type 0} (xs : List X) (x : X) → IsMember xs x 
 Contains-from_member [] x member = absurd member
 Contains-from_member (y ∷ ys) x (inl same) = (zero, omega arith, same)
 Contains-from_member (y ∷ ys) x (inr later) = let found = Contains-from_member ys x later in let within = found.1 in (suc found.0, omega arith, found.2)
+
+-- what a walk reads at a place is a member
+pub IsMember-slice_get : {X : Type 0} (xs : List X) (i : ℕ) (x : X) → slice_get xs i ≡ Some x → IsMember xs x
+IsMember-slice_get [] i x there = cc
+IsMember-slice_get (y ∷ xs) zero x there = let same : y ≡ x = cc in inl same
+IsMember-slice_get (y ∷ xs) (suc i) x there = inr (IsMember-slice_get xs i x there)
+
+-- and a member is read at some place
+pub slice_get-member : {X : Type 0} (xs : List X) (x : X) → IsMember xs x → (i : ℕ) × (slice_get xs i ≡ Some x)
+slice_get-member [] x member = absurd member
+slice_get-member (y ∷ xs) x (inl same) = (zero, ap Some same)
+slice_get-member (y ∷ xs) x (inr later) = let found = slice_get-member xs x later in (suc found.0, found.1)
 
 -- the members of two lists joined are those of each
 pub IsMember-append_cases : {X : Type 0} (xs ys : List X) (x : X) → IsMember (xs ++ ys) x → IsMember xs x ⊎ IsMember ys x
@@ -111,6 +125,27 @@ filter_all p (x ∷ xs) each = let rest = filter_all p xs (λ y later. each y (i
 pub filter_none : {X : Type 0} (p : X → Bool) (xs : List X) → ((x : X) → IsMember xs x → IsFalse (p x)) → filter p xs ≡ []
 filter_none p [] each = refl
 filter_none p (x ∷ xs) each = let rest = filter_none p xs (λ y later. each y (inr later)) in let here = each x (inl refl) in grind arith
+
+-- a narrower filter that drops a member which the wider one keeps, keeps fewer
+pub length-filter_fewer : {X : Type 0} (p q : X → Bool) (xs : List X) (x : X) → ((y : X) → q y ≡ true → p y ≡ true) → IsMember xs x → p x ≡ true → q x ≡ false
+    → length (filter q xs) < length (filter p xs)
+length-filter_fewer p q [] x wider member passes fails = absurd member
+length-filter_fewer {X} p q (y ∷ xs) x wider (inl same) passes fails =
+    let rest = length-filter_wider q p wider xs in
+    let first : p y ≡ true = ap p same ∙ passes in
+    let second : q y ≡ false = ap q same ∙ fails in
+    let P : Bool → Bool → Type 0 = λ a b. length (cond b (y ∷ filter q xs) (filter q xs)) < length (cond a (y ∷ filter p xs) (filter p xs)) in
+    subst (λ a. P a (q y)) (sym first) (subst (λ b. P true b) (sym second) (omega (arith, rest)))
+length-filter_fewer {X} p q (y ∷ xs) x wider (inr later) passes fails =
+    let rest = length-filter_fewer p q xs x wider later passes fails in
+    by_cases (p y) (q y) (wider y) rest
+  where
+    by_cases : (a b : Bool) → (b ≡ true → a ≡ true) → length (filter q xs) < length (filter p xs)
+        → length (cond b (y ∷ filter q xs) (filter q xs)) < length (cond a (y ∷ filter p xs) (filter p xs))
+    by_cases true true up rest = omega (arith, rest)
+    by_cases true false up rest = omega (arith, rest)
+    by_cases false false up rest = rest
+    by_cases false true up rest = absurd (false≢true (up refl))
 
 -- ---- tests over a list
 

@@ -1,5 +1,5 @@
 -- Truth values, and what a choice between two values is.
-use Rattle.std.proofs.Common.{◌≡◌, Bool, true, false, cond, ◌||◌, List, map, Option, Some, None, option_map, is_some, refl, sym, arith}
+use Rattle.std.proofs.Common.{◌≡◌, Bool, true, false, not, cond, ◌||◌, List, map, Option, Some, None, option_map, is_some, refl, sym, ◌⊎◌, inl, inr, arith}
 use Rattle.std.specs.Prelude.{if◌then◌else◌}
 use Rattle.std.proofs.lemmas.Bool.{false≢true}
 
@@ -44,3 +44,15 @@ is_some-cond false x o = refl
 pub cond-None : {A : Type 0} (test : Bool) (a : A) (rest : Option A) → (if test then Some a else rest) ≡ None → (test ≡ false) × (rest ≡ None)
 cond-None true a rest none = cc
 cond-None false a rest none = (refl, none)
+
+-- ---- tests
+
+-- what is not so fails
+pub false-from_not : (a : Bool) → not a ≡ true → a ≡ false
+false-from_not a is = grind arith
+
+-- one of three holds
+pub cases_or_three : (a b c : Bool) → (a || b || c) ≡ true → (a ≡ true) ⊎ ((b ≡ true) ⊎ (c ≡ true))
+cases_or_three true b c is = inl refl
+cases_or_three false true c is = inr (inl refl)
+cases_or_three false false c is = inr (inr is)

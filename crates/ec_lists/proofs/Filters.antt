@@ -1,6 +1,6 @@
 -- What a filter keeps. That filters which agree keep the same, and what stands in a filter of two lists, is in std.
-use Rattle.std.proofs.Common.{◌≡◌, ◌≤◌, Bool, true, false, not, cond, ◌&&◌, List, [], ◌∷◌, length, map, filter, refl, ap, ap₂, arith}
-use Rattle.std.specs.List.{list_any, list_all, All}
+use Rattle.std.proofs.Common.{◌≡◌, ◌≤◌, Bool, true, false, not, cond, ◌&&◌, List, [], ◌∷◌, length, map, filter, filter_map, Option, Some, None, refl, ap, ap₂, arith}
+use Rattle.std.specs.List.{list_any, list_all, All, cons_option}
 use Rattle.std.proofs.lemmas.List.Elements.{All-head, All-tail}
 
 -- two filters may change places
@@ -62,3 +62,17 @@ length-filter_le p (x ∷ xs) = let rest = length-filter_le p xs in grind arith
 pub length-filter_wider : {X : Type 0} (p q : X → Bool) → ((x : X) → p x ≡ true → q x ≡ true) → (xs : List X) → length (filter p xs) ≤ length (filter q xs)
 length-filter_wider p q wider [] = omega arith
 length-filter_wider p q wider (x ∷ xs) = let rest = length-filter_wider p q wider xs in let here = wider x in grind arith
+
+-- a function that gives a value for some members gives no more values than there are members
+pub length-filter_map : {X Y : Type 0} (h : X → Option Y) (xs : List X) → length (filter_map h xs) ≤ length xs
+length-filter_map h [] = omega arith
+length-filter_map {X} {Y} h (x ∷ xs) = by_value (h x) (length-filter_map h xs)
+  where
+    by_value : (o : Option Y) → length (filter_map h xs) ≤ length xs → length (cons_option o (filter_map h xs)) ≤ length (x ∷ xs)
+    by_value None rest = omega (arith, rest)
+    by_value (Some y) rest = omega (arith, rest)
+
+-- all that is kept passes
+pub list_all-kept : {X : Type 0} (p : X → Bool) (xs : List X) → list_all p (filter p xs) ≡ true
+list_all-kept p [] = refl
+list_all-kept p (x ∷ xs) = let rest = list_all-kept p xs in grind arith

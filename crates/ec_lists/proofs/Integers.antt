@@ -89,6 +89,18 @@ int_lt-from_le s t within different = grind (arith, ints)
 pub cases_int_le : (s t : ℤ) → int_le s t ≡ true → (s ≡ t) ⊎ (int_lt s t ≡ true)
 cases_int_le s t within = grind (arith, ints)
 
+-- what comes no later than what comes no later
+pub int_le-trans : (r s t : ℤ) → int_le r s ≡ true → int_le s t ≡ true → int_le r t ≡ true
+int_le-trans r s t = grind (arith, ints)
+
+-- an earlier time is another
+pub int_eq-from_lt : (s t : ℤ) → int_lt s t ≡ true → int_eq s t ≡ false
+int_eq-from_lt s t = grind (arith, ints)
+
+-- and so is a later one
+pub int_eq-from_gt : (s t : ℤ) → int_lt t s ≡ true → int_eq s t ≡ false
+int_eq-from_gt s t = grind (arith, ints)
+
 -- not after what is before is before
 pub int_le_lt-trans : (r s t : ℤ) → int_le r s ≡ true → int_lt s t ≡ true → int_lt r t ≡ true
 int_le_lt-trans r s t within before = grind (arith, ints)

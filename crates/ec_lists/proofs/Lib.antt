@@ -8,3 +8,4 @@ pub mod Filters
 pub mod Finds
 pub mod Fronts
 pub mod Partitions
+pub mod Places

@@ -1,5 +1,5 @@
 -- Tests of natural numbers and of bytes. That a number is itself, and what the tests say, stands in std.
-use Rattle.std.proofs.Common.{◌≡◌, ◌≢◌, ℕ, false, ◌==◌, List, sym, arith}
+use Rattle.std.proofs.Common.{◌≡◌, ◌≢◌, ℕ, false, ◌==◌, List, sym, ◌∙◌, arith}
 use Rattle.std.specs.Prelude.{bytes_eq}
 use Rattle.std.proofs.lemmas.Bool.Decides.{same_from_decides, nat_tests}
 use Rattle.std.proofs.lemmas.Slice.Eq.{bytes_eq-Decides}
@@ -17,3 +17,10 @@ pub bytes_eq_comm : (xs ys : List ℕ) → bytes_eq xs ys ≡ bytes_eq ys xs
 bytes_eq_comm xs ys =
     same_from_decides (bytes_eq xs ys) (bytes_eq ys xs) (bytes_eq-Decides xs ys)
     ((λ same. sym ((bytes_eq-Decides ys xs).0 same)), (λ same. (bytes_eq-Decides ys xs).1 (sym same)))
+
+-- numbers, and texts, that the test tells apart are told apart the other way too
+pub eqb-turned : (m n : ℕ) → (m == n) ≡ false → (n == m) ≡ false
+eqb-turned m n other = eqb_comm n m ∙ other
+
+pub bytes_eq-turned : (xs ys : List ℕ) → bytes_eq xs ys ≡ false → bytes_eq ys xs ≡ false
+bytes_eq-turned xs ys other = bytes_eq_comm ys xs ∙ other

@@ -1,0 +1,15 @@
+-- What stands at a place of a list, as a walk by places reads it.
+use Rattle.std.proofs.Common.{◌≡◌, ℕ, zero, suc, ◌≤◌, List, [], ◌∷◌, length, map, Some, None, ap, arith}
+use Rattle.std.specs.Prelude.{slice_get}
+
+-- nothing stands behind the last member
+pub slice_get-none : {X : Type 0} (xs : List X) (i : ℕ) → slice_get xs i ≡ None → length xs ≤ i
+slice_get-none [] i none = omega arith
+slice_get-none (x ∷ xs) zero none = let no = none in absurd (cc)
+slice_get-none (x ∷ xs) (suc i) none = let rest = slice_get-none xs i none in omega (arith, rest)
+
+-- the values of a function stand where its arguments do
+pub slice_get-map_at : {X Y : Type 0} (f : X → Y) (xs : List X) (i : ℕ) (x : X) → slice_get xs i ≡ Some x → slice_get (map f xs) i ≡ Some (f x)
+slice_get-map_at f [] i x there = cc
+slice_get-map_at f (y ∷ xs) zero x there = let same : y ≡ x = cc in ap (λ z. Some (f z)) same
+slice_get-map_at f (y ∷ xs) (suc i) x there = slice_get-map_at f xs i x there
