@@ -1,4 +1,5 @@
 pub mod ChainLemmas
+pub mod CountLemmas
 pub mod DebtLemmas
 pub mod EditLemmas
 pub mod JoinLemmas

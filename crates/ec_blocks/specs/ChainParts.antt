@@ -1,6 +1,6 @@
--- How a chain of blocks is kept: with the places where its blocks begin, and with their last members.
-use Rattle.std.specs.Prelude.{◌≡◌, ℕ, ◌+◌, ◌≤◌, ◌^◌, ◌&&◌, Bool, nat_le, List, map, length, Some, IsTrue}
-use Rattle.std.specs.List.{list_all}
+-- How a chain of blocks is kept: with the places where its blocks begin, with their last members, and with counts of all members.
+use Rattle.std.specs.Prelude.{◌≡◌, ℕ, ◌+◌, ◌-◌, ◌≤◌, ◌^◌, ◌&&◌, Bool, nat_le, List, map, length, Some, IsTrue}
+use Rattle.std.specs.List.{list_all, sum_by}
 use Rattle.ec_blocks.specs.Chain.{is_block, last_of, starts_from}
 
 -- a block that is kept: not empty, with at most 64 members and room for 64
@@ -25,3 +25,8 @@ pub record HasRooms (blocks spares : ℕ) (blocks_room starts_room lasts_room sp
   pub starts_fit : blocks + spares ≤ starts_room
   pub lasts_fit : blocks + spares ≤ lasts_room
   pub spares_fit : blocks + spares ≤ spares_room
+
+-- the counts are those of the blocks: all members, and what each block has beyond one half
+pub record IsCounted {X : Type 0} (blocks : List (List X)) (total owed : ℕ) : Type 0 where
+  pub total_is : total ≡ sum_by length blocks
+  pub owed_is : owed ≡ sum_by (λ block. length block - 32) blocks

@@ -165,21 +165,6 @@ impl<X: Copied + Drop> Chain<X> {
         Ok(())
     }
 
-    /// How far the blocks are on the way to their next splits.
-    fn debt(&self) -> usize
-        ensures { result ≡ debt self.now.blocks }
-    {
-        let count = self.count();
-        if count == 0 {
-            return HALF;
-        }
-        let mut owed = self.block(count - 1).len();
-        for k in 0..count - 1 {
-            owed += self.block(k).len().saturating_sub(HALF);
-        }
-        owed
-    }
-
     /// Makes room for `n` further members, by few spare blocks and never more than `n`.
     pub(crate) fn reserve(&mut self, n: usize) -> Result<(), NoMemory>
         ensures same { self.new.blocks ≡ self.old.blocks }
@@ -188,9 +173,6 @@ impl<X: Copied + Drop> Chain<X> {
     {
         if n <= self.spares() {
             return Ok(()); // each insertion takes one spare block at the most
-        }
-        if n == self.spares() + 1 {
-            return self.add_spare(); // so one more serves, and the blocks need not be looked at
         }
         let debt = self.debt();
         let _count = self.count();

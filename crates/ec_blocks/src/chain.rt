@@ -4,9 +4,10 @@ ghost use Rattle.std.specs.Fn.{ComputesKey};
 ghost use Rattle.std.specs.List.{insert, remove, list_all};
 ghost use Rattle.std.specs.List.Sorted.{IsPartitionedBy, IsPartitionPoint};
 ghost use Rattle.std.specs.Vec.{vec_capacity};
-ghost use Rattle.ec_blocks.specs.Chain.{joined, block_at, start_of, last_of, is_block};
+ghost use Rattle.ec_blocks.specs.Chain.{joined, block_at, debt, start_of, last_of, is_block};
 ghost use Rattle.ec_blocks.specs.ChainParts.{is_kept, is_spare};
 
+use crate::counts::Counts;
 use crate::starts::Starts;
 use ec_rows::Copied;
 use ec_terms::NoMemory;
@@ -31,19 +32,20 @@ pub(crate) struct Chain<X> {
     /// A copy of the last member of each block, so that a search reads one array.
     lasts: Vec<X>,
     spares: Vec<Vec<X>>,
+    counts: Counts,
 }
 
 impl<X> Model for Chain<X> {
     ghost use Rattle.std.specs.Prelude.{map, vec_len};
     ghost use Rattle.std.specs.Vec.{vec_capacity};
     ghost use Rattle.ec_blocks.specs.Chain.{Chained};
-    ghost use Rattle.ec_blocks.specs.ChainParts.{IsChain, HasRooms};
+    ghost use Rattle.ec_blocks.specs.ChainParts.{IsChain, HasRooms, IsCounted};
 
     ghost Value = { Chained X };
 
     ghost view = { λ chain. record { blocks = map (λ block. block.items) chain.blocks.items; spares = vec_len chain.spares } };
 
-    ghost invariant = { λ chain. IsChain (λ block. block.items) (λ block. vec_capacity block) chain.blocks.items chain.starts.items chain.lasts.items chain.spares.items × HasRooms (vec_len chain.blocks) (vec_len chain.spares) (vec_capacity chain.blocks) chain.starts.room (vec_capacity chain.lasts) (vec_capacity chain.spares) };
+    ghost invariant = { λ chain. IsChain (λ block. block.items) (λ block. vec_capacity block) chain.blocks.items chain.starts.items chain.lasts.items chain.spares.items × HasRooms (vec_len chain.blocks) (vec_len chain.spares) (vec_capacity chain.blocks) chain.starts.room (vec_capacity chain.lasts) (vec_capacity chain.spares) × IsCounted (map (λ block. block.items) chain.blocks.items) chain.counts.total chain.counts.owed };
 }
 
 impl<X: Copied + Drop> Chain<X> {
@@ -56,6 +58,7 @@ impl<X: Copied + Drop> Chain<X> {
             starts: Starts::new(alloc),
             lasts: Vec::new(alloc),
             spares: Vec::new(alloc),
+            counts: Counts::new(),
         }
     }
 
@@ -112,20 +115,29 @@ impl<X: Copied + Drop> Chain<X> {
         ensures blocks { self.new.blocks ≡ slice_set self.old.blocks k (insert (block_at k self.old.blocks) place x) }
         ensures spares { self.new.spares ≡ self.old.spares }
     {
+        let len = self.block(k).len();
         insert_within(&mut self.blocks[k], place, x);
         keep_last(&self.blocks[k], &mut self.lasts, k);
         self.starts.raise_behind(k);
+        self.counts.change(len, len + 1);
     }
 
     /// How many members there are.
     pub(crate) fn total(&self) -> usize
         ensures { result ≡ length (joined self.now.blocks) }
     {
-        let count = self.blocks.len();
+        self.counts.total()
+    }
+
+    /// How far the blocks are on the way to their next splits.
+    pub(crate) fn debt(&self) -> usize
+        ensures { result ≡ debt self.now.blocks }
+    {
+        let count = self.count();
         if count == 0 {
-            return 0;
+            return HALF;
         }
-        self.starts.get(count - 1) + self.blocks[count - 1].len()
+        self.counts.owed() + self.block(count - 1).len().min(HALF)
     }
 
     /// The block that a place is in.
@@ -162,9 +174,11 @@ impl<X: Copied + Drop> Chain<X> {
         ensures blocks { self.new.blocks ≡ slice_set self.old.blocks k (remove (block_at k self.old.blocks) place) }
         ensures spares { self.new.spares ≡ self.old.spares }
     {
+        let len = self.block(k).len();
         let x = remove_within(&mut self.blocks[k], place);
         keep_last(&self.blocks[k], &mut self.lasts, k);
         self.starts.lower_behind(k);
+        self.counts.change(len, len - 1);
         x
     }
 
@@ -182,6 +196,7 @@ impl<X: Copied + Drop> Chain<X> {
         let mut block = self.blocks.remove(k);
         let x = remove_within(&mut block, 0);
         self.spares.push_reserved(block);
+        self.counts.change(1, 0);
         x
     }
 
@@ -199,6 +214,8 @@ impl<X: Copied + Drop> Chain<X> {
         let start = self.starts.get(k) + HALF;
         self.starts.insert(k + 1, start);
         insert_within(&mut self.blocks, k + 1, behind);
+        self.counts.change(CAPACITY, HALF);
+        self.counts.change(0, HALF);
     }
 
     /// Adds a block with copies of these members at the end, by means of a spare one.
@@ -215,6 +232,7 @@ impl<X: Copied + Drop> Chain<X> {
         self.lasts
             .push_reserved(members[members.len() - 1].copied());
         self.blocks.push_reserved(block);
+        self.counts.change(0, members.len());
     }
 
     /// Begins a block with one member at the end, by means of a spare one.
@@ -230,6 +248,7 @@ impl<X: Copied + Drop> Chain<X> {
         self.starts.push(start);
         self.lasts.push_reserved(last);
         self.blocks.push_reserved(block);
+        self.counts.change(0, 1);
     }
 
     /// Makes one more spare block. `Err`: memory ran out.
@@ -260,6 +279,7 @@ impl<X: Copied + Drop> Chain<X> {
         empty(&mut self.blocks, &mut self.spares);
         self.starts.clear();
         self.lasts.clear();
+        self.counts = Counts::new();
     }
 }
 

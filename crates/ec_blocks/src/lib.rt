@@ -10,6 +10,7 @@ mod block_times;
 mod blocks;
 mod by_place;
 mod chain;
+mod counts;
 mod search;
 #[cfg(test)]
 mod span_tests;

@@ -1,8 +1,9 @@
 -- One more spare block.
-use Rattle.std.proofs.Common.{ap, ◌∙◌, ◌++◌, ◌∷◌, [], refl, arith}
+use Rattle.std.proofs.Common.{ap, ◌∙◌, ◌++◌, ◌∷◌, [], refl, arith, map, sym}
 use Rattle.std.specs.Vec.{vec_capacity}
 use Rattle.ec_blocks.proofs.ChainLemmas.{starts-count, lasts-count}
 use Rattle.ec_blocks.proofs.EditLemmas.{spare-more, is_spare-from}
+use Rattle.ec_blocks.proofs.CountLemmas.{counted-same}
 use Rattle.ec_blocks.proofs.chain.Chain.add_spare.Goals as goal
 
 pub reserve-requires-2 : goal.reserve-requires-2
@@ -20,4 +21,5 @@ invariant_of-self-2 g c = (
     lasts_fit = omega (arith, c.in_ok-reserve-3.ensures.ok, lasts-count (λ b. b.items) (λ b. vec_capacity b) _ _ _ _ c.self.invariant.0);
     spares_fit = omega (arith, c.in_ok-reserve-4.ensures.ok);
   },
+  counted-same _ _ _ _ (ap (map (λ b. b.items)) (sym c.reserve.ensures.items)) c.self.invariant.2,
 )

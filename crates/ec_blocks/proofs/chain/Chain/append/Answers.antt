@@ -2,8 +2,9 @@
 use Rattle.std.proofs.Common.{◌-◌, ◌++◌, length, Some, refl, sym, ap, ◌∙◌, arith}
 use Rattle.std.specs.Vec.{vec_capacity}
 use Rattle.std.proofs.lemmas.Option.{slice_get_read}
-use Rattle.ec_blocks.proofs.ChainLemmas.{starts-count, lasts-count, is_block-some}
+use Rattle.ec_blocks.proofs.ChainLemmas.{starts-count, lasts-count, is_block-some, is_block-most}
 use Rattle.ec_blocks.proofs.EditLemmas.{appended}
+use Rattle.ec_blocks.proofs.CountLemmas.{counted-small, owed-small, counted-push}
 use Rattle.ec_blocks.proofs.chain.Chain.append.Goals as goal
 
 pub push-requires : goal.push-requires
@@ -12,11 +13,18 @@ push-requires g c = let rooms = c.self.invariant.1 in omega (arith, ap (λ v. v.
 pub push_reserved-requires : goal.push_reserved-requires
 push_reserved-requires g c = let rooms = c.self.invariant.1 in omega (arith, ap (λ v. v.spares) c.self.view_is, lasts-count (λ b. b.items) (λ b. vec_capacity b) _ _ _ _ c.self.invariant.0)
 
+pub change-requires-clause-fits : goal.change-requires-clause-fits
+change-requires-clause-fits g c = omega (arith, is_block-most c.args.members.now c.requires.block, counted-small (λ b. b.items) (λ b. vec_capacity b) _ _ _ c.self.invariant.0.kept (let few = c.self.invariant.1.few in omega arith) c.self.invariant.2)
+
+pub change-requires-clause-owed_fits : goal.change-requires-clause-owed_fits
+change-requires-clause-owed_fits g c = omega (arith, is_block-most c.args.members.now c.requires.block, owed-small (λ b. b.items) (λ b. vec_capacity b) _ _ _ c.self.invariant.0.kept (let few = c.self.invariant.1.few in omega arith) c.self.invariant.2)
+
 pub invariant_of-self : goal.invariant_of-self
 invariant_of-self g c =
     let rooms = c.self.invariant.1 in
     let some = is_block-some c.args.members.now c.requires.block in
-    let spares = ap (λ v. v.spares) c.self.view_is in (
+    let spares = ap (λ v. v.spares) c.self.view_is in
+    let filled = c.fill.ensures.items ∙ ap (λ xs. xs ++ c.args.members.now) c.take_spare-block.ensures.empty in (
       appended (λ b. b.items) (λ b. vec_capacity b) c.self.inside.blocks.items c.self.inside.starts.items c.self.inside.lasts.items c.self.inside.spares.items c.self.invariant.0 c.args.self.now.blocks (ap (λ v. v.blocks) c.self.view_is) _ _ _ _ c.fill.new.block c.total-start.result c.copied.result c.args.members.now
           c.push_reserved-2.ensures.items c.push.ensures.items c.push_reserved.ensures.items
           (c.fill.ensures.items ∙ ap (λ xs. xs ++ c.args.members.now) c.take_spare-block.ensures.empty) c.requires.block (omega arith) c.total-start.ensures
@@ -30,4 +38,6 @@ invariant_of-self g c =
         lasts_fit = omega arith;
         spares_fit = omega arith;
       },
+      counted-push (λ b. b.items) c.self.inside.blocks.items _ c.fill.new.block c.self.inside.counts.total c.self.inside.counts.owed _ _ c.self.invariant.2 c.push_reserved-2.ensures.items
+          (omega (arith, c.change.ensures.total, ap length filled)) (omega (arith, c.change.ensures.owed, ap length filled)),
     )

@@ -1,10 +1,12 @@
 -- A block that gets one more.
-use Rattle.std.proofs.Common.{◌+◌, length, ap, ◌∙◌, arith}
+use Rattle.std.proofs.Common.{◌+◌, length, ap, ◌∙◌, arith, sym}
 use Rattle.std.specs.List.{insert}
 use Rattle.std.specs.Vec.{vec_capacity}
 use Rattle.std.proofs.lemmas.List.Edits.{length-insert}
 use Rattle.ec_blocks.proofs.ChainLemmas.{starts-count, starts-fit, place-within}
 use Rattle.ec_blocks.proofs.EditLemmas.{old-list, edited, edited-more}
+use Rattle.ec_blocks.proofs.CountLemmas.{counted-same, counted-small, owed-small, counted-part, owed-part, counted-set}
+use Rattle.ec_blocks.specs.Chain.{block_at}
 use Rattle.ec_blocks.proofs.chain.Chain.insert.Goals as goal
 
 pub raise_behind-requires-clause-within : goal.raise_behind-requires-clause-within
@@ -13,6 +15,21 @@ raise_behind-requires-clause-within g c =
 
 pub raise_behind-requires-clause-fits : goal.raise_behind-requires-clause-fits
 raise_behind-requires-clause-fits g c = let few = c.self.invariant.1.few in starts-fit (λ b. b.items) (λ b. vec_capacity b) _ _ _ _ c.self.invariant.0 (c.args.k + 1) (omega arith)
+
+pub returns-clause-blocks : goal.returns-clause-blocks
+returns-clause-blocks g c = edited (λ b. b.items) (λ b. vec_capacity b) c.self.inside.blocks.items c.self.inside.starts.items c.self.inside.lasts.items c.self.inside.spares.items c.self.invariant.0 c.args.self.now.blocks (ap (λ v. v.blocks) c.self.view_is) c.args.k c.requires.block c.index_mut.result.now c.index_mut.ensures.value (λ xs. insert xs c.args.place c.args.x) c.insert_within.new.block c.insert_within.ensures.items
+
+pub change-requires-clause-counted : goal.change-requires-clause-counted
+change-requires-clause-counted g c = omega (arith, ap length c.block-len.ensures.block, counted-part c.args.self.now.blocks c.args.k c.self.inside.counts.total c.self.inside.counts.owed (counted-same _ _ _ _ (ap (λ v. v.blocks) c.self.view_is) c.self.invariant.2) c.requires.block)
+
+pub change-requires-clause-owing : goal.change-requires-clause-owing
+change-requires-clause-owing g c = omega (arith, ap length c.block-len.ensures.block, owed-part c.args.self.now.blocks c.args.k c.self.inside.counts.total c.self.inside.counts.owed (counted-same _ _ _ _ (ap (λ v. v.blocks) c.self.view_is) c.self.invariant.2) c.requires.block)
+
+pub change-requires-clause-fits : goal.change-requires-clause-fits
+change-requires-clause-fits g c = omega (arith, ap length c.block-len.ensures.block, c.requires.room, counted-small (λ b. b.items) (λ b. vec_capacity b) _ _ _ c.self.invariant.0.kept (let few = c.self.invariant.1.few in omega arith) c.self.invariant.2)
+
+pub change-requires-clause-owed_fits : goal.change-requires-clause-owed_fits
+change-requires-clause-owed_fits g c = omega (arith, ap length c.block-len.ensures.block, c.requires.room, owed-small (λ b. b.items) (λ b. vec_capacity b) _ _ _ c.self.invariant.0.kept (let few = c.self.invariant.1.few in omega arith) c.self.invariant.2)
 
 pub invariant_of-self : goal.invariant_of-self
 invariant_of-self g c =
@@ -27,7 +44,7 @@ invariant_of-self g c =
         lasts_fit = omega arith;
         spares_fit = c.self.invariant.1.spares_fit;
       },
+      counted-set c.args.self.now.blocks _ c.args.k (insert (block_at c.args.k c.args.self.now.blocks) c.args.place c.args.x) c.self.inside.counts.total c.self.inside.counts.owed _ _ (counted-same _ _ _ _ (ap (λ v. v.blocks) c.self.view_is) c.self.invariant.2) c.requires.block (returns-clause-blocks g c)
+          (omega (arith, c.change.ensures.total, ap length c.block-len.ensures.block, length-insert (block_at c.args.k c.args.self.now.blocks) c.args.place c.args.x c.requires.place))
+          (omega (arith, c.change.ensures.owed, ap length c.block-len.ensures.block, length-insert (block_at c.args.k c.args.self.now.blocks) c.args.place c.args.x c.requires.place)),
     )
-
-pub returns-clause-blocks : goal.returns-clause-blocks
-returns-clause-blocks g c = edited (λ b. b.items) (λ b. vec_capacity b) c.self.inside.blocks.items c.self.inside.starts.items c.self.inside.lasts.items c.self.inside.spares.items c.self.invariant.0 c.args.self.now.blocks (ap (λ v. v.blocks) c.self.view_is) c.args.k c.requires.block c.index_mut.result.now c.index_mut.ensures.value (λ xs. insert xs c.args.place c.args.x) c.insert_within.new.block c.insert_within.ensures.items

@@ -7,6 +7,7 @@ use Rattle.std.proofs.lemmas.List.Edits.{length-remove}
 use Rattle.ec_blocks.proofs.ChainLemmas.{starts-count, starts-some, place-within, map-remove}
 use Rattle.ec_blocks.proofs.EditLemmas.{old-list, old-room, gone, is_spare-from}
 use Rattle.ec_blocks.proofs.NumberLemmas.{behind-length}
+use Rattle.ec_blocks.proofs.CountLemmas.{counted-same, counted-small, owed-small, counted-part, counted-remove}
 use Rattle.ec_blocks.proofs.chain.Chain.remove_block.Goals as goal
 
 pub lower_behind-requires-clause-within : goal.lower_behind-requires-clause-within
@@ -20,6 +21,19 @@ remove-requires g c =
     let upto : c.args.k + 1 ≤ length c.self.inside.starts.items =
     omega (arith, starts-count (λ b. b.items) (λ b. vec_capacity b) _ _ _ _ c.self.invariant.0, place-within (λ b. b.items) (λ b. vec_capacity b) c.self.inside.blocks.items _ c.args.k (ap (λ v. v.blocks) c.self.view_is) c.requires.block) in
     omega (arith, ap length c.lower_behind.ensures.items, behind-length (λ start. start - 1) c.self.inside.starts.items (c.args.k + 1) upto)
+
+pub returns-clause-blocks : goal.returns-clause-blocks
+returns-clause-blocks g c =
+    ap (map (λ b. b.items)) c.remove-block.ensures.items ∙ map-remove (λ b. b.items) c.self.inside.blocks.items c.args.k ∙ ap (λ us. remove us c.args.k) (ap (λ v. v.blocks) c.self.view_is)
+
+pub change-requires-clause-counted : goal.change-requires-clause-counted
+change-requires-clause-counted g c = omega (arith, c.requires.alone, counted-part c.args.self.now.blocks c.args.k c.self.inside.counts.total c.self.inside.counts.owed (counted-same _ _ _ _ (ap (λ v. v.blocks) c.self.view_is) c.self.invariant.2) c.requires.block)
+
+pub change-requires-clause-fits : goal.change-requires-clause-fits
+change-requires-clause-fits g c = omega (arith, counted-small (λ b. b.items) (λ b. vec_capacity b) _ _ _ c.self.invariant.0.kept (let few = c.self.invariant.1.few in omega arith) c.self.invariant.2)
+
+pub change-requires-clause-owed_fits : goal.change-requires-clause-owed_fits
+change-requires-clause-owed_fits g c = omega (arith, owed-small (λ b. b.items) (λ b. vec_capacity b) _ _ _ c.self.invariant.0.kept (let few = c.self.invariant.1.few in omega arith) c.self.invariant.2)
 
 pub invariant_of-self : goal.invariant_of-self
 invariant_of-self g c =
@@ -38,8 +52,6 @@ invariant_of-self g c =
         lasts_fit = omega arith;
         spares_fit = omega arith;
       },
+      counted-remove c.args.self.now.blocks _ c.args.k c.self.inside.counts.total c.self.inside.counts.owed _ _ (counted-same _ _ _ _ (ap (λ v. v.blocks) c.self.view_is) c.self.invariant.2) c.requires.block (returns-clause-blocks g c)
+          (omega (arith, c.change.ensures.total, c.requires.alone)) (omega (arith, c.change.ensures.owed, c.requires.alone)),
     )
-
-pub returns-clause-blocks : goal.returns-clause-blocks
-returns-clause-blocks g c =
-    ap (map (λ b. b.items)) c.remove-block.ensures.items ∙ map-remove (λ b. b.items) c.self.inside.blocks.items c.args.k ∙ ap (λ us. remove us c.args.k) (ap (λ v. v.blocks) c.self.view_is)

@@ -1,12 +1,13 @@
 -- A full block becomes two.
-use Rattle.std.proofs.Common.{◌≡◌, ◌+◌, true, length, take, drop, map, sym, ap, ap₂, ◌∙◌, arith}
+use Rattle.std.proofs.Common.{◌≡◌, ◌+◌, true, length, take, drop, map, sym, ap, ap₂, ◌∙◌, arith, refl, set, length-drop, ◌-◌}
 use Rattle.std.specs.List.{insert, list_all}
 use Rattle.std.specs.Vec.{vec_capacity}
-use Rattle.std.proofs.lemmas.List.{length-map}
-use Rattle.ec_blocks.specs.Chain.{is_block}
+use Rattle.std.proofs.lemmas.List.{length-map, length-take-le}
 use Rattle.ec_blocks.proofs.StartLemmas.{start_of-le, start_of-all}
 use Rattle.ec_blocks.proofs.ChainLemmas.{starts-count, place-within, start-is, kept-blocks, joined-most, map-insert}
 use Rattle.ec_blocks.proofs.EditLemmas.{old-list, edited, halved}
+use Rattle.ec_blocks.proofs.CountLemmas.{counted-same, counted-small, owed-small, counted-part, owed-part, counted-set, counted-insert}
+use Rattle.ec_blocks.specs.Chain.{block_at, is_block}
 use Rattle.ec_blocks.proofs.chain.Chain.split.Goals as goal
 
 pub get-start-requires : goal.get-start-requires
@@ -33,6 +34,30 @@ insert-requires-clause-within g c = omega (arith, starts-count (λ b. b.items) (
 pub insert-requires-clause-room : goal.insert-requires-clause-room
 insert-requires-clause-room g c = let rooms = c.self.invariant.1 in omega (arith, ap (λ v. v.spares) c.self.view_is, starts-count (λ b. b.items) (λ b. vec_capacity b) _ _ _ _ c.self.invariant.0)
 
+pub returns-clause-blocks : goal.returns-clause-blocks
+returns-clause-blocks g c =
+    ap (map (λ b. b.items)) c.insert_within.ensures.items ∙ map-insert (λ b. b.items) _ (c.args.k + 1) c.move_half.new.behind
+    ∙ ap₂ (λ us v. insert us (c.args.k + 1) v) (edited (λ b. b.items) (λ b. vec_capacity b) c.self.inside.blocks.items c.self.inside.starts.items c.self.inside.lasts.items c.self.inside.spares.items c.self.invariant.0 c.args.self.now.blocks (ap (λ v. v.blocks) c.self.view_is) c.args.k c.requires.block c.index_mut.result.now c.index_mut.ensures.value (take 32) c.move_half.new.block c.move_half.ensures.front)
+    (c.move_half.ensures.back ∙ ap (drop 32) (old-list (λ b. b.items) (λ b. vec_capacity b) c.self.inside.blocks.items c.self.inside.starts.items c.self.inside.lasts.items c.self.inside.spares.items c.self.invariant.0 c.args.self.now.blocks (ap (λ v. v.blocks) c.self.view_is) c.args.k c.requires.block c.index_mut.result.now c.index_mut.ensures.value))
+
+pub change-requires-clause-counted : goal.change-requires-clause-counted
+change-requires-clause-counted g c = omega (arith, c.requires.full, counted-part c.args.self.now.blocks c.args.k c.self.inside.counts.total c.self.inside.counts.owed (counted-same _ _ _ _ (ap (λ v. v.blocks) c.self.view_is) c.self.invariant.2) c.requires.block)
+
+pub change-requires-clause-owing : goal.change-requires-clause-owing
+change-requires-clause-owing g c = omega (arith, c.requires.full, owed-part c.args.self.now.blocks c.args.k c.self.inside.counts.total c.self.inside.counts.owed (counted-same _ _ _ _ (ap (λ v. v.blocks) c.self.view_is) c.self.invariant.2) c.requires.block)
+
+pub change-requires-clause-fits : goal.change-requires-clause-fits
+change-requires-clause-fits g c = omega (arith, counted-small (λ b. b.items) (λ b. vec_capacity b) _ _ _ c.self.invariant.0.kept (let few = c.self.invariant.1.few in omega arith) c.self.invariant.2)
+
+pub change-requires-clause-owed_fits : goal.change-requires-clause-owed_fits
+change-requires-clause-owed_fits g c = omega (arith, owed-small (λ b. b.items) (λ b. vec_capacity b) _ _ _ c.self.invariant.0.kept (let few = c.self.invariant.1.few in omega arith) c.self.invariant.2)
+
+pub change-requires-2-clause-fits : goal.change-requires-2-clause-fits
+change-requires-2-clause-fits g c = omega (arith, c.change.ensures.total, counted-small (λ b. b.items) (λ b. vec_capacity b) _ _ _ c.self.invariant.0.kept (let few = c.self.invariant.1.few in omega arith) c.self.invariant.2)
+
+pub change-requires-2-clause-owed_fits : goal.change-requires-2-clause-owed_fits
+change-requires-2-clause-owed_fits g c = omega (arith, c.change.ensures.owed, owed-small (λ b. b.items) (λ b. vec_capacity b) _ _ _ c.self.invariant.0.kept (let few = c.self.invariant.1.few in omega arith) c.self.invariant.2)
+
 pub invariant_of-self : goal.invariant_of-self
 invariant_of-self g c =
     let rooms = c.self.invariant.1 in
@@ -47,10 +72,9 @@ invariant_of-self g c =
         lasts_fit = omega arith;
         spares_fit = omega arith;
       },
+      counted-insert (set c.args.self.now.blocks c.args.k (take 32 (block_at c.args.k c.args.self.now.blocks))) _ (c.args.k + 1) (drop 32 (block_at c.args.k c.args.self.now.blocks)) c.change.new.self.total c.change.new.self.owed _ _
+          (counted-set c.args.self.now.blocks _ c.args.k (take 32 (block_at c.args.k c.args.self.now.blocks)) c.self.inside.counts.total c.self.inside.counts.owed _ _ (counted-same _ _ _ _ (ap (λ v. v.blocks) c.self.view_is) c.self.invariant.2) c.requires.block refl
+          (omega (arith, c.change.ensures.total, c.requires.full, length-take-le 32 (block_at c.args.k c.args.self.now.blocks) (omega arith)))
+          (omega (arith, c.change.ensures.owed, c.requires.full, length-take-le 32 (block_at c.args.k c.args.self.now.blocks) (omega arith))))
+          (returns-clause-blocks g c) (omega (arith, c.change-2.ensures.total, c.requires.full, length-drop 32 (block_at c.args.k c.args.self.now.blocks))) (omega (arith, c.change-2.ensures.owed, c.requires.full, length-drop 32 (block_at c.args.k c.args.self.now.blocks))),
     )
-
-pub returns-clause-blocks : goal.returns-clause-blocks
-returns-clause-blocks g c =
-    ap (map (λ b. b.items)) c.insert_within.ensures.items ∙ map-insert (λ b. b.items) _ (c.args.k + 1) c.move_half.new.behind
-    ∙ ap₂ (λ us v. insert us (c.args.k + 1) v) (edited (λ b. b.items) (λ b. vec_capacity b) c.self.inside.blocks.items c.self.inside.starts.items c.self.inside.lasts.items c.self.inside.spares.items c.self.invariant.0 c.args.self.now.blocks (ap (λ v. v.blocks) c.self.view_is) c.args.k c.requires.block c.index_mut.result.now c.index_mut.ensures.value (take 32) c.move_half.new.block c.move_half.ensures.front)
-    (c.move_half.ensures.back ∙ ap (drop 32) (old-list (λ b. b.items) (λ b. vec_capacity b) c.self.inside.blocks.items c.self.inside.starts.items c.self.inside.lasts.items c.self.inside.spares.items c.self.invariant.0 c.args.self.now.blocks (ap (λ v. v.blocks) c.self.view_is) c.args.k c.requires.block c.index_mut.result.now c.index_mut.ensures.value))
