@@ -94,7 +94,7 @@ list_all-with_event p e (f ∷ events) here all =
     by_place false parts rest = and_from (p f) (list_all p (with_event e events)) parts.0 rest
 
 -- an identity that is absent from a list is not that of its first event, and is absent from the rest
-absent_parts : (id : List ℕ) (f : PlainEvent) (events : List PlainEvent) → IsFalse (has_id id (f ∷ events)) → IsFalse (bytes_eq f.id id) × IsFalse (has_id id events)
+pub absent_parts : (id : List ℕ) (f : PlainEvent) (events : List PlainEvent) → IsFalse (has_id id (f ∷ events)) → IsFalse (bytes_eq f.id id) × IsFalse (has_id id events)
 unfolding has_id
 absent_parts id f events none = or_parts (bytes_eq f.id id) (has_id id events) none
 

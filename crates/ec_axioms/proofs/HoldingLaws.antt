@@ -131,7 +131,7 @@ is_held_at-begins line t =
     ∙ ap (λ f. list_any f (begins_of line)) (fun_ext (λ begin. covers-interval_from line begin (next_break line begin) t))
 
 -- what is not before an instant behind a begin is behind it too
-is_after-from : (begin : Begin) (t x : ℤ) → IsTrue (is_after begin t) → IsTrue (int_le t x) → IsTrue (is_after begin x)
+pub is_after-from : (begin : Begin) (t x : ℤ) → IsTrue (is_after begin t) → IsTrue (int_le t x) → IsTrue (is_after begin x)
 is_after-from before_all t x after from = refl
 is_after-from (begin_at s) t x after from = grind (arith, ints)
 

@@ -85,7 +85,7 @@ IsMember-instants_of (e ∷ events) u member =
     (IsMember-with_instant e.rank (instants_of events) u member)
 
 -- an event that comes before another is not later
-int_le-comes_before : (e f : PlainEvent) → IsTrue (comes_before e f) → IsTrue (int_le e.rank f.rank)
+pub int_le-comes_before : (e f : PlainEvent) → IsTrue (comes_before e f) → IsTrue (int_le e.rank f.rank)
 unfolding comes_before
 int_le-comes_before e f before = grind (arith, ints)
 

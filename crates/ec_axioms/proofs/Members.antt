@@ -52,7 +52,12 @@ IsMember-append_cases [] ys x member = inr member
 IsMember-append_cases (z ∷ xs) ys x (inl same) = inl (inl same)
 IsMember-append_cases (z ∷ xs) ys x (inr later) = ⊎_elim (λ left. inl (inr left)) (λ right. inr right) (IsMember-append_cases xs ys x later)
 
--- a member of the second of two lists is a member of them joined
+-- a member of either of two lists is a member of them joined
+pub IsMember-append_left : {X : Type 0} (xs ys : List X) (x : X) → IsMember xs x → IsMember (xs ++ ys) x
+IsMember-append_left [] ys x member = absurd member
+IsMember-append_left (z ∷ xs) ys x (inl same) = inl same
+IsMember-append_left (z ∷ xs) ys x (inr later) = inr (IsMember-append_left xs ys x later)
+
 pub IsMember-append_right : {X : Type 0} (xs ys : List X) (x : X) → IsMember ys x → IsMember (xs ++ ys) x
 IsMember-append_right [] ys x member = member
 IsMember-append_right (y ∷ xs) ys x member = inr (IsMember-append_right xs ys x member)

@@ -63,7 +63,7 @@ entries_from-apart number (rule ∷ rules) event =
 -- ---- lists joined
 
 -- members in an order, of two lists joined
-IsPairwise-append : {X : Type 0} (R : X → X → Type 0) (xs ys : List X) → IsPairwise R xs → IsPairwise R ys
+pub IsPairwise-append : {X : Type 0} (R : X → X → Type 0) (xs ys : List X) → IsPairwise R xs → IsPairwise R ys
     → ((x y : X) → IsMember xs x → IsMember ys y → R x y) → IsPairwise R (xs ++ ys)
 IsPairwise-append R [] ys left right across = right
 IsPairwise-append R (x ∷ xs) ys left right across = (

@@ -1,12 +1,6 @@
 -- Members of lists that are joined, or that a function gives for each member of another.
-use Rattle.std.proofs.Common.{◌≡◌, List, [], ◌∷◌, ◌++◌, flat_map, refl, subst, sym, inl, inr, ⊎_elim}
-use Rattle.ec_axioms.proofs.Members.{IsMember, IsMember-append_cases, IsMember-append_right}
-
--- a member of either of two lists is one of both joined
-pub IsMember-append_left : {X : Type 0} (xs ys : List X) (x : X) → IsMember xs x → IsMember (xs ++ ys) x
-IsMember-append_left [] ys x member = absurd member
-IsMember-append_left (z ∷ xs) ys x (inl same) = inl same
-IsMember-append_left (z ∷ xs) ys x (inr later) = inr (IsMember-append_left xs ys x later)
+use Rattle.std.proofs.Common.{◌≡◌, List, [], ◌∷◌, flat_map, refl, subst, sym, inl, inr, ⊎_elim}
+use Rattle.ec_axioms.proofs.Members.{IsMember, IsMember-append_cases, IsMember-append_right, IsMember-append_left}
 
 -- a member of what a function gives for each comes from one of them
 pub IsMember-from_flat_map : {X Y : Type 0} (f : X → List Y) (xs : List X) (y : Y) → IsMember (flat_map f xs) y

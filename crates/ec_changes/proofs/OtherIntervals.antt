@@ -15,10 +15,9 @@ use Rattle.ec_axioms.specs.Timeline.{Begin, before_all, begin_at, Interval}
 use Rattle.ec_axioms.specs.Calculus.{PlainEvent, intervals_of}
 use Rattle.ec_axioms.specs.Changes.{begin_eq, interval_eq, has_other_intervals, change_counts}
 use Rattle.ec_axioms.specs.Links.{initial_properties, event_mentions, mentions_of, is_live, live_properties}
-use Rattle.ec_axioms.proofs.Members.{IsMember, IsMember-filter, IsMember-from_filter, IsMember-append_right}
+use Rattle.ec_axioms.proofs.Members.{IsMember, IsMember-filter, IsMember-from_filter, IsMember-append_right, IsMember-append_left}
 use Rattle.ec_changes.specs.LiveLaws.{ListsInitials}
 use Rattle.ec_changes.specs.CountLaws.{PropertiesInAnyList, OtherIntervalsDiffer}
-use Rattle.ec_changes.proofs.JoinedMembers.{IsMember-append_left}
 use Rattle.ec_changes.proofs.LiveMarks.{not_live-unknown}
 use Rattle.ec_changes.proofs.TermOrder.{IsMember-in_term_order, IsMember-from_test, test-IsMember}
 use Rattle.std.proofs.lemmas.Bool.Decides.{Decides-int_eq}

@@ -16,10 +16,9 @@ use Rattle.ec_axioms.specs.Marks.{PlainMark, mark_at, marks_of, is_marked}
 use Rattle.ec_axioms.specs.Changes.{is_history, has_event, kept_events, events_only_in}
 use Rattle.ec_axioms.proofs.Effects.{is_initiated-same, has_break-same}
 use Rattle.ec_axioms.proofs.Rounds.{is_current-past, effects_at-past, is_current-equation}
-use Rattle.ec_axioms.proofs.Members.{IsMember, IsMember-filter, IsMember-from_filter, IsMember-from_map, IsPairwise, IsPairwise-filter, IsPairwise-map, IsPairwise-weaker, filter_all, list_all-member, IsMember-map, IsMember-append_right}
+use Rattle.ec_axioms.proofs.Members.{IsMember, IsMember-filter, IsMember-from_filter, IsMember-from_map, IsPairwise, IsPairwise-filter, IsPairwise-map, IsPairwise-weaker, filter_all, list_all-member, IsMember-map, IsMember-append_right, IsMember-append_left}
 use Rattle.ec_axioms.proofs.Instants.{IsPairwise-from_ascending, is_ascending-instants_of}
 use Rattle.ec_axioms.proofs.HistoryMarks.{instant-mark_at, AreAllMarked-mark_at}
-use Rattle.ec_changes.proofs.JoinedMembers.{IsMember-append_left}
 use Rattle.ec_changes.specs.QuietLaws.{single_events, EventsStay, PastStays, DifferFrom, marks_before}
 use Rattle.ec_changes.proofs.Activity.{is_active-each}
 use Rattle.ec_changes.proofs.KeptEvents.{kept_events-both, same_from_members}

@@ -6,21 +6,9 @@ use Rattle.std.proofs.lemmas.List.{take_more, map-append, get_or-take, length-ta
 use Rattle.std.specs.Io.BufRead.{take_through}
 use Rattle.memchr.specs.Find.{IsFirstByte, is_byte}
 use Rattle.ec_axioms.specs.Lines.{CutText, line_feed, carriage_return, before_parts, cut_of, without_return, whole_lines}
+use Rattle.ec_axioms.proofs.LineEnds.{without_return-nil, without_return-one, without_return-cons}
 
 -- ---- a carriage return at the end
-
--- only the end of a part can lose a byte
-without_return-cons : (b c : ℕ) (bytes : List ℕ) → without_return (b ∷ c ∷ bytes) ≡ b ∷ without_return (c ∷ bytes)
-unfolding without_return
-without_return-cons b c bytes = refl
-
-without_return-one : (b : ℕ) → without_return (b ∷ []) ≡ cond (eqb b carriage_return) [] (b ∷ [])
-unfolding without_return
-without_return-one b = refl
-
-without_return-nil : without_return [] ≡ []
-unfolding without_return
-without_return-nil = refl
 
 -- a carriage return is dropped from a part that ends with one
 pub without_return-take : (bytes : List ℕ) → 0 < length bytes → get_or bytes (length bytes - 1) 0 ≡ carriage_return

@@ -1,5 +1,5 @@
 -- How the words of a line are taken one after another.
-use Rattle.std.proofs.Common.{◌≡◌, ℕ, ◌-◌, eqb, arith, Bool, true, false, not, List, [], ◌∷◌, length, take, drop, filter, take_while, refl, sym, ap, ◌∙◌, ⊎_elim}
+use Rattle.std.proofs.Common.{◌≡◌, ℕ, ◌-◌, eqb, Bool, true, false, not, List, [], ◌∷◌, length, take, drop, filter, take_while, refl, sym, ap, ◌∙◌, ⊎_elim}
 use Rattle.std.proofs.lemmas.Bool.{cond-true, cond-false, cases_Bool, false≢true, eqb-true, not-false}
 use Rattle.std.proofs.lemmas.List.{nil_from_length, take_rest}
 use Rattle.ec_lists.proofs.Fronts.{take_while-is_take}

@@ -36,7 +36,7 @@ use Rattle.ec_replies.proofs.Outcomes.{Outcome, is_kept, is_updated, is_held, is
 -- ---- lists of events
 
 -- the list with an event has one event more
-length-with_event : (e : PlainEvent) (events : List PlainEvent) → length (with_event e events) ≡ length events + 1
+pub length-with_event : (e : PlainEvent) (events : List PlainEvent) → length (with_event e events) ≡ length events + 1
 unfolding with_event
 length-with_event e [] = refl
 length-with_event e (f ∷ events) = by_place (comes_before e f) (length-with_event e events)
@@ -52,7 +52,7 @@ unfolding without_event
 length-without_event id events = length-filter_le (λ e. not (bytes_eq e.id id)) events
 
 -- fewer mentions have no more links
-links_of-append : (theory : Theory) (ps qs : List Ground) → links_of theory qs ≤ links_of theory (ps ++ qs)
+pub links_of-append : (theory : Theory) (ps qs : List Ground) → links_of theory qs ≤ links_of theory (ps ++ qs)
 links_of-append theory [] qs = omega arith
 links_of-append theory (p ∷ ps) qs =
     let here = OneMentionMore-law theory p (ps ++ qs) in

@@ -7,11 +7,8 @@ use Rattle.std.proofs.lemmas.Bool.{cases_Bool}
 use Rattle.std.proofs.lemmas.Int.{ints}
 use Rattle.ec_rows.specs.Ordered.{is_ascending, by_time}
 use Rattle.ec_rows.proofs.OrderedLemmas.{and-left, and-right, ascending-first, ascending-rest}
-use Rattle.ec_lists.proofs.Integers.{int_eq-same, int_lt-trans}
+use Rattle.ec_lists.proofs.Integers.{int_eq-same, int_lt-trans, int_eq-from_gt}
 use Rattle.ec_lists.proofs.Tests.{list_all-weaker}
-
-not_at-later : (a t : ℤ) → int_lt t a ≡ true → int_eq a t ≡ false
-not_at-later a t = grind (arith, ints)
 
 later-same : (s t a : ℤ) → int_eq s t ≡ true → int_lt s a ≡ true → int_lt t a ≡ true
 later-same s t a = grind (arith, ints)
@@ -28,7 +25,7 @@ module _ {T X : Type 0} (rank : T → ℤ) (time : X → T) where
   none-later : (t : ℤ) (xs : List X) → list_all (λ x. int_lt t (rank (time x))) xs ≡ true → found t xs ≡ None
   none-later t [] later = refl
   none-later t (x ∷ xs) later =
-      ap₂ (λ b o. cond b (Some x) o) (not_at-later (rank (time x)) t (and-left _ _ later)) (none-later t xs (and-right _ _ later))
+      ap₂ (λ b o. cond b (Some x) o) (int_eq-from_gt (rank (time x)) t (and-left _ _ later)) (none-later t xs (and-right _ _ later))
 
   -- the first member stands at its time
   found-first : (x : X) (xs : List X) → found (rank (time x)) (x ∷ xs) ≡ Some x

@@ -1,5 +1,5 @@
 -- The order of members by their times, and what the place of a time cuts out of a row.
-use Rattle.std.proofs.Common.{◌≡◌, ℕ, ◌+◌, ◌<◌, ℤ, true, false, not, ◌&&◌, List, length, take, drop, get_or, sym, ap, ◌∙◌, add-one, arith}
+use Rattle.std.proofs.Common.{◌≡◌, ℕ, ◌+◌, ◌<◌, ℤ, true, false, List, length, take, drop, get_or, sym, ap, ◌∙◌, add-one, arith}
 use Rattle.std.specs.Prelude.{int_lt, int_le}
 use Rattle.std.specs.List.Sorted.{IsPartitionedBy, IsPartitionPoint}
 use Rattle.std.specs.Ordering.{int_eq}
@@ -14,9 +14,6 @@ use Rattle.ec_lists.proofs.Tests.{list_any-same}
 
 up_to_too : (a b t : ℤ) → int_lt a b ≡ true → int_le b t ≡ true → int_le a t ≡ true
 up_to_too a b t = grind (arith, ints)
-
-pub before-not_at : (a t : ℤ) → int_lt a t ≡ true → int_eq a t ≡ false
-before-not_at a t = grind (arith, ints)
 
 -- ---- the order of members by their times
 

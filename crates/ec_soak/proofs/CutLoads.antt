@@ -1,11 +1,12 @@
 -- The bytes of generated lines are cut into the texts of these lines.
-use Rattle.std.proofs.Common.{◌≡◌, ◌∙◌, ℕ, zero, suc, ◌+◌, ◌<◌, ◌≤◌, ◌/◌, ◌%◌, Bool, true, false, cond, eqb, ◌==◌, nat_lt, List, [], ◌∷◌, ◌++◌, length, map, refl, ap, ap₂, arith, append_assoc, append-nil, length-append}
+use Rattle.std.proofs.Common.{◌≡◌, ◌∙◌, ℕ, zero, suc, ◌+◌, ◌<◌, ◌≤◌, ◌/◌, ◌%◌, Bool, true, false, cond, ◌==◌, nat_lt, List, [], ◌∷◌, ◌++◌, length, map, refl, ap, ap₂, arith, append_assoc, append-nil, length-append}
 use Rattle.std.specs.List.{list_all}
 use Rattle.std.specs.Fmt.{decimal, digits, digits_onto, digit_glyph}
 use Rattle.std.proofs.lemmas.Bool.{cond-false, ne_eqb, lt-ltb}
 use Rattle.std.proofs.lemmas.Bool.Decides.{nat_tests}
 use Rattle.std.proofs.lemmas.List.Folds.{list_all-append}
 use Rattle.ec_axioms.specs.Lines.{CutText, cut_of, before_parts, line_feed, carriage_return, without_return, whole_lines, last_line, lines_of, is_long}
+use Rattle.ec_axioms.proofs.LineEnds.{without_return-one, without_return-cons}
 use Rattle.ec_soak.specs.declared.generated_line.GeneratedEvent.{GeneratedEvent}
 use Rattle.ec_soak.specs.declared.generated_line.GeneratedEvent.TheVariants.{Push, Plug, Unplug, Move, Leave}
 use Rattle.ec_soak.specs.declared.generated_line.GeneratedLine.{GeneratedLine}
@@ -81,14 +82,6 @@ cut_of-load (line ∷ lines) =
     ap cut_of (append_assoc (line_text line) (line_feed ∷ []) (load_of lines))
     ∙ cut_of-line (line_text line) (load_of lines) (plain-line line)
     ∙ ap (λ (w : CutText). record { ended = line_text line ∷ w.ended; rest = w.rest }) (cut_of-load lines)
-
-without_return-one : (b : ℕ) → without_return (b ∷ []) ≡ cond (eqb b carriage_return) [] (b ∷ [])
-unfolding without_return
-without_return-one b = refl
-
-without_return-cons : (b c : ℕ) (line : List ℕ) → without_return (b ∷ c ∷ line) ≡ b ∷ without_return (c ∷ line)
-unfolding without_return
-without_return-cons b c line = refl
 
 without_return-plain : (line : List ℕ) → list_all is_plain line ≡ true → without_return line ≡ line
 unfolding without_return

@@ -1,5 +1,5 @@
 -- How what is kept of an output changes with each byte.
-use Rattle.std.proofs.Common.{◌≡◌, ◌≢◌, ◌∙◌, ℕ, zero, suc, ◌+◌, ◌<◌, Bool, true, false, cond, eqb, ◌==◌, ◌&&◌, List, [], ◌∷◌, ◌++◌, length, take, refl, sym, ap, ap₂, arith, codes, length-append, nat_eq, not}
+use Rattle.std.proofs.Common.{◌≡◌, ◌≢◌, ◌∙◌, ℕ, zero, suc, ◌+◌, ◌<◌, Bool, true, false, cond, eqb, ◌==◌, ◌&&◌, List, [], ◌∷◌, ◌++◌, length, take, refl, sym, ap, ap₂, arith, codes, length-append, nat_eq, not, one-add}
 use Rattle.std.specs.Prelude.{count_by}
 use Rattle.std.specs.List.{position_or_len}
 use Rattle.std.specs.Str.{bytes_eq}
@@ -55,9 +55,6 @@ bytes_eq-take (suc size) (b ∷ text) (c ∷ word) short = ap (λ rest. nat_eq b
 abbrev before_space : List ℕ → ℕ
 before_space line = position_or_len (λ byte. byte == 32) line
 
-one_more : (n : ℕ) → 1 + n ≡ suc n
-one_more n = omega arith
-
 -- the first word of some first bytes is that of all, as far as they reach
 pub first_word-take : (size : ℕ) (line : List ℕ) → first_word (take size line) ≡ take size (first_word line)
 first_word-take zero line = refl
@@ -65,7 +62,7 @@ first_word-take (suc size) [] = refl
 first_word-take (suc size) (b ∷ line) =
     elim (eqb b 32) as (λ (v : Bool). take (cond (not v) (1 + before_space (take size line)) 0) (b ∷ take size line) ≡ take (suc size) (take (cond (not v) (1 + before_space line) 0) (b ∷ line))) [
       | true ↦ refl
-      | false ↦ rw (one_more (before_space line), one_more (before_space (take size line))) (ap (λ rest. b ∷ rest) (first_word-take size line))
+      | false ↦ rw (one-add (before_space line), one-add (before_space (take size line))) (ap (λ rest. b ∷ rest) (first_word-take size line))
     ]
 
 -- and so they tell which shorter word the first one is
