@@ -17,7 +17,7 @@ use Rattle.ec_lists.proofs.Numbers.{eqb-apart}
 
 -- ---- numbers
 
-equal : (m n : ℕ) → (m == n) ≡ true → n ≡ m
+pub equal : (m n : ℕ) → (m == n) ≡ true → n ≡ m
 equal m n e = grind arith
 
 -- ---- rows

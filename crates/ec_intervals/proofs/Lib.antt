@@ -15,4 +15,4 @@ mod FirstBroken
 mod ChangedMark
 mod Growth
 mod Inert
-mod BoundLemmas
+mod ReachLemmas

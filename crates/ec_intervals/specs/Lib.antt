@@ -6,4 +6,4 @@ pub mod Drafts
 pub mod Broken
 pub mod Laws
 pub mod ChangedRows
-pub mod Bounds
+pub mod Reach

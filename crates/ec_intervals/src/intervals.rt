@@ -5,9 +5,9 @@ ghost use Rattle.ec_intervals.specs.OldMarks.{AreOfOldMarks};
 ghost use Rattle.ec_intervals.specs.Table.{IsGrown, front_at, has_row, members_at, plain_intervals, room_at, row_at, spans_at};
 ghost use Rattle.ec_rows.specs.PlainMarks.{plain_marks};
 
-use crate::bounded::BoundedSpans;
 use crate::draft::Draft;
 use crate::interval::Interval;
+use crate::reach::{Reach, is_outside, reach_of, set_reach};
 use crate::row::{KeptRow, clear_row, count_members, member_of, row_covers};
 use crate::rows::prepare_row;
 use crate::write::{rebuild_row, splice_row};
@@ -20,26 +20,29 @@ use std::marker::Model;
 
 /// The maximal validity intervals of each property, a row of them under the number of the property.
 ///
-/// The interval from before all events is the front of a row; the others, which begin at a time, are its spans.
+/// The interval from before all events is the front of a row; the others, which begin at a time, are its spans. The
+/// reaches of all rows lie together beside them, since most questions about a time are told by these alone.
 /// Intervals are made from a row of marks alone. What is written goes through a buffer that all rows share. After
 /// `prepare` has made room, nothing takes memory.
 #[derive(Drop)]
 pub struct Intervals<T: Moment, I: SpanRow<T>> {
-    rows: ByNumber<KeptRow<T, BoundedSpans<T, I>>>,
+    rows: ByNumber<KeptRow<T, I>>,
+    reaches: ByNumber<Reach<T>>,
     draft: Draft<T>,
     alloc: Global,
 }
 
 impl<T: Moment, I: SpanRow<T>> Model for Intervals<T, I> {
     ghost use Rattle.std.specs.Vec.{vec_capacity};
+    ghost use Rattle.ec_intervals.specs.Reach.{AreKept};
     ghost use Rattle.ec_intervals.specs.RowViews.{rows_seen};
-    ghost use Rattle.ec_intervals.specs.Table.{AreFew, IntervalTable};
+    ghost use Rattle.ec_intervals.specs.Table.{IntervalTable};
 
     ghost Value = { IntervalTable T };
 
     ghost view = { λ intervals. record { rows = rows_seen I.spans I.spare intervals.rows; buffer = vec_capacity intervals.draft.spans } };
 
-    ghost invariant = { λ intervals. AreFew (rows_seen I.spans I.spare intervals.rows) };
+    ghost invariant = { λ intervals. AreKept T.rank intervals.reaches (rows_seen I.spans I.spare intervals.rows) };
 }
 
 impl<T: Moment, I: SpanRow<T>> Intervals<T, I> {
@@ -49,6 +52,7 @@ impl<T: Moment, I: SpanRow<T>> Intervals<T, I> {
     {
         Intervals {
             rows: ByNumber::new(alloc),
+            reaches: ByNumber::new(alloc),
             draft: Draft::new(alloc),
             alloc,
         }
@@ -62,7 +66,7 @@ impl<T: Moment, I: SpanRow<T>> Intervals<T, I> {
         ensures none { IfNone result (row_at p.0 self.now ≡ None) }
     {
         let kept = self.rows.get(p)?;
-        Some(kept.spans.inner())
+        Some(&kept.spans)
     }
 
     /// The end of the interval of a property from before all events. `None` exactly when it has no such interval.
@@ -94,11 +98,14 @@ impl<T: Moment, I: SpanRow<T>> Intervals<T, I> {
         }
     }
 
-    /// Whether a property holds at a time: some interval of it covers the time. Up to the first start of its spans and
-    /// behind their last end it reads no span; else it takes one search in the row.
+    /// Whether a property holds at a time: some interval of it covers the time. Up to its first begin and behind its last
+    /// end this is told without a look at its row; else it takes one search in the row.
     pub fn covers(&self, p: PropId, at: T) -> bool
         ensures { result ≡ is_held_at (plain_intervals T.rank (members_at p.0 self.now)) (T.rank at) }
     {
+        if is_outside(self.reaches.get(p), at) {
+            return false;
+        }
         match self.rows.get(p) {
             Some(kept) => row_covers(kept, at),
             None => false,
@@ -120,6 +127,7 @@ impl<T: Moment, I: SpanRow<T>> Intervals<T, I> {
             return Err(NoMemory);
         };
         self.draft.make_room(buffer)?;
+        self.reaches.place(p)?;
         prepare_row(&mut self.rows, p, spans, self.alloc)
     }
 
@@ -138,6 +146,7 @@ impl<T: Moment, I: SpanRow<T>> Intervals<T, I> {
     {
         if let Some(kept) = self.rows.get_mut(p) {
             rebuild_row(kept, &mut self.draft, row, strong, initial);
+            set_reach(&mut self.reaches, p, reach_of(kept));
         }
     }
 
@@ -168,7 +177,11 @@ impl<T: Moment, I: SpanRow<T>> Intervals<T, I> {
         ensures others { (n : ℕ) → n ≢ p.0 → row_at n self.new ≡ row_at n self.old }
     {
         match self.rows.get_mut(p) {
-            Some(kept) => splice_row(kept, &mut self.draft, row, strong, initial, from, until),
+            Some(kept) => {
+                let differs = splice_row(kept, &mut self.draft, row, strong, initial, from, until);
+                set_reach(&mut self.reaches, p, reach_of(kept));
+                differs
+            }
             None => false,
         }
     }
@@ -186,5 +199,6 @@ impl<T: Moment, I: SpanRow<T>> Intervals<T, I> {
             return;
         };
         clear_row(kept);
+        set_reach(&mut self.reaches, p, None);
     }
 }

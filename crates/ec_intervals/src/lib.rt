@@ -1,13 +1,12 @@
 //! The maximal validity intervals of each property, by its number, made from its row of marks alone.
 #![tactic(auto)]
 
-mod bounded;
-mod bounds;
 mod broken;
 mod draft;
 mod interval;
 mod intervals;
 mod laws;
+mod reach;
 mod row;
 mod rows;
 mod steps;

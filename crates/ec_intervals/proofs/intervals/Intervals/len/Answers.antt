@@ -7,7 +7,7 @@ use Rattle.ec_intervals.proofs.intervals.Intervals.len.Goals as goal
 
 pub count_members-requires : goal.count_members-requires
 count_members-requires g c =
-    subst (λ row. length (members_in row) < 2 ^ 64) (kept_at-found g.I.SpanRow.spans g.I.SpanRow.spare c.self.inside.rows c.args.p.0 c.in-Some.kept.now c.in-Some.ensures) (c.self.invariant c.args.p.0)
+    subst (λ row. length (members_in row) < 2 ^ 64) (kept_at-found g.I.SpanRow.spans g.I.SpanRow.spare c.self.inside.rows c.args.p.0 c.in-Some.kept.now c.in-Some.ensures) (c.self.invariant.few c.args.p.0)
 
 pub returns-in-Some : goal.returns-in-Some
 returns-in-Some g c = c.count_members.ensures ∙ sym (ap (λ row. length (members_in row)) (row_at-kept g.I.SpanRow.spans g.I.SpanRow.spare c.self.inside.rows c.args.self.now (ap (λ t. t.rows) c.self.view_is) c.args.p.0 c.in-Some.kept.now c.in-Some.ensures))

@@ -2,12 +2,14 @@
 use Rattle.std.proofs.Common.{◌≤◌, IsTrue, is_some, OnOk, sym, ap, subst, ◌∙◌}
 use Rattle.ec_numbered.specs.ByNumber.{kept_at}
 use Rattle.ec_intervals.specs.Table.{room_in}
-use Rattle.ec_intervals.proofs.KeptRows.{AreFew-grown, kept_at-seen, is_some-seen, row_at-same, IsGrown-table}
+use Rattle.ec_intervals.proofs.KeptRows.{kept_at-seen, is_some-seen, row_at-same, IsGrown-table}
+use Rattle.ec_intervals.proofs.ReachLemmas.{AreKept-grown, AreKept-placed}
 use Rattle.ec_intervals.proofs.intervals.Intervals.prepare.Goals as goal
 
 pub invariant_of-self-2 : goal.invariant_of-self-2
 invariant_of-self-2 g c =
-    AreFew-grown g.I.SpanRow.spans g.I.SpanRow.spare c.self.inside.rows c.prepare_row.new.rows c.args.p.0 c.self.invariant c.prepare_row.ensures.others c.prepare_row.ensures.grown
+    AreKept-grown g.I.SpanRow.spans g.I.SpanRow.spare g.T.Moment.rank c.self.inside.reaches c.place.new.self c.self.inside.rows c.args.p.0 c.self.invariant c.prepare_row.new.rows
+    c.place.ensures.same c.place.ensures.grown c.in_ok-place.ensures.place c.prepare_row.ensures.others c.prepare_row.ensures.grown
 
 pub returns-clause-room : goal.returns-clause-room
 returns-clause-room g c =

@@ -7,4 +7,3 @@ use Rattle.ec_intervals.proofs.intervals.Intervals.spans.Goals as goal
 pub returns-clause-room : goal.returns-clause-room
 returns-clause-room g c =
     ap room_in (row_at-kept g.I.SpanRow.spans g.I.SpanRow.spare c.self.inside.rows c.args.self.now (ap (λ t. t.rows) c.self.view_is) c.args.p.0 c.in_ok-kept.kept.now c.in_ok-kept.ensures)
-    ∙ ap g.I.SpanRow.spare (sym c.inner.ensures)

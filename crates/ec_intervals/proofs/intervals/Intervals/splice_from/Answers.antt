@@ -2,22 +2,29 @@
 use Rattle.std.proofs.Common.{is_some, length, sym, ap, ◌∙◌, arith}
 use Rattle.ec_intervals.specs.Table.{spans_in, members_in, plain_intervals, room_in}
 use Rattle.ec_intervals.proofs.KeptRows.{written-row, written-others, written-old, AreFew-rewritten}
+use Rattle.ec_intervals.proofs.ReachLemmas.{AreKept-rewritten, has_place}
 use Rattle.ec_intervals.proofs.intervals.Intervals.splice_from.Goals as goal
 
 pub invariant_of-self : goal.invariant_of-self
 invariant_of-self g c =
-    AreFew-rewritten g.I.SpanRow.spans g.I.SpanRow.spare c.self.inside.rows c.args.self.now (ap (λ t. t.rows) c.self.view_is) c.args.p.0 c.in-Some.kept.now c.splice_row.new.kept c.in-Some.ensures.kept g.T.Moment.rank (g.M.MarkRow.marks c.args.row.now) c.args.strong c.args.initial _ c.self.invariant
-    c.splice_row.ensures.row c.splice_row.ensures.intervals c.requires.buffer
-    (let small = c.self.inside.draft.spans.small in let same = ap (λ t. t.buffer) c.self.view_is in omega (arith, small, same))
+    AreKept-rewritten g.I.SpanRow.spans g.I.SpanRow.spare g.T.Moment.rank c.self.inside.reaches c.set_reach.new.reaches c.self.inside.rows c.args.p.0 c.self.invariant c.in-Some.kept.now c.splice_row-differs.new.kept c.in-Some.ensures.kept c.reach_of.result
+    (AreFew-rewritten g.I.SpanRow.spans g.I.SpanRow.spare c.self.inside.rows c.args.self.now (ap (λ t. t.rows) c.self.view_is) c.args.p.0 c.in-Some.kept.now c.splice_row-differs.new.kept c.in-Some.ensures.kept g.T.Moment.rank (g.M.MarkRow.marks c.args.row.now) c.args.strong c.args.initial _ c.self.invariant.few
+    c.splice_row-differs.ensures.row c.splice_row-differs.ensures.intervals c.requires.buffer
+    (let small = c.self.inside.draft.spans.small in let same = ap (λ t. t.buffer) c.self.view_is in omega (arith, small, same)))
+    c.set_reach.ensures.here c.set_reach.ensures.others c.set_reach.ensures.places c.reach_of.ensures
+
+pub set_reach-requires : goal.set_reach-requires
+set_reach-requires g c =
+    has_place g.I.SpanRow.spans g.I.SpanRow.spare g.T.Moment.rank c.self.inside.reaches c.self.inside.reaches c.self.inside.rows c.args.p.0 c.self.invariant c.in-Some.kept.now c.splice_row-differs.new.kept c.in-Some.ensures.kept
 
 pub returns-in-Some-clause-intervals : goal.returns-in-Some-clause-intervals
-returns-in-Some-clause-intervals g c = ap (λ row. plain_intervals g.T.Moment.rank (members_in row)) (written-row g.I.SpanRow.spans g.I.SpanRow.spare c.self.inside.rows c.args.self.now (ap (λ t. t.rows) c.self.view_is) c.args.p.0 c.in-Some.kept.now c.splice_row.new.kept c.in-Some.ensures.kept) ∙ c.splice_row.ensures.intervals
+returns-in-Some-clause-intervals g c = ap (λ row. plain_intervals g.T.Moment.rank (members_in row)) (written-row g.I.SpanRow.spans g.I.SpanRow.spare c.self.inside.rows c.args.self.now (ap (λ t. t.rows) c.self.view_is) c.args.p.0 c.in-Some.kept.now c.splice_row-differs.new.kept c.in-Some.ensures.kept) ∙ c.splice_row-differs.ensures.intervals
 
 pub returns-in-Some-clause-room : goal.returns-in-Some-clause-room
 returns-in-Some-clause-room g c =
-    let old = written-old g.I.SpanRow.spans g.I.SpanRow.spare c.self.inside.rows c.args.self.now (ap (λ t. t.rows) c.self.view_is) c.args.p.0 c.in-Some.kept.now c.splice_row.new.kept c.in-Some.ensures.kept in
-    let new = written-row g.I.SpanRow.spans g.I.SpanRow.spare c.self.inside.rows c.args.self.now (ap (λ t. t.rows) c.self.view_is) c.args.p.0 c.in-Some.kept.now c.splice_row.new.kept c.in-Some.ensures.kept in
-    let room = c.splice_row.ensures.room in
+    let old = written-old g.I.SpanRow.spans g.I.SpanRow.spare c.self.inside.rows c.args.self.now (ap (λ t. t.rows) c.self.view_is) c.args.p.0 c.in-Some.kept.now c.splice_row-differs.new.kept c.in-Some.ensures.kept in
+    let new = written-row g.I.SpanRow.spans g.I.SpanRow.spare c.self.inside.rows c.args.self.now (ap (λ t. t.rows) c.self.view_is) c.args.p.0 c.in-Some.kept.now c.splice_row-differs.new.kept c.in-Some.ensures.kept in
+    let room = c.splice_row-differs.ensures.room in
     let old_room = ap room_in old in
     let old_count = ap (λ row. length (spans_in row)) old in
     let new_room = ap room_in new in
@@ -25,15 +32,15 @@ returns-in-Some-clause-room g c =
     omega (arith, room, old_room, old_count, new_room, new_count)
 
 pub returns-in-Some-clause-row : goal.returns-in-Some-clause-row
-returns-in-Some-clause-row g c = ap is_some (written-row g.I.SpanRow.spans g.I.SpanRow.spare c.self.inside.rows c.args.self.now (ap (λ t. t.rows) c.self.view_is) c.args.p.0 c.in-Some.kept.now c.splice_row.new.kept c.in-Some.ensures.kept)
+returns-in-Some-clause-row g c = ap is_some (written-row g.I.SpanRow.spans g.I.SpanRow.spare c.self.inside.rows c.args.self.now (ap (λ t. t.rows) c.self.view_is) c.args.p.0 c.in-Some.kept.now c.splice_row-differs.new.kept c.in-Some.ensures.kept)
 
 pub returns-in-Some-clause-others : goal.returns-in-Some-clause-others
-returns-in-Some-clause-others g c = written-others g.I.SpanRow.spans g.I.SpanRow.spare c.self.inside.rows c.args.self.now (ap (λ t. t.rows) c.self.view_is) c.args.p.0 c.in-Some.kept.now c.splice_row.new.kept c.in-Some.ensures.kept
+returns-in-Some-clause-others g c = written-others g.I.SpanRow.spans g.I.SpanRow.spare c.self.inside.rows c.args.self.now (ap (λ t. t.rows) c.self.view_is) c.args.p.0 c.in-Some.kept.now c.splice_row-differs.new.kept c.in-Some.ensures.kept
 
 pub returns-in-Some-clause-differs : goal.returns-in-Some-clause-differs
 returns-in-Some-clause-differs g c =
-    let old = ap (λ row. plain_intervals g.T.Moment.rank (members_in row)) (written-old g.I.SpanRow.spans g.I.SpanRow.spare c.self.inside.rows c.args.self.now (ap (λ t. t.rows) c.self.view_is) c.args.p.0 c.in-Some.kept.now c.splice_row.new.kept c.in-Some.ensures.kept) in
-    let new = ap (λ row. plain_intervals g.T.Moment.rank (members_in row)) (written-row g.I.SpanRow.spans g.I.SpanRow.spare c.self.inside.rows c.args.self.now (ap (λ t. t.rows) c.self.view_is) c.args.p.0 c.in-Some.kept.now c.splice_row.new.kept c.in-Some.ensures.kept) in (
-      λ differ same. c.splice_row.ensures.differs.0 differ (sym old ∙ same ∙ new),
-      λ differ. c.splice_row.ensures.differs.1 (λ same. differ (old ∙ same ∙ sym new)),
+    let old = ap (λ row. plain_intervals g.T.Moment.rank (members_in row)) (written-old g.I.SpanRow.spans g.I.SpanRow.spare c.self.inside.rows c.args.self.now (ap (λ t. t.rows) c.self.view_is) c.args.p.0 c.in-Some.kept.now c.splice_row-differs.new.kept c.in-Some.ensures.kept) in
+    let new = ap (λ row. plain_intervals g.T.Moment.rank (members_in row)) (written-row g.I.SpanRow.spans g.I.SpanRow.spare c.self.inside.rows c.args.self.now (ap (λ t. t.rows) c.self.view_is) c.args.p.0 c.in-Some.kept.now c.splice_row-differs.new.kept c.in-Some.ensures.kept) in (
+      λ differ same. c.splice_row-differs.ensures.differs.0 differ (sym old ∙ same ∙ new),
+      λ differ. c.splice_row-differs.ensures.differs.1 (λ same. differ (old ∙ same ∙ sym new)),
     )
