@@ -1,5 +1,6 @@
 pub mod Tables
 pub mod Keepings
+pub mod EachOf
 pub mod Shown
 pub mod PlaceLemmas
 pub mod IndexLemmas

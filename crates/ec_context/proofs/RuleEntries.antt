@@ -18,7 +18,8 @@ use Rattle.ec_context.specs.RulePlaces.{ArePlacesFor, is_for, places_from}
 use Rattle.ec_context.specs.Widened.{KeepsAll}
 use Rattle.ec_lists.proofs.Options.{cons_option-is_append}
 use Rattle.ec_context.proofs.PlaceLemmas.{fits_some-not_for}
-use Rattle.ec_context.proofs.Shown.{each_of-push, shown_entries-kept}
+use Rattle.ec_context.proofs.EachOf.{each_of-push}
+use Rattle.ec_context.proofs.Shown.{shown_entries-kept}
 
 -- ---- one rule
 

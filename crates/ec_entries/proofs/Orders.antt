@@ -13,7 +13,7 @@ use Rattle.std.proofs.lemmas.Int.{ints}
 use Rattle.ec_entries.specs.declared.event_entries.Dependent.{Dependent}
 use Rattle.ec_entries.specs.Dependents.{AreInOrder, dependent_before, from_place, is_from}
 use Rattle.ec_rows.proofs.OrderedLemmas.{IsPlace, IsPlace-by_key, IsOrder-by_key, IsPartitionedBy-ascending, at-from_any, filter-behind_free, free-from_none, is_ascending-remove, is_ascending-with_member, is_at, is_eq-is_at, with_member-free}
-use Rattle.ec_lists.proofs.Integers.{int_le_lt-trans}
+use Rattle.ec_lists.proofs.Integers.{int_le_lt-trans, int_le-trans}
 use Rattle.ec_lists.proofs.Partitions.{IsCut, take-partition}
 
 -- ---- filters of edited lists
@@ -115,9 +115,6 @@ int_cmp-same a = grind (arith, ints)
 pub no_later : (r s : ℤ) (o : Ordering) → is_lt (ordering_then (int_cmp r s) o) ≡ true → int_le r s ≡ true
 no_later r s o = grind (arith, ints)
 
-no_later-trans : (r s t : ℤ) → int_le r s ≡ true → int_le s t ≡ true → int_le r t ≡ true
-no_later-trans r s t = grind (arith, ints)
-
 equal-parts : (r s o : Ordering) → is_eq (ordering_then r (ordering_then s o)) ≡ true → (is_eq s ≡ true) × (is_eq o ≡ true)
 equal-parts Equal Equal Equal same = (refl, refl)
 equal-parts Less s o same = cc
@@ -173,7 +170,7 @@ module _ {T : Type 0} (rank : T → ℤ) where
   pub IsPartitionedBy-up_to : (t : ℤ) (ds : List (Dependent T)) → AreInOrder rank ds → IsPartitionedBy (λ e. int_le (rank e.at) t) ds
   IsPartitionedBy-up_to t ds order =
       IsPartitionedBy-ascending (dependent_before rank) (λ e. int_le (rank e.at) t)
-      (λ x y before. no_later-trans (rank x.at) (rank y.at) t (no_later (rank x.at) (rank y.at) (ordering_then (nat_cmp x.slot.0 y.slot.0) (nat_cmp x.place y.place)) before)) ds order
+      (λ x y before. int_le-trans (rank x.at) (rank y.at) t (no_later (rank x.at) (rank y.at) (ordering_then (nat_cmp x.slot.0 y.slot.0) (nat_cmp x.place y.place)) before)) ds order
 
   pub IsPartitionedBy-earlier : (t : ℤ) (ds : List (Dependent T)) → AreInOrder rank ds → IsPartitionedBy (λ e. int_lt (rank e.at) t) ds
   IsPartitionedBy-earlier t ds order =

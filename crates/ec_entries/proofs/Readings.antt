@@ -9,10 +9,9 @@ use Rattle.ec_entries.specs.declared.event_entries.Dependent.{Dependent}
 use Rattle.ec_entries.specs.Dependents.{AreInOrder, dependent_before, dependents_after, dependents_at}
 use Rattle.ec_lists.proofs.Tests.{list_all-weaker}
 use Rattle.ec_rows.proofs.OrderedLemmas.{ascending-first, is_ascending-filter}
-use Rattle.ec_lists.proofs.Integers.{int_le-same, int_lt-not_le}
+use Rattle.ec_lists.proofs.Integers.{int_le-same, int_lt-not_le, int_eq-from_lt}
 use Rattle.ec_lists.proofs.Partitions.{IsCut, drop-partition}
 use Rattle.ec_entries.proofs.Orders.{no_later}
-use Rattle.ec_rows.proofs.TimedLemmas.{before-not_at}
 
 at-from_both : (r t : ℤ) → int_lt r t ≡ false → int_le r t ≡ true → int_eq r t ≡ true
 at-from_both r t = grind (arith, ints)
@@ -90,7 +89,7 @@ module _ {T : Type 0} (rank : T → ℤ) (t : ℤ) where
   dependents_at-between (d ∷ ds) (suc i) zero low high =
       absurd (never (rank d.at) t (low.0 zero d (omega arith) (omega arith)) (high.1 zero d (omega arith) (omega arith)))
   dependents_at-between (d ∷ ds) (suc i) (suc j) low high =
-      ap (λ b. cond b (d ∷ dependents_at rank t ds) (dependents_at rank t ds)) (before-not_at (rank d.at) t (low.0 zero d (omega arith) (omega arith)))
+      ap (λ b. cond b (d ∷ dependents_at rank t ds) (dependents_at rank t ds)) (int_eq-from_lt (rank d.at) t (low.0 zero d (omega arith) (omega arith)))
       ∙ dependents_at-between ds i j (rest earlier d ds i low) (rest up_to d ds j high)
 
   -- no more are before a time than up to it

@@ -1,14 +1,15 @@
 -- Events with their slots: what is found among them, and what one more or one less leaves.
-use Rattle.std.proofs.Common.{◌≡◌, ℕ, ◌≤◌, zero, suc, Bool, true, false, cond, not, ◌&&◌, ◌||◌, List, [], ◌∷◌, ℤ, Option, Some, None, refl, sym, ap, ap₂, subst, ◌∙◌, ⊎_elim, length, map, filter, is_some, slice_get, arith}
+use Rattle.std.proofs.Common.{◌≡◌, ℕ, ◌≤◌, zero, suc, Bool, true, false, cond, not, ◌&&◌, ◌||◌, List, [], ◌∷◌, ℤ, Option, Some, None, refl, sym, ap, ap₂, subst, ◌∙◌, ⊎_elim, length, map, is_some, slice_get, arith}
 use Rattle.std.specs.Prelude.{int_lt, find, option_map, bytes_eq, ◌==◌, if◌then◌else◌}
 use Rattle.std.specs.List.{list_any, list_all}
-use Rattle.std.specs.Ordering.{int_eq, is_lt, is_eq, ordering_then}
+use Rattle.std.specs.Ordering.{int_cmp, int_eq, is_lt, is_eq, ordering_then}
 use Rattle.std.specs.declared.cmp.Ordering.{Ordering}
 use Rattle.std.specs.declared.cmp.Ordering.TheVariants.{Less, Equal, Greater}
 use Rattle.std.proofs.lemmas.Bool.{cases_Bool, false≢true, and_parts, and_right, or_right, or_parts}
 use Rattle.std.proofs.lemmas.Slice.Eq.{bytes_eq-Decides}
 use Rattle.ec_terms.specs.declared.ids.Slot.{Slot}
 use Rattle.ec_terms.specs.Term.{name_cmp}
+use Rattle.ec_axioms.specs.Calculus.{PlainEvent}
 use Rattle.ec_axioms.specs.Changes.{is_history, comes_before, has_id, with_event, without_event}
 use Rattle.ec_axioms.specs.declared.event.Event.{Event}
 use Rattle.ec_axioms.proofs.Histories.{comes_before-total}
@@ -18,32 +19,23 @@ use Rattle.ec_rows.proofs.OrderedLemmas.{IsOrder, IsOrder-by_key, with_member-fr
 use Rattle.ec_rows.proofs.TimeLemmas.{place_cmp-total}
 use Rattle.ec_events.specs.Store.{Kept, plain_of, history_of, slot_of, event_at, kept_before, with_kept, without_kept, entry_of}
 use Rattle.ec_lists.proofs.Integers.{int_eq-same}
-use Rattle.ec_lists.proofs.Booleans.{option_map-cond, is_some-cond, map-cond, cond_comm, cond-same, cond-again}
-use Rattle.ec_lists.proofs.Filters.{filter-not_any}
+use Rattle.ec_lists.proofs.Booleans.{option_map-cond, is_some-cond, map-cond, cond_comm, cond-same, cond-again, false-from_not}
+use Rattle.ec_lists.proofs.Filters.{filter-not_any, filter-map}
+use Rattle.ec_lists.proofs.Numbers.{bytes_eq-turned}
 
 -- ---- tests
 
 pub same_bytes : (a b : List ℕ) → bytes_eq a b ≡ true → a ≡ b
 same_bytes a b = (bytes_eq-Decides a b).0
 
-other_bytes : (a b : List ℕ) → bytes_eq a b ≡ false → bytes_eq b a ≡ false
-other_bytes a b other =
-    ⊎_elim (λ e. absurd (false≢true (sym other ∙ subst (λ c. bytes_eq a c ≡ true) (sym (same_bytes b a e)) ((bytes_eq-Decides a a).1 refl)))) (λ e. e) (cases_Bool (bytes_eq b a))
-
-not-true : (a : Bool) → not a ≡ true → a ≡ false
-not-true a = grind arith
-
--- a filter under a map
-pub filter-map_of : {A B : Type 0} (f : A → B) (p : B → Bool) (xs : List A) → filter p (map f xs) ≡ map f (filter (λ x. p (f x)) xs)
-filter-map_of f p [] = refl
-filter-map_of f p (x ∷ xs) =
-    ap (λ ys. cond (p (f x)) (f x ∷ ys) ys) (filter-map_of f p xs) ∙ sym (map-cond f (p (f x)) (x ∷ filter (λ y. p (f y)) xs) (filter (λ y. p (f y)) xs))
-
--- the order of two events in time, as the order of their entries
-before-then : (a b : Bool) (o : Ordering) → (a || (is_eq (cond a Less (cond b Greater Equal)) && is_lt o)) ≡ is_lt (ordering_then (cond a Less (cond b Greater Equal)) o)
-before-then true b o = refl
-before-then false true o = refl
-before-then false false o = refl
+-- before in time, or at the same time and less: as an answer of two comparisons
+pub before-then : (s t : ℤ) (o : Ordering) → (int_lt s t || (int_eq s t && is_lt o)) ≡ is_lt (ordering_then (int_cmp s t) o)
+before-then s t o = by_tests (int_lt s t) (int_lt t s) o
+  where
+    by_tests : (a b : Bool) (r : Ordering) → (a || (is_eq (cond a Less (cond b Greater Equal)) && is_lt r)) ≡ is_lt (ordering_then (cond a Less (cond b Greater Equal)) r)
+    by_tests true b r = refl
+    by_tests false true r = refl
+    by_tests false false r = refl
 
 module _ {T : Type 0} where
   -- ---- what is found
@@ -113,7 +105,7 @@ module _ {T : Type 0} where
 
   comes_before-entry : (rank : T → ℤ) (k j : Kept T) → comes_before (plain_of rank k) (plain_of rank j) ≡ entry_before rank (entry_of k) (entry_of j)
   unfolding comes_before
-  comes_before-entry rank k j = before-then (int_lt (rank k.1.at) (rank j.1.at)) (int_lt (rank j.1.at) (rank k.1.at)) (name_cmp k.1.id j.1.id)
+  comes_before-entry rank k j = before-then (rank k.1.at) (rank j.1.at) (name_cmp k.1.id j.1.id)
 
   list_all-entry : (rank : T → ℤ) (k : Kept T) (ks : List (Kept T)) →
       list_all (comes_before (plain_of rank k)) (history_of rank ks) ≡ list_all (entry_before rank (entry_of k)) (map entry_of ks)
@@ -132,7 +124,7 @@ module _ {T : Type 0} where
   unfolding is_history
   history-new rank k ks history =
       let outer = and_parts (list_all (comes_before (plain_of rank k)) (history_of rank ks) && not (has_id k.1.id (history_of rank ks))) (is_history (history_of rank ks)) history in
-      not-true (has_id k.1.id (history_of rank ks))
+      false-from_not (has_id k.1.id (history_of rank ks))
       (and_parts (list_all (comes_before (plain_of rank k)) (history_of rank ks)) (not (has_id k.1.id (history_of rank ks))) outer.0).1
 
   history-rest : (rank : T → ℤ) (k : Kept T) (ks : List (Kept T)) → is_history (history_of rank (k ∷ ks)) ≡ true → is_history (history_of rank ks) ≡ true
@@ -159,7 +151,7 @@ module _ {T : Type 0} where
       let ascending : is_ascending (entry_before rank) (entry_of j ∷ map entry_of js) ≡ true = is_ascending-entries rank (j ∷ js) history in
       let ih : with_entry rank (entry_of k) (map entry_of js) ≡ map entry_of (with_kept rank k js) =
       with_entry-with_kept rank k js (history-rest rank j js history) (absent-rest k.1.id j js none) in
-      let other : bytes_eq k.1.id j.1.id ≡ false = other_bytes j.1.id k.1.id (absent-first k.1.id j js none) in
+      let other : bytes_eq k.1.id j.1.id ≡ false = bytes_eq-turned j.1.id k.1.id (absent-first k.1.id j js none) in
       ⊎_elim
       (λ e. with_member-front (entry_before rank) (order rank) (entry_of k) (entry_of j) (map entry_of js) (sym (comes_before-entry rank k j) ∙ e) ascending
       ∙ ap (map entry_of) (sym (with_kept-front rank k j js e)))
@@ -197,7 +189,7 @@ module _ {T : Type 0} where
 
   pub history_of-without_kept : (rank : T → ℤ) (id : List ℕ) (ks : List (Kept T)) → history_of rank (without_kept id ks) ≡ without_event id (history_of rank ks)
   unfolding without_event
-  history_of-without_kept rank id ks = sym (filter-map_of (plain_of rank) (λ e. not (bytes_eq e.id id)) ks)
+  history_of-without_kept rank id ks = sym (filter-map (λ (e : PlainEvent). not (bytes_eq e.id id)) (plain_of rank) ks)
 
   -- the event under a slot is among the events
   has_id-event_at : (rank : T → ℤ) (slot : Slot) (event : Event T) (ks : List (Kept T)) → event_at slot ks ≡ Some event → has_id event.id (history_of rank ks) ≡ true
@@ -281,7 +273,7 @@ module _ {T : Type 0} where
   -- ---- positions
 
   pub entries_before-kept : (rank : T → ℤ) (t : ℤ) (ks : List (Kept T)) → entries_before rank t (map entry_of ks) ≡ map entry_of (kept_before rank t ks)
-  entries_before-kept rank t ks = filter-map_of entry_of (λ entry. int_lt (rank entry.0) t) ks
+  entries_before-kept rank t ks = filter-map (λ entry. int_lt (rank entry.0) t) entry_of ks
 
   pub slice_get-entries : (ks : List (Kept T)) (i : ℕ) → slice_get (map entry_of ks) i ≡ option_map entry_of (slice_get ks i)
   slice_get-entries [] i = refl

@@ -5,6 +5,7 @@ use Rattle.std.specs.List.{list_any}
 use Rattle.std.proofs.lemmas.Bool.{cases_Bool, false≢true}
 use Rattle.std.specs.Map.{lookup}
 use Rattle.std.proofs.lemmas.List.{get_or_past}
+use Rattle.std.proofs.Math.Bool.{or-false}
 use Rattle.indexmap.specs.IndexMap.{IndexMap}
 use Rattle.ec_lists.proofs.Options.{is_some-option_map}
 use Rattle.ec_lists.proofs.Tests.{list_any-same, list_any-map, list_any-and}
@@ -154,10 +155,6 @@ module _ {Z S : Type 0} (lists : List (Option Row)) (forms : List (Option Form))
         ∙ sym (ap (λ o. stands_under key (option_map form_in o)) (others n (apart p.0 n e))))
         (cases_Bool (p.0 == n));
   }
-    where
-      or-false : (b : Bool) → (b || false) ≡ b
-      or-false true = refl
-      or-false false = refl
 
   -- ---- a property less
 

@@ -9,5 +9,4 @@ pub mod KeyLemmas
 pub mod RowLemmas
 pub mod NewRow
 pub mod SameTerms
-pub mod NamedTerms
 pub mod Grouped

@@ -10,10 +10,11 @@ use Rattle.ec_terms.specs.Term.{term_cmp, term_eq}
 use Rattle.ec_rows.proofs.OrderedLemmas.{and-left, and-right, ascending-first, ascending-rest, is_ascending-with_member, is_ascending-filter}
 use Rattle.ec_props.specs.Table.{KeptProp, prop_at, term_at, prop_of, prop_before, is_in_order, unmentioned, with_prop, without_prop, mentioned, with_mentions, kept_as, number_of, kept_of, IsTable}
 use Rattle.ec_props.specs.declared.property.Property.{Property}
-use Rattle.ec_props.proofs.KeptLemmas.{same_number, itself, turned_other, by_term, prop_at-insert, prop_at-without, prop_at-with_mentions, term_at-with_mentions, in_order-with_mentions, prop_of-insert, prop_of-remove, prop_of-with_mentions, numbers-insert, numbers-remove, numbers-with_mentions}
+use Rattle.ec_props.proofs.KeptLemmas.{same_number, itself, by_term, prop_at-insert, prop_at-without, prop_at-with_mentions, term_at-with_mentions, in_order-with_mentions, prop_of-insert, prop_of-remove, prop_of-with_mentions, numbers-insert, numbers-remove, numbers-with_mentions}
 use Rattle.ec_props.proofs.TableLemmas.{property_of, AllHeld, AllHeld-kept_of, AllHeld-slice_get, kept_of-numbers, prop_of-kept}
 use Rattle.ec_lists.proofs.Filters.{filter-all}
 use Rattle.ec_lists.proofs.Tests.{list_all-slice_get}
+use Rattle.ec_lists.proofs.Numbers.{eqb-turned}
 
 -- ---- properties that are held
 
@@ -62,7 +63,7 @@ remove-without property_at (j ∷ js) (suc i) k held ordered is =
     let before : prop_before j k ≡ true = list_all-slice_get (prop_before j) js i k (ascending-first prop_before j js ordered) is in
     let other : (k.id == j.id) ≡ false = other_number property_at j k held.0 there before in
     ap (λ ks. j ∷ ks) (remove-without property_at js i k held.1 (ascending-rest prop_before j js ordered) is)
-    ∙ ap (λ b. cond (not b) (j ∷ without_prop k.id js) (without_prop k.id js)) (sym (turned_other k.id j.id other))
+    ∙ ap (λ b. cond (not b) (j ∷ without_prop k.id js) (without_prop k.id js)) (sym (eqb-turned k.id j.id other))
 
 -- others read elsewhere
 AllHeld-without : (property_at new : ℕ → Option Property) (p : ℕ) (ks : List KeptProp) → AllHeld property_at ks → ((n : ℕ) → (n ≡ p → ⊥) → new n ≡ property_at n) →

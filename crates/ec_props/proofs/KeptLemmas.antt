@@ -26,9 +26,6 @@ same_number a b e = grind arith
 pub itself : (n : ℕ) → (n == n) ≡ true
 itself n = grind arith
 
-pub turned_other : (a b : ℕ) → (a == b) ≡ false → (b == a) ≡ false
-turned_other a b e = grind arith
-
 or_left-false : (a b : Bool) → (a || b) ≡ false → a ≡ false
 or_left-false a b = grind arith
 

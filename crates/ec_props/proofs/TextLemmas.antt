@@ -33,7 +33,7 @@ prop_of-unnamed number_at term ks bad found =
     ap (option_map (λ (k : KeptProp). k.id)) (find-none (λ (k : KeptProp). term_eq k.term term) ks (no_such term ks bad found.names))
 
 -- the number that a term finds has that term
-found_own : (term : Ground) (id : ℕ) (all ks : List KeptProp) → All (λ (k : KeptProp). prop_at k.id all ≡ Some k) ks → prop_of term ks ≡ Some id → term_at id all ≡ Some term
+pub found_own : (term : Ground) (id : ℕ) (all ks : List KeptProp) → All (λ (k : KeptProp). prop_at k.id all ≡ Some k) ks → prop_of term ks ≡ Some id → term_at id all ≡ Some term
 found_own term id all [] own is = cc
 found_own term id all (k ∷ ks) own is =
     ⊎_elim
