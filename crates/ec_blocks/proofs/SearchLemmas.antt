@@ -1,9 +1,9 @@
 -- A search over blocks: first among their last members, then within one of them.
-use Rattle.std.proofs.Common.{◌≡◌, ℕ, ◌+◌, ◌-◌, ◌<◌, ◌≤◌, zero, suc, Bool, true, false, List, [], ◌∷◌, length, map, get_or, Some, None, refl, sym, ap, ◌∙◌, ◌⊎◌, ⊎_elim, true≢false, add-one, arith}
+use Rattle.std.proofs.Common.{◌≡◌, ℕ, ◌+◌, ◌-◌, ◌<◌, ◌≤◌, zero, suc, Bool, true, false, List, [], ◌∷◌, length, map, get_or, drop, Some, None, refl, sym, ap, ◌∙◌, ◌⊎◌, ⊎_elim, true≢false, add-one, length-drop, arith}
 use Rattle.std.specs.List.{list_all}
 use Rattle.std.specs.List.Sorted.{IsPartitionedBy, IsPartitionPoint}
 use Rattle.std.proofs.lemmas.Bool.{cases_Bool, cases_lt}
-use Rattle.std.proofs.lemmas.List.{get_or-map, length-map}
+use Rattle.std.proofs.lemmas.List.{get_or-map, get_or-drop, length-map}
 use Rattle.std.proofs.lemmas.List.Concat.{get_or-flat_map}
 use Rattle.std.proofs.lemmas.Option.{get_or_from_slice_get}
 use Rattle.ec_blocks.specs.Chain.{joined, block_at, start_of, last_of, is_block}
@@ -121,3 +121,19 @@ module _ {X : Type 0} (p : X → Bool) (blocks : List (List X)) (all : list_all 
         IsPartitionPoint-from_edges p (joined blocks) (length (joined blocks)) parted
         (λ d some. ap (λ n. p (get_or (joined blocks) n d)) (omega (arith, start_of-all blocks, ap (λ n. start_of n blocks) end)) ∙ ap p (last-stands m d (omega arith)) ∙ front m d refl)
         (λ d inside. absurd (omega arith)) (omega arith)
+
+    -- as the last of all tells
+    pub found-passed : (count c : ℕ) (tail : List X) → count ≡ length blocks → 1 ≤ count → tail ≡ drop (count - 1) lasts → c ≡ 1 →
+        (IsPartitionedBy p tail → IsPartitionPoint (λ x. p x ≡ true) (λ x. p x ≡ false) tail c) →
+        IsPartitionPoint (λ x. p x ≡ true) (λ x. p x ≡ false) (joined blocks) (length (joined blocks))
+    found-passed count c tail count_is some tail_is one cut =
+        found-behind (length blocks) refl (λ m d end. ap p (sym (at m d end)) ∙ (cut alone).0 0 d (omega arith) (omega arith))
+      where
+        tail-length : length tail ≡ 1
+        tail-length = ap length tail_is ∙ length-drop (count - 1) lasts ∙ (omega (arith, lasts-length))
+
+        at : (m : ℕ) (d : X) → length blocks ≡ suc m → get_or tail 0 d ≡ get_or lasts m d
+        at m d end = ap (λ xs. get_or xs 0 d) tail_is ∙ get_or-drop (count - 1) lasts 0 d ∙ ap (λ j. get_or lasts j d) (omega arith)
+
+        alone : IsPartitionedBy p tail
+        alone i j d le inside passes = ap (λ n. p (get_or tail n d)) (omega (arith, tail-length)) ∙ passes

@@ -152,12 +152,27 @@ impl<X: Copied + Drop> Chain<X> {
         self.starts.count_up_to(i) - 1
     }
 
+    /// Whether all members pass a test, as the last one tells. Most of what is sought is at the end.
+    fn is_passed<F: Fn(&X) -> bool>(&self, pred: &F) -> bool
+        requires { F.IsAlwaysCallable pred.now }
+        ensures { (p : X → Bool) → ComputesKey F.FnMut p pred.now → IsPartitionedBy p (joined self.now.blocks) → result ≡ true → IsPartitionPoint (λ x. p x ≡ true) (λ x. p x ≡ false) (joined self.now.blocks) (length (joined self.now.blocks)) }
+    {
+        let count = self.lasts.len();
+        if count == 0 {
+            return false;
+        }
+        cut(&self.lasts[count - 1..], pred) == 1
+    }
+
     /// The place where the members that pass a test end.
     pub(crate) fn partition_point<F: Fn(&X) -> bool>(&self, pred: &F) -> usize
         requires { F.IsAlwaysCallable pred.now }
         ensures bound { result ≤ length (joined self.now.blocks) }
         ensures partitioned { (p : X → Bool) → ComputesKey F.FnMut p pred.now → IsPartitionedBy p (joined self.now.blocks) → IsPartitionPoint (λ x. p x ≡ true) (λ x. p x ≡ false) (joined self.now.blocks) result }
     {
+        if self.is_passed(pred) {
+            return self.total();
+        }
         let k = cut(&self.lasts, pred);
         if k == self.blocks.len() {
             return self.total();

@@ -1,5 +1,5 @@
 //! Where blocks begin, kept so that all that begin behind a block are raised or lowered together.
-ghost use Rattle.std.specs.Prelude.{◌≡◌, ℕ, ◌+◌, ◌-◌, ◌*◌, ◌/◌, ◌%◌, ◌^◌, ◌<◌, ◌≤◌, ◌++◌, ◌∷◌, [], ◌⊎◌, IsTrue, true, false, OnOk, nat_lt, nat_le, length, take, drop, map, vec_len, slice_index_or};
+ghost use Rattle.std.specs.Prelude.{◌≡◌, ℕ, ◌+◌, ◌-◌, ◌*◌, ◌/◌, ◌%◌, ◌^◌, ◌<◌, ◌≤◌, ◌++◌, ◌∷◌, [], ◌⊎◌, if◌then◌else◌, IsTrue, true, false, OnOk, nat_lt, nat_le, length, take, drop, map, vec_len, slice_index_or};
 ghost use Rattle.std.specs.List.{insert, remove, list_all};
 ghost use Rattle.std.specs.List.Sorted.{IsNonDecreasingBy, IsPartitionPoint};
 ghost use Rattle.ec_blocks.specs.Starts.{number_at};
@@ -53,23 +53,28 @@ impl Starts {
         self.parts[k].wrapping_add(self.bases[k / GROUP])
     }
 
-    /// How many numbers are up to one, where they never fall.
+    /// How many numbers are up to one, where they never fall. The last is looked at first, since most calls are about the end.
     pub(crate) fn count_up_to(&self, i: usize) -> usize
         requires { IsNonDecreasingBy (λ start. start) self.now.items }
         ensures within { result ≤ length self.now.items }
         ensures cut { IsPartitionPoint (λ start. nat_le start i ≡ true) (λ start. nat_le start i ≡ false) self.now.items result }
     {
-        let mut low = 0;
-        let mut high = self.parts.len();
-        while low < high {
-            let middle = low + (high - low) / 2;
-            if self.get(middle) <= i {
-                low = middle + 1;
-            } else {
-                high = middle;
-            }
+        let count = self.parts.len();
+        if count == 0 {
+            return 0;
         }
-        low
+        if self.get(count - 1) <= i {
+            return count;
+        }
+        let mut low = 0;
+        let mut size = count - 1;
+        while 1 < size {
+            let half = size / 2;
+            let middle = low + half;
+            low = choose(self.get(middle) <= i, middle, low);
+            size -= half;
+        }
+        choose(self.get(low) <= i, low + 1, low)
     }
 
     /// Adds 1 to the numbers behind a place.
@@ -158,6 +163,13 @@ impl Starts {
     {
         self.parts.clear();
     }
+}
+
+/// One of two numbers.
+fn choose(first: bool, one: usize, other: usize) -> usize
+    ensures { result ≡ (if first then one else other) }
+{
+    if first { one } else { other }
 }
 
 /// Adds a number, modulo 2^64, to those from one place up to another.

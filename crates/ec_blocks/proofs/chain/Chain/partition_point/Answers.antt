@@ -17,7 +17,7 @@ returns-then-k-len-clause-partitioned g c p computes parted =
     let are = ap (map (λ x. Some x)) c.deref.ensures.value ∙ c.self.invariant.0.lasts_are ∙ ap (λ v. map last_of v.blocks) c.self.view_is in
     let count : length c.args.self.now.blocks ≡ length c.self.inside.blocks.items = ap (λ v. length v.blocks) (sym c.self.view_is) ∙ length-map c.self.inside.blocks.items (λ b. b.items) in
     let cut = c.cut-k.ensures.partitioned p computes (lasts-parted p c.args.self.now.blocks all parted c.deref.result.now are) in
-    subst (λ (n : ℕ). IsPartitionPoint (λ x. p x ≡ true) (λ x. p x ≡ false) (joined c.args.self.now.blocks) n) (sym c.total.ensures)
+    subst (λ (n : ℕ). IsPartitionPoint (λ x. p x ≡ true) (λ x. p x ≡ false) (joined c.args.self.now.blocks) n) (sym c.total-then-k-len.ensures)
     (found-behind p c.args.self.now.blocks all parted c.deref.result.now are c.cut-k.result (omega arith) (λ m d e. cut.0 m d (omega arith) (omega (arith, e))))
 
 pub get-requires : goal.get-requires

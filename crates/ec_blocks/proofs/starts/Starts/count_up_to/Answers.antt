@@ -1,30 +1,23 @@
 -- The halves meet where the numbers go beyond the one.
-use Rattle.std.proofs.Common.{◌≡◌, ℕ, ◌<◌, ◌≤◌, true, false, length, ap, arith}
+use Rattle.std.proofs.Common.{◌≡◌, ℕ, ◌-◌, true, false, length, sym, ap, subst, arith}
 use Rattle.std.specs.Prelude.{nat_le}
-use Rattle.std.proofs.lemmas.Bool.Decides.{nat_tests}
-use Rattle.std.proofs.lemmas.List.{get_or_default}
+use Rattle.std.specs.List.Sorted.{IsPartitionPoint}
 use Rattle.ec_blocks.proofs.NumberLemmas.{numbers-length}
+use Rattle.ec_blocks.proofs.HalvingLemmas.{bracketed-none, bracketed-cut}
 use Rattle.ec_blocks.proofs.starts.Starts.count_up_to.Goals as goal
 
-pub loop-low-init : goal.loop-low-init
-loop-low-init c =
-    let count = numbers-length c.self.inside.parts.items c.self.inside.bases.items in
-    let same = ap (λ v. length v.items) c.self.view_is in
-    record {
-      ordered = omega arith;
-      within = omega (arith, count, same);
-      before = λ k less. absurd (omega arith);
-      behind = λ k ge inside. absurd (omega (arith, count, same));
-    }
+pub get-requires : goal.get-requires
+get-requires c = omega (arith, ap (λ v. length v.items) c.self.view_is, numbers-length c.self.inside.parts.items c.self.inside.bases.items)
 
-upto : (n m i : ℕ) → n ≡ m → m ≤ i → nat_le n i ≡ true
-upto n m i same le = grind (arith, nat_tests)
+pub returns-then-get-i-clause-within : goal.returns-then-get-i-clause-within
+returns-then-get-i-clause-within c = omega (arith, ap (λ v. length v.items) c.self.view_is, numbers-length c.self.inside.parts.items c.self.inside.bases.items)
 
-beyond : (n m i : ℕ) → n ≡ m → i < m → nat_le n i ≡ false
-beyond n m i same less = grind (arith, nat_tests)
+pub returns-then-get-i-clause-cut : goal.returns-then-get-i-clause-cut
+returns-then-get-i-clause-cut c =
+    bracketed-none c.args.self.now.items c.args.i c.requires c.len-count.result (c.len-count.result - 1) c.get.result
+    (omega (arith, ap (λ v. length v.items) c.self.view_is, numbers-length c.self.inside.parts.items c.self.inside.bases.items)) (omega arith) c.get.ensures (omega arith)
 
 pub returns-clause-cut : goal.returns-clause-cut
-returns-clause-cut c = (
-  λ k d _ less. upto _ _ c.args.i (get_or_default c.args.self.now.items k d 0 (omega arith)) (c.loop-low.invariant.before k less),
-  λ k d ge inside. beyond _ _ c.args.i (get_or_default c.args.self.now.items k d 0 inside) (c.loop-low.invariant.behind k (omega arith) inside),
-)
+returns-clause-cut c =
+    subst (λ (n : ℕ). IsPartitionPoint (λ m. nat_le m c.args.i ≡ true) (λ m. nat_le m c.args.i ≡ false) c.args.self.now.items n) (sym c.choose.ensures)
+    (bracketed-cut c.args.self.now.items c.args.i c.requires c.loop-size.low c.loop-size.size c.get-2.result c.loop-size.invariant (omega arith) c.get-2.ensures)

@@ -1,0 +1,51 @@
+-- A search that halves what is left: numbers in front that are up to one, and numbers behind that are beyond it.
+use Rattle.std.proofs.Common.{◌≡◌, ℕ, ◌+◌, ◌<◌, ◌≤◌, Bool, true, false, if◌then◌else◌, List, length, get_or, refl, arith}
+use Rattle.std.specs.Prelude.{nat_le}
+use Rattle.std.specs.List.Sorted.{IsNonDecreasingBy, IsPartitionPoint}
+use Rattle.std.proofs.lemmas.Bool.Decides.{nat_tests}
+use Rattle.std.proofs.lemmas.List.{get_or_default}
+
+-- between the two there are some numbers that have not been looked at
+pub record Bracketed (ns : List ℕ) (i low size : ℕ) : Type 0 where
+  pub within : low + size < length ns
+  pub before : (k : ℕ) → k < low → get_or ns k 0 ≤ i
+  pub behind : (k : ℕ) → low + size ≤ k → k < length ns → i < get_or ns k 0
+
+upto : (n i : ℕ) → nat_le n i ≡ true → n ≤ i
+upto n i test = grind (arith, nat_tests)
+
+beyond : (n i : ℕ) → nat_le n i ≡ false → i < n
+beyond n i test = grind (arith, nat_tests)
+
+is_upto : (n i : ℕ) → n ≤ i → nat_le n i ≡ true
+is_upto n i le = grind (arith, nat_tests)
+
+is_beyond : (n i : ℕ) → i < n → nat_le n i ≡ false
+is_beyond n i less = grind (arith, nat_tests)
+
+module _ (ns : List ℕ) (i : ℕ) (rise : IsNonDecreasingBy (λ n. n) ns) where
+  -- all, where the last is up to the one
+  pub bracketed-none : (count last n : ℕ) → count ≡ length ns → last + 1 ≡ count → n ≡ get_or ns last 0 → n ≤ i →
+      IsPartitionPoint (λ m. nat_le m i ≡ true) (λ m. nat_le m i ≡ false) ns count
+  bracketed-none count last n same end is le = (
+    λ k d _ less. is_upto _ i (omega (arith, get_or_default ns k d 0 (omega arith), rise k last 0 (omega arith) (omega arith))),
+    λ k d ge inside. absurd (omega arith),
+  )
+
+  -- and one number that was not looked at
+  pub bracketed-cut : (low size n : ℕ) → Bracketed ns i low size → size ≤ 1 → n ≡ get_or ns low 0 →
+      IsPartitionPoint (λ m. nat_le m i ≡ true) (λ m. nat_le m i ≡ false) ns (if nat_le n i then low + 1 else low)
+  bracketed-cut low size n found few is = cuts (nat_le n i) refl
+    where
+      at : (k d : ℕ) → k < length ns → get_or ns k d ≡ get_or ns k 0
+      at k d inside = get_or_default ns k d 0 inside
+
+      cuts : (test : Bool) → nat_le n i ≡ test → IsPartitionPoint (λ m. nat_le m i ≡ true) (λ m. nat_le m i ≡ false) ns (if test then low + 1 else low)
+      cuts true passes = (
+        λ k d _ less. is_upto _ i (let within = found.within in omega (arith, at k d (omega arith), upto n i passes, rise k low 0 (omega arith) (omega arith))),
+        λ k d ge inside. is_beyond _ i (omega (arith, at k d inside, found.behind k (omega arith) inside)),
+      )
+      cuts false fails = (
+        λ k d _ less. is_upto _ i (let within = found.within in omega (arith, at k d (omega arith), found.before k less)),
+        λ k d ge inside. is_beyond _ i (omega (arith, at k d inside, beyond n i fails, rise low k 0 ge inside)),
+      )
