@@ -12,13 +12,13 @@ use Rattle.ec_rows.specs.Marks.{IsMarkRow, is_counted, mark_before, mark_at, mar
 use Rattle.ec_rows.specs.Ordered.{is_ascending}
 use Rattle.ec_rows.proofs.KnownByTimes.{by_time-ext}
 use Rattle.ec_rows.proofs.OrderedLemmas.{and-left, and-right, ascending-first, ascending-rest, is_ascending-filter}
-use Rattle.ec_intervals.proofs.SpanCuts.{list_all-kept}
 use Rattle.ec_intervals.proofs.PassOrder.{list_all-cons, is_ascending-cons}
 use Rattle.ec_intervals.proofs.TwoRows.{list_all-both}
 use Rattle.ec_lists.proofs.Booleans.{cond-same}
 use Rattle.ec_lists.proofs.Finds.{find-filter, find_agree, find-none}
 use Rattle.ec_lists.proofs.Integers.{int_eq-is, int_lt-not_after}
 use Rattle.ec_lists.proofs.Tests.{list_all-weaker, list_all-each, list_all-filter, list_any-none}
+use Rattle.ec_lists.proofs.Filters.{list_all-kept}
 
 -- ---- lists
 

@@ -5,7 +5,7 @@ mod Cut
 mod TwoRows
 mod SpanCuts
 mod Reading
-mod Spliced
+pub mod Spliced
 mod Walking
 mod Covering
 pub mod OneMark

@@ -7,8 +7,7 @@ use Rattle.std.proofs.lemmas.List.Elements.{filter-append}
 use Rattle.ec_axioms.proofs.Ranks.{int_lt-same}
 use Rattle.ec_rows.specs.Marks.{marks_before, marks_after, with_mark}
 use Rattle.ec_rows.specs.declared.mark.Mark.{Mark}
-use Rattle.ec_intervals.proofs.SpanCuts.{list_all-kept}
-use Rattle.ec_lists.proofs.Filters.{filter-none, filter-all}
+use Rattle.ec_lists.proofs.Filters.{filter-none, filter-all, list_all-kept}
 use Rattle.ec_lists.proofs.Tests.{list_any-none, list_all-weaker}
 
 module _ {T : Type 0} (rank : T → ℤ) (mark : Mark T) (marks : List (Mark T)) where

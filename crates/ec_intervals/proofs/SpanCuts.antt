@@ -20,7 +20,7 @@ use Rattle.ec_rows.proofs.SpanLemmas.{by_time-from_row}
 use Rattle.ec_intervals.specs.Steps.{ends_before, begins_behind}
 use Rattle.ec_intervals.specs.Table.{plain_spans, plain_interval, plain_end, span_interval, spans_up_to}
 use Rattle.ec_lists.proofs.Tests.{list_any-none, list_all-weaker}
-use Rattle.ec_lists.proofs.Filters.{filter-none}
+use Rattle.ec_lists.proofs.Filters.{filter-none, list_all-kept}
 
 -- ---- lists
 
@@ -47,15 +47,6 @@ take-cut p xs both = ap (take (length (filter p xs))) (sym both) ∙ take-append
 
 pub drop-cut : {X : Type 0} (p : X → Bool) (xs : List X) → filter p xs ++ filter (λ x. not (p x)) xs ≡ xs → drop (length (filter p xs)) xs ≡ filter (λ x. not (p x)) xs
 drop-cut p xs both = ap (drop (length (filter p xs))) (sym both) ∙ drop-append_seam (filter p xs) (filter (λ x. not (p x)) xs)
-
--- what a filter keeps passes
-pub list_all-kept : {X : Type 0} (p : X → Bool) (xs : List X) → list_all p (filter p xs) ≡ true
-list_all-kept p [] = refl
-list_all-kept p (x ∷ xs) = here (p x) refl (list_all-kept p xs)
-  where
-    here : (b : Bool) → p x ≡ b → list_all p (filter p xs) ≡ true → list_all p (cond b (x ∷ filter p xs) (filter p xs)) ≡ true
-    here true is rest = ap (λ b. b && list_all p (filter p xs)) is ∙ rest
-    here false is rest = rest
 
 length-kept : {X : Type 0} (p : X → Bool) (n : ℕ) (xs : List X) → n ≤ length xs → list_all p (take n xs) ≡ true → n ≤ length (filter p xs)
 length-kept p zero xs within all = omega arith

@@ -12,9 +12,10 @@ use Rattle.std.proofs.lemmas.List.Filters.{length-filter_both}
 use Rattle.std.proofs.Math.ListN.{drop_of_length-le}
 use Rattle.std.proofs.lemmas.List.Folds.{list_all-map}
 use Rattle.std.proofs.lemmas.List.Elements.{filter-append}
+use Rattle.std.proofs.Math.Bool.{not-not}
 use Rattle.ec_axioms.specs.Timeline.{Begin, before_all, begin_at, Interval as PlainInterval}
 use Rattle.ec_axioms.specs.Marks.{PlainMark, spans_of}
-use Rattle.ec_axioms.proofs.Members.{IsMember, IsMember_at, filter-map, IsMember-append_right, IsMember-map}
+use Rattle.ec_axioms.proofs.Members.{IsMember, filter-map, IsMember-append_right, IsMember-map, IsMember-slice_get, IsMember-append_left, filter_agree}
 use Rattle.ec_axioms.proofs.Ranks.{int_lt-same}
 use Rattle.ec_rows.specs.Marks.{IsMarkRow, mark_before, marks_before, marks_after}
 use Rattle.ec_rows.specs.PlainMarks.{plain_mark, plain_marks}
@@ -34,20 +35,13 @@ use Rattle.ec_intervals.specs.Table.{front_members, span_interval, plain_begin, 
 use Rattle.ec_intervals.proofs.Pass.{IsPlainRow, plain_before, behind_first, pass, interval_by, pass-spans_of}
 use Rattle.ec_intervals.proofs.Written.{IsPlainRow-from_row, IsIntervalRow-spans_of, IsSpanRow-members}
 use Rattle.ec_intervals.proofs.Cut.{cut-front, cut-behind, IsPlainRow-behind, pass-append, pass-spelt_through, ended_through-begins, open_through-begins}
-use Rattle.ec_intervals.proofs.SpanCuts.{filter-both, take-cut, drop-cut, list_all-kept, plain-take, plain-drop, reaching-lasts, taken-up_to, dropped-up_to}
-use Rattle.ec_intervals.proofs.TwoRows.{is_start, kept-taken, opened-by, kept-before_all, front-kept, new-spelt, list_all-both, IsMember-front}
+use Rattle.ec_intervals.proofs.SpanCuts.{filter-both, take-cut, drop-cut, plain-take, plain-drop, reaching-lasts, taken-up_to, dropped-up_to}
+use Rattle.ec_intervals.proofs.TwoRows.{is_start, kept-taken, opened-by, kept-before_all, front-kept, new-spelt, list_all-both}
 use Rattle.ec_intervals.proofs.Reading.{up_to-None, first_behind-None, up_to_all, none_behind-up_to, none_behind-find}
 use Rattle.ec_lists.proofs.Tests.{list_any-none, list_all-weaker, list_all-each}
-use Rattle.ec_lists.proofs.Filters.{filter-none, length-filter_wider}
+use Rattle.ec_lists.proofs.Filters.{filter-none, length-filter_wider, list_all-kept}
 
 -- ---- lists
-
-filter_same : {X : Type 0} (p q : X → Bool) → ((x : X) → p x ≡ q x) → (xs : List X) → filter p xs ≡ filter q xs
-filter_same p q same [] = refl
-filter_same p q same (x ∷ xs) = ap₂ (λ b ys. cond b (x ∷ ys) ys) (same x) (filter_same p q same xs)
-
-pub IsMember-slice_get : {X : Type 0} (xs : List X) (i : ℕ) (x : X) → slice_get xs i ≡ Some x → IsMember xs x
-IsMember-slice_get xs i x read = IsMember_at xs x i (slice_get_within xs i x read) (get_or_from_slice_get xs i x x read)
 
 -- a member of the rest of a list
 pub slice_get-drop : {X : Type 0} (xs : List X) (n i : ℕ) (x : X) → slice_get xs (n + i) ≡ Some x → slice_get (drop n xs) i ≡ Some x
@@ -138,7 +132,7 @@ module _ {T : Type 0} (rank : T → ℤ) where
       rest-split =
           sym (filter-both plain_before (λ (m : PlainMark). not (int_lt b m.instant)) (λ m n. keeps m.instant n.instant) rest (IsPlainRow-behind earlier rest row-rest).ascending)
           ∙ ap (λ ms. within ++ ms)
-          (filter_same (λ (m : PlainMark). not (not (int_lt b m.instant))) (λ (m : PlainMark). int_lt b m.instant) (λ m. twice (int_lt b m.instant)) rest
+          (filter_agree (λ (m : PlainMark). not (not (int_lt b m.instant))) (λ (m : PlainMark). int_lt b m.instant) rest (λ m member. not-not (int_lt b m.instant))
           ∙ ap (λ ms. ms ++ filter (λ (m : PlainMark). int_lt b m.instant) rest)
           (sym (filter-none (λ (m : PlainMark). int_lt b m.instant) earlier (list_any-none (λ (m : PlainMark). int_lt b m.instant) earlier (list_all-weaker (λ (m : PlainMark). int_lt m.instant a) (λ (m : PlainMark). not (int_lt b m.instant)) (λ m. early m.instant) earlier earlier-before))))
           ∙ sym (filter-append (λ (m : PlainMark). int_lt b m.instant) earlier rest) ∙ ap (filter (λ (m : PlainMark). int_lt b m.instant)) (sym earlier-rest)
@@ -146,10 +140,6 @@ module _ {T : Type 0} (rank : T → ℤ) where
         where
           keeps : (x y : ℤ) → int_lt x y ≡ true → not (int_lt b y) ≡ true → not (int_lt b x) ≡ true
           keeps x y before up_to = grind (arith, ints)
-
-          twice : (c : Bool) → not (not c) ≡ c
-          twice true = refl
-          twice false = refl
 
           early : (x : ℤ) → int_lt x a ≡ true → not (int_lt b x) ≡ true
           early x before = grind (arith, ints)
@@ -324,7 +314,7 @@ module _ {T : Type 0} (rank : T → ℤ) where
 
     -- the front of them
     pub opened-front : list_any (λ i. not (ends_before a i)) (plain_intervals rank (front_members front)) ≡ true → opened ≡ Some before_all
-    opened-front reaches = by_front front reaches (λ end member. opened-interval (plain_interval rank (record { from = Initial; end = end })) (IsMember-front (plain_intervals rank (front_members front)) (plain_spans rank spans) (plain_interval rank (record { from = Initial; end = end })) member))
+    opened-front reaches = by_front front reaches (λ end member. opened-interval (plain_interval rank (record { from = Initial; end = end })) (IsMember-append_left (plain_intervals rank (front_members front)) (plain_spans rank spans) (plain_interval rank (record { from = Initial; end = end })) member))
       where
         by_front : (front' : Option (End T)) → list_any (λ i. not (ends_before a i)) (plain_intervals rank (front_members front')) ≡ true →
             ((end : End T) → IsMember (plain_intervals rank (front_members front')) (plain_interval rank (record { from = Initial; end = end })) →

@@ -10,7 +10,7 @@ use Rattle.std.proofs.lemmas.List.Folds.{list_all-append}
 use Rattle.std.proofs.lemmas.List.Elements.{filter-append}
 use Rattle.ec_axioms.specs.Timeline.{Begin, before_all, begin_at, Interval}
 use Rattle.ec_axioms.specs.Marks.{PlainMark, is_marked, mark_initiates, mark_terminates, mark_breaks}
-use Rattle.ec_axioms.proofs.Members.{IsMember, IsMember-append_cases, list_all-member, list_all-from_members, find-Some}
+use Rattle.ec_axioms.proofs.Members.{IsMember, IsMember-append_cases, list_all-member, list_all-from_members, find-Some, IsMember-append_left}
 use Rattle.ec_axioms.proofs.Ranks.{int_le-not_before}
 use Rattle.ec_rows.proofs.OrderedLemmas.{and-left, and-right}
 use Rattle.ec_intervals.specs.Steps.{first_open, begins_where, ends_where, ends_before, begins_behind, lasting, open_through, ended_through, ends_by, end_behind}
@@ -47,11 +47,6 @@ end_behind-last t xs (Some i) front last =
     here : (b : Bool) → not b ≡ true → cond b None (Some i.until) ≡ Some i.until
     here true n = absurd (false≢true n)
     here false n = refl
-
-pub IsMember-front : {X : Type 0} (xs ys : List X) (x : X) → IsMember xs x → IsMember (xs ++ ys) x
-IsMember-front [] ys x member = absurd member
-IsMember-front (y ∷ xs) ys x (inl same) = inl same
-IsMember-front (y ∷ xs) ys x (inr rest) = inr (IsMember-front xs ys x rest)
 
 -- ---- tests
 
@@ -145,7 +140,7 @@ module _ (strong initial : Bool) (a b : ℤ) (before : List PlainMark) (front st
         each i member (inl ends) = ends
         each i member (inr goes_on) =
             let begin : i.from ≡ before_all = not-start i.from (not-true (is_start i.from) (list_all-member (λ (j : Interval). not (is_start j.from)) front i in_front member)) in
-            absurd (other (opened-by i (IsMember-front front starts i member) goes_on (ap (begins_where (λ s. not (int_lt s a))) begin) ∙ ap Some begin))
+            absurd (other (opened-by i (IsMember-append_left front starts i member) goes_on (ap (begins_where (λ s. not (int_lt s a))) begin) ∙ ap Some begin))
 
   -- ---- the marks up to the window's end and the first one behind it, m, with those that follow
 

@@ -8,7 +8,7 @@ use Rattle.std.proofs.lemmas.List.{map-append, append_assoc}
 use Rattle.std.proofs.Math.Seq.{take-suc}
 use Rattle.ec_axioms.specs.Timeline.{Begin, before_all, begin_at, Interval as PlainInterval}
 use Rattle.ec_axioms.specs.Marks.{mark_initiates, mark_breaks}
-use Rattle.ec_axioms.proofs.Members.{list_all-member}
+use Rattle.ec_axioms.proofs.Members.{list_all-member, IsMember-slice_get}
 use Rattle.ec_rows.specs.Marks.{IsMarkRow, is_counted}
 use Rattle.ec_rows.specs.PlainMarks.{plain_mark, plain_marks}
 use Rattle.ec_rows.specs.declared.mark.Mark.{Mark}
@@ -19,7 +19,6 @@ use Rattle.ec_intervals.specs.Table.{front_members, span_interval, plain_end, pl
 use Rattle.ec_intervals.proofs.Pass.{is_some-open_behind}
 use Rattle.ec_intervals.proofs.Cut.{open_through-append}
 use Rattle.ec_intervals.proofs.TwoRows.{last_or-one_more}
-use Rattle.ec_intervals.proofs.Spliced.{IsMember-slice_get}
 
 module _ {T : Type 0} (rank : T → ℤ) (marks : List (Mark T)) (strong initial : Bool) where
   -- the begin that is open behind the first i marks

@@ -1,16 +1,15 @@
 -- Numbers that ascend, one after the other.
-use Rattle.std.proofs.Common.{◌≡◌, ℕ, ◌+◌, ◌<◌, true, false, not, List, [], ◌∷◌, ◌++◌, take, get_or, length, refl, sym, ap₂, ◌∙◌, arith, suc, zero}
-use Rattle.std.specs.Prelude.{◌==◌, nat_lt}
+use Rattle.std.proofs.Common.{◌≡◌, ℕ, ◌+◌, ◌<◌, true, not, List, [], ◌∷◌, ◌++◌, take, get_or, length, refl, sym, ap₂, ◌∙◌, arith, suc, zero}
+use Rattle.std.specs.Prelude.{nat_lt}
 use Rattle.std.specs.List.{list_all}
 use Rattle.std.proofs.lemmas.Bool.{and_from}
-use Rattle.std.proofs.lemmas.List.{take_more, get_or_default}
+use Rattle.std.proofs.lemmas.List.{take_more}
 use Rattle.ec_lists.proofs.Filters.{filter-none}
 use Rattle.ec_lists.proofs.Tests.{list_any-none, list_all-weaker, list_all-get_or}
-use Rattle.ec_axioms.proofs.Members.{filter_all, list_all-member, IsMember_at, member-list_any}
+use Rattle.ec_axioms.proofs.Members.{filter_all, list_all-member}
 use Rattle.ec_terms.specs.declared.ids.PropId.{PropId}
 use Rattle.ec_rows.proofs.OrderedLemmas.{ascending-first, ascending-rest}
-use Rattle.ec_numbered.specs.PropSet.{has_number, comes_before, are_ascending, with_number}
-use Rattle.ec_numbered.proofs.Numbers.{itself}
+use Rattle.ec_numbered.specs.PropSet.{comes_before, are_ascending, with_number}
 
 -- those in front of a place come before the one there
 before-get : (ps : List PropId) (i : ℕ) (d : PropId) → are_ascending ps ≡ true → i < length ps → list_all (λ q. comes_before q (get_or ps i d)) (take i ps) ≡ true
@@ -19,15 +18,6 @@ before-get (q ∷ ps) zero d ascend below = refl
 before-get (q ∷ ps) (suc i) d ascend below =
     let later : i < length ps = omega arith in
     and_from _ _ (list_all-get_or (comes_before q) ps i d (ascending-first comes_before q ps ascend) later) (before-get ps i d (ascending-rest comes_before q ps ascend) later)
-
--- so it is not among them
-pub absent-get : (ps : List PropId) (i : ℕ) (d : PropId) → are_ascending ps ≡ true → i < length ps → has_number (get_or ps i d).0 (take i ps) ≡ false
-absent-get ps i d ascend below =
-    list_any-none (λ (q : PropId). q.0 == (get_or ps i d).0) (take i ps)
-    (list_all-weaker (λ (q : PropId). comes_before q (get_or ps i d)) (λ (q : PropId). not (q.0 == (get_or ps i d).0)) (λ q before. other q.0 (get_or ps i d).0 before) (take i ps) (before-get ps i d ascend below))
-  where
-    other : (a b : ℕ) → nat_lt a b ≡ true → not (a == b) ≡ true
-    other a b less = grind arith
 
 -- and its place is behind them
 pub with_number-get : (ps : List PropId) (i : ℕ) (d : PropId) → are_ascending ps ≡ true → i < length ps → with_number (get_or ps i d) (take i ps) ≡ take (i + 1) ps
@@ -41,8 +31,3 @@ with_number-get ps i d ascend below =
   where
     other : (a b : ℕ) → nat_lt a b ≡ true → not (nat_lt b a) ≡ true
     other a b less = grind arith
-
--- a member is one of them
-pub has_number-get : (ps : List PropId) (i : ℕ) (d : PropId) → i < length ps → has_number (get_or ps i d).0 ps ≡ true
-has_number-get ps i d below =
-    member-list_any (λ (q : PropId). q.0 == (get_or ps i d).0) ps (get_or ps i d) (IsMember_at ps (get_or ps i d) i below (get_or_default ps i (get_or ps i d) d below)) (itself (get_or ps i d))

@@ -1,6 +1,6 @@
 -- The caches of a list stay its caches where the table changes in nothing that is live in that list.
-use Rattle.std.proofs.Common.{◌≡◌, ℕ, ℤ, true, false, Bool, List, [], ◌∷◌, map, Option, Some, None, is_some, IsSome, refl, sym, ap, ap₂, subst, ◌∙◌, inl, inr}
-use Rattle.std.specs.Prelude.{◌==◌, option_map, option_and_then, flat_map, find}
+use Rattle.std.proofs.Common.{◌≡◌, ℕ, ℤ, true, false, Bool, List, Option, Some, None, is_some, IsSome, refl, sym, ap, subst, ◌∙◌, inl, inr}
+use Rattle.std.specs.Prelude.{◌==◌, option_map, flat_map, find}
 use Rattle.std.proofs.lemmas.Bool.{false≢true, or_right}
 use Rattle.ec_terms.specs.declared.ids.Slot.{Slot}
 use Rattle.ec_terms.specs.declared.ground.Ground.{Ground}
@@ -8,8 +8,6 @@ use Rattle.ec_terms.specs.declared.theory.Theory.{Theory}
 use Rattle.ec_terms.specs.Term.{term_eq}
 use Rattle.ec_terms.specs.Domain.{GroundLiteral, GroundEntry, entries_of, is_initial}
 use Rattle.ec_terms.proofs.DomainLemmas.{term_eq-refl}
-use Rattle.ec_terms.proofs.OrderLemmas.{term_eq-Decides}
-use Rattle.ec_lists.proofs.Finds.{is_some-find}
 use Rattle.ec_lists.proofs.Options.{Some-from_is_some, is_some-option_map}
 use Rattle.ec_axioms.specs.declared.event.Event.{Event}
 use Rattle.ec_axioms.specs.Calculus.{PlainEvent}
@@ -19,7 +17,9 @@ use Rattle.ec_axioms.proofs.Members.{IsMember, IsMember-map, find-Some, member-l
 use Rattle.ec_changes.proofs.JoinedMembers.{IsMember-flat_map}
 use Rattle.ec_context.specs.declared.entry.Entry.{Entry}
 use Rattle.ec_context.specs.declared.entry.EntryLiteral.{EntryLiteral}
-use Rattle.ec_context.specs.Entries.{each_of, shown_literal, shown_literals, shown_entry, shown_entries}
+use Rattle.ec_context.specs.Entries.{shown_literal, shown_entry, shown_entries}
+use Rattle.ec_context.proofs.EachOf.{each_of-moved}
+use Rattle.ec_context.proofs.Shown.{IsLiteralShownAs-literal, IsShownAs-entry, shown_entry-from, shown_literal-from}
 use Rattle.ec_entries.specs.declared.event_entries.EventEntries.{EventEntries}
 use Rattle.ec_entries.specs.Dependents.{Entered}
 use Rattle.ec_events.specs.Store.{Kept, Store, event_at, plain_of}
@@ -28,58 +28,30 @@ use Rattle.ec_props.specs.Table.{KeptProp, prop_at, prop_of, term_at}
 use Rattle.ec_parts.specs.Caches.{IsEntered, IsEnteredIn, AreEventsOf, AreEntriesOf}
 use Rattle.ec_parts.specs.StandFor.{View, AreCaches, AreTables, StandForBoth}
 use Rattle.ec_parts.specs.declared.tally.Tally.{Tally}
-use Rattle.ec_parts.proofs.LinksByNumber.{IsOneToOne, kept_with, term_at-prop_of}
-use Rattle.ec_parts.proofs.OneMention.{AreInitialsOf-same}
-use Rattle.ec_parts.proofs.TablesOfEvents.{has_first}
+use Rattle.ec_parts.proofs.LinksByNumber.{IsOneToOne, term_at-prop_of}
+use Rattle.ec_parts.proofs.OneMention.{AreInitialsOf-same, prop_of-there}
 
 -- ---- entries
 
--- what one function gives of each, another gives too
-each_of-moved : {X A : Type 0} (f g : X → Option A) (xs : List X) (all : List A) → ((x : X) (a : A) → IsMember all a → f x ≡ Some a → g x ≡ Some a)
-    → each_of (map f xs) ≡ Some all → each_of (map g xs) ≡ Some all
-unfolding each_of
-each_of-moved f g [] all same is = is
-each_of-moved f g (x ∷ xs) all same is =
-    let parts = has_first (f x) (each_of (map f xs)) all is in
-    ap₂ (λ o os. option_and_then (λ a. option_map (λ rest. a ∷ rest) os) o)
-    (same x parts.first (subst (λ l. IsMember l parts.first) (sym parts.all_are) (inl refl)) parts.first_is)
-    (each_of-moved f g xs parts.others (λ y a member. same y a (subst (λ l. IsMember l a) (sym parts.all_are) (inr member))) parts.others_are)
-    ∙ ap Some (sym parts.all_are)
-
--- an entry with a head and literals, where both are there
-abbrev with_both : Entry → Option Ground → Option (List GroundLiteral) → Option GroundEntry
-with_both entry head literals = option_and_then (λ h. option_map (λ ls. record { rule = entry.rule; kind = entry.kind; head = h; literals = ls }) literals) head
-
 module _ (before after : List KeptProp) (live : Ground → Bool) (moves : (id : ℕ) (p : Ground) → term_at id before ≡ Some p → live p ≡ true → term_at id after ≡ Some p) where
   shown_literal-moved : (literal : EntryLiteral) (shown : GroundLiteral) → live shown.prop ≡ true → shown_literal before literal ≡ Some shown → shown_literal after literal ≡ Some shown
-  unfolding shown_literal
-  shown_literal-moved literal shown is_live is = each (term_at literal.prop.0 before) refl is
-    where
-      each : (o : Option Ground) → term_at literal.prop.0 before ≡ o → option_map (λ term. record { positive = literal.positive; prop = term }) o ≡ Some shown
-          → option_map (λ term. record { positive = literal.positive; prop = term }) (term_at literal.prop.0 after) ≡ Some shown
-      each None there both = cc
-      each (Some t) there both =
-          let same : record { positive = literal.positive; prop = t } ≡ shown = cc in
-          let own : live t ≡ true = ap live (ap (λ (l : GroundLiteral). l.prop) same) ∙ is_live in
-          ap (option_map (λ u. record { positive = literal.positive; prop = u })) (moves literal.prop.0 t there own) ∙ both
+  shown_literal-moved literal shown is_live is =
+      let seen = IsLiteralShownAs-literal before literal shown is in
+      shown_literal-from after literal shown (record { prop = moves literal.prop.0 shown.prop seen.prop is_live; positive = seen.positive })
 
   shown_entry-moved : (entry : Entry) (shown : GroundEntry) → ((t : Ground) → IsMember (entry_mentions shown) t → live t ≡ true)
       → shown_entry before entry ≡ Some shown → shown_entry after entry ≡ Some shown
-  unfolding shown_entry
-  shown_entry-moved entry shown are_live is = each (term_at entry.head.0 before) (shown_literals before entry.literals) refl refl is
-    where
-      each : (head : Option Ground) (literals : Option (List GroundLiteral)) → term_at entry.head.0 before ≡ head → shown_literals before entry.literals ≡ literals
-          → with_both entry head literals ≡ Some shown → with_both entry (term_at entry.head.0 after) (shown_literals after entry.literals) ≡ Some shown
-      each None literals head_is literals_are both = cc
-      each (Some h) None head_is literals_are both = cc
-      each (Some h) (Some ls) head_is literals_are both =
-          let same : record { rule = entry.rule; kind = entry.kind; head = h; literals = ls } ≡ shown = cc in
-          let head : live h ≡ true = are_live h (subst (λ (e : GroundEntry). IsMember (entry_mentions e) h) same (inl refl)) in
-          let others : (l : GroundLiteral) → IsMember ls l → live l.prop ≡ true =
-          (λ l member. are_live l.prop (subst (λ (e : GroundEntry). IsMember (entry_mentions e) l.prop) same (inr (IsMember-map (λ (k : GroundLiteral). k.prop) ls l member)))) in
-          ap₂ (with_both entry) (moves entry.head.0 h head_is head)
-          (each_of-moved (shown_literal before) (shown_literal after) entry.literals ls (λ literal l member there. shown_literal-moved literal l (others l member) there) literals_are)
-          ∙ both
+  shown_entry-moved entry shown are_live is =
+      let seen = IsShownAs-entry before entry shown is in
+      shown_entry-from after entry shown
+      (record {
+        head = moves entry.head.0 shown.head seen.head (are_live shown.head (inl refl));
+        rule = seen.rule;
+        kind = seen.kind;
+        literals =
+            each_of-moved (shown_literal before) (shown_literal after) entry.literals shown.literals
+            (λ literal one member there. shown_literal-moved literal one (are_live one.prop (inr (IsMember-map (λ (l : GroundLiteral). l.prop) shown.literals one member))) there) seen.literals;
+      })
 
   -- entries whose properties are live are shown as before
   pub shown_entries-moved : (entries : List Entry) (shown : List GroundEntry) → ((t : Ground) → IsMember (flat_map entry_mentions shown) t → live t ≡ true)
@@ -162,16 +134,6 @@ module _ {T : Type 0} (rank : T → ℤ) (theory : Theory) (events : List PlainE
   }
 
 -- ---- both lists
-
--- a term that is kept under a number has a number
-pub prop_of-there : (table : List KeptProp) (id : ℕ) (t : Ground) → term_at id table ≡ Some t → IsSome (prop_of t table)
-prop_of-there table id t is =
-    let k = kept_with (prop_at id table) t is in
-    let member = (find-Some (λ (kept : KeptProp). kept.id == id) table k.0 k.1.0).0 in
-    let same : term_eq k.0.term t ≡ true = (term_eq-Decides k.0.term t).1 k.1.1 in
-    is_some-option_map (λ (kept : KeptProp). kept.id) (find (λ (kept : KeptProp). term_eq kept.term t) table)
-    ∙ is_some-find (λ (kept : KeptProp). term_eq kept.term t) table
-    ∙ member-list_any (λ (kept : KeptProp). term_eq kept.term t) table k.0 member same
 
 -- a term that one table keeps under a number, and that another keeps under it too, has a number there
 pub prop_of-moved : (before after : List KeptProp) (t : Ground) → IsOneToOne before → ((id : ℕ) → term_at id before ≡ Some t → term_at id after ≡ Some t)

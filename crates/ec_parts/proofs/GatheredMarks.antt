@@ -26,10 +26,11 @@ use Rattle.ec_points.specs.Table.{PointTable, marks_at}
 use Rattle.ec_rows.specs.declared.mark.Mark.{Mark}
 use Rattle.ec_rows.specs.Marks.{is_counted, mark_before}
 use Rattle.ec_rows.specs.PlainMarks.{plain_mark, plain_marks}
+use Rattle.ec_rows.proofs.OrderedPairs.{IsPairwise-ascending}
 use Rattle.ec_parts.specs.Caches.{initiations_of}
 use Rattle.ec_parts.specs.Gathered.{initiations_at, clashes_at, CountsClashesAlone, AreGathered}
 use Rattle.ec_parts.specs.Mentions.{terms_of}
-use Rattle.ec_parts.proofs.MarkSums.{sum_by-map, sum_by-flat_map, IsPairwise-ascending, sum_at, sum_at-member, member-sum_at, sum_at-initiations_of}
+use Rattle.ec_parts.proofs.MarkSums.{sum_by-map, sum_by-flat_map, sum_at, sum_at-member, member-sum_at, sum_at-initiations_of}
 
 module _ {T : Type 0} (rank : T → ℤ) where
   -- what marks count at an instant, they count as plain ones

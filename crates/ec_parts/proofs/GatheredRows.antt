@@ -10,7 +10,7 @@ use Rattle.std.specs.List.Sorted.{IsPermutation}
 use Rattle.std.proofs.lemmas.List.Sorted.{sum_by-IsPermutation}
 use Rattle.std.proofs.lemmas.List.Elements.{All-nil, All-append, All-cons}
 use Rattle.std.proofs.lemmas.List.Sums.{sum_by-append, sum_by-take-le}
-use Rattle.ec_lists.proofs.Integers.{int_eq-same}
+use Rattle.ec_lists.proofs.Integers.{int_eq-same, int_lt-trans}
 use Rattle.ec_lists.proofs.Tests.{list_all-push, list_all-weaker}
 use Rattle.ec_rows.specs.declared.mark.Mark.{Mark}
 use Rattle.ec_rows.specs.Marks.{IsMarkRow, is_counted, mark_before, are_before}
@@ -99,7 +99,7 @@ module _ {T : Type 0} (rank : T → ℤ) where
         row = gathered.row;
         before = subst (λ ms. are_before rank ms (clashing mark) ≡ true) (sym pushed)
             (list_all-push (λ m. mark_before rank m (clashing mark)) marks open_mark
-            (list_all-weaker (λ m. mark_before rank m open_mark) (λ m. mark_before rank m (clashing mark)) (λ m earlier. through (rank m.at) (rank open_mark.at) (rank mark.at) earlier later) marks so_far.before) later);
+            (list_all-weaker (λ m. mark_before rank m open_mark) (λ m. mark_before rank m (clashing mark)) (λ m earlier. int_lt-trans (rank m.at) (rank open_mark.at) (rank mark.at) earlier later) marks so_far.before) later);
         alone = gathered.alone;
         own = record { inits = refl; terms = refl };
         counted = some;
@@ -109,9 +109,6 @@ module _ {T : Type 0} (rank : T → ℤ) where
             ∙ sym (sum_by-append (λ (m : Mark T). cond (int_eq (rank m.at) t) m.inits 0) others (mark ∷ []));
       })
     where
-      through : (a b c : ℤ) → int_lt a b ≡ true → int_lt b c ≡ true → int_lt a c ≡ true
-      through a b c first second = grind (arith, ints)
-
       one : (a b : ℕ) → a + b ≡ a + (0 + b)
       one a b = omega arith
 

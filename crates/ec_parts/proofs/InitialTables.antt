@@ -22,7 +22,8 @@ use Rattle.ec_props.specs.Table.{KeptProp, prop_at, prop_of, term_at, mentions_a
 use Rattle.ec_props.proofs.KeptLemmas.{term_at-with_mentions, mentions_at-with_mentions, prop_at-with_other_mentions, prop_at-without_other}
 use Rattle.ec_parts.specs.Initials.{KeepsOnce}
 use Rattle.ec_parts.proofs.LinksByNumber.{IsOneToOne}
-use Rattle.ec_parts.proofs.CachesKept.{prop_of-moved, prop_of-there}
+use Rattle.ec_parts.proofs.CachesKept.{prop_of-moved}
+use Rattle.ec_parts.proofs.OneMention.{prop_of-there}
 
 -- a term more among some
 any_more : (p term : Ground) (terms : List Ground) → list_any (term_eq p) (terms ++ term ∷ []) ≡ (list_any (term_eq p) terms || term_eq p term)

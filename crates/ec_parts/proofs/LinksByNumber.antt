@@ -3,8 +3,7 @@ use Rattle.std.proofs.Common.{◌≡◌, ℕ, ◌+◌, ◌-◌, Bool, true, fals
 use Rattle.std.specs.Prelude.{◌==◌, nat_lt, option_map, unwrap_or}
 use Rattle.std.specs.List.{list_any, list_all, sum_by, All}
 use Rattle.std.specs.Option.{option_map_or}
-use Rattle.std.proofs.lemmas.Bool.{cases_Bool, and_parts, false≢true, false_from_ne_true, eqb-true, eq-eqb, cond-true, cond-false}
-use Rattle.std.proofs.lemmas.List.Elements.{All-contains}
+use Rattle.std.proofs.lemmas.Bool.{cases_Bool, and_parts, false≢true, false_from_ne_true, eqb-true, eq-eqb, cond-true, cond-false, or_right}
 use Rattle.std.proofs.lemmas.List.Sums.{sum_by-cons}
 use Rattle.ec_terms.specs.declared.ids.PropId.{PropId}
 use Rattle.ec_terms.specs.declared.ground.Ground.{Ground}
@@ -17,7 +16,7 @@ use Rattle.ec_lists.proofs.Filters.{filter-none, filter-filter_wider}
 use Rattle.ec_lists.proofs.Tests.{list_all-weaker, list_any-none, nat_lt-filter}
 use Rattle.ec_lists.proofs.Options.{Some-from_is_some, is_some-option_map}
 use Rattle.ec_axioms.specs.Links.{initial_properties}
-use Rattle.ec_axioms.proofs.Members.{IsMember, Contains-from_member, filter_agree, find-Some, IsMember-from_filter}
+use Rattle.ec_axioms.proofs.Members.{IsMember, filter_agree, IsMember-from_filter}
 use Rattle.ec_changes.specs.LiveLaws.{ListsInitials}
 use Rattle.ec_changes.specs.LinkLaws.{live_by, exclusive_count, links_of}
 use Rattle.ec_changes.proofs.Tallies.{length-by_keys, length-filter_once, sum_by-agree}
@@ -26,7 +25,8 @@ use Rattle.ec_changes.proofs.LiveLists.{test-in_term_order}
 use Rattle.ec_changes.proofs.DistinctTerms.{IsDistinct-in_term_order}
 use Rattle.ec_changes.proofs.LinkSteps.{OneMentionMore-law}
 use Rattle.ec_props.specs.Table.{KeptProp, prop_at, prop_of, term_at, is_in_order}
-use Rattle.ec_props.proofs.KeptLemmas.{place-prop_at, same-places, prop_at-id, find-has_term}
+use Rattle.ec_props.proofs.KeptLemmas.{place-prop_at, same-places, prop_at-id}
+use Rattle.ec_props.proofs.TextLemmas.{found_own}
 use Rattle.ec_rows.specs.Ordered.{is_ascending}
 use Rattle.ec_numbered.specs.PropSet.{has_number, comes_before, are_ascending}
 use Rattle.ec_numbered.proofs.Numbers.{has_number-filter}
@@ -50,11 +50,6 @@ pub kept_with : (o : Option KeptProp) (t : Ground) → option_map (λ (k : KeptP
 kept_with None t is = absurd (false≢true (ap is_some is))
 kept_with (Some k) t is = (k, (refl, cc))
 
--- what is kept where a number is
-kept_under : (o : Option KeptProp) (id : ℕ) → option_map (λ (k : KeptProp). k.id) o ≡ Some id → (k : KeptProp) × ((o ≡ Some k) × (k.id ≡ id))
-kept_under None id is = absurd (false≢true (ap is_some is))
-kept_under (Some k) id is = (k, (refl, cc))
-
 -- the number of a term is one
 pub same_number : (table : List KeptProp) (a b : ℕ) (t : Ground) → IsOneToOne table → term_at a table ≡ Some t → term_at b table ≡ Some t → a ≡ b
 same_number table a b t one at_a at_b =
@@ -67,11 +62,7 @@ same_number table a b t one at_a at_b =
 
 -- and leads back to it
 pub term_at-prop_of : (table : List KeptProp) (t : Ground) (id : ℕ) → IsOneToOne table → prop_of t table ≡ Some id → term_at id table ≡ Some t
-term_at-prop_of table t id one is =
-    let k = kept_under _ id is in
-    let member = (find-Some (λ (kept : KeptProp). term_eq kept.term t) table k.0 k.1.0).0 in
-    let here = All-contains (λ (kept : KeptProp). prop_at kept.id table ≡ Some kept) table k.0 one.numbers (Contains-from_member table k.0 member) in
-    ap (λ n. term_at n table) (sym k.1.1) ∙ ap (option_map (λ (kept : KeptProp). kept.term)) here ∙ ap Some (find-has_term t table k.0 k.1.0)
+term_at-prop_of table t id one is = found_own t id table table one.numbers is
 
 -- a number that ascending numbers have stands there once
 stands_once : (id : ℕ) (ps : List PropId) → are_ascending ps ≡ true → has_number id ps ≡ true → length (filter (λ (q : PropId). q.0 == id) ps) ≡ 1
@@ -187,10 +178,7 @@ module _ (theory : Theory) (table : List KeptProp) (around : Neighbourhoods) (p 
     live-kept t member = kept-live t (sym (live-listed t) ∙ test-IsMember (live_by theory mentions) t member)
 
     mentions-kept : AreAllKept table mentions
-    mentions-kept t member = kept-live t (right_true (is_initial theory t) _ (test-IsMember mentions t member))
-      where
-        right_true : (a b : Bool) → b ≡ true → (a || b) ≡ true
-        right_true a b h = grind arith
+    mentions-kept t member = kept-live t (or_right (is_initial theory t) _ (test-IsMember mentions t member))
 
     -- what the table counts of a term
     count-kept : (id : ℕ) (t : Ground) → term_at id table ≡ Some t → count_at id table ≡ length (filter (term_eq t) mentions) + held_mention theory t

@@ -1,22 +1,20 @@
 -- Sums of what the marks of an instant count.
 use Rattle.std.proofs.Common.{◌≡◌, ℕ, ℤ, ◌+◌, Bool, true, false, cond, List, [], ◌∷◌, map, filter, IsTrue, refl, sym, ap, ap₂, subst, ◌∙◌, inl, inr, ⊎_elim, arith}
-use Rattle.std.specs.Prelude.{int_lt, nat_lt, flat_map}
-use Rattle.std.specs.List.{sum_by, list_all}
+use Rattle.std.specs.Prelude.{nat_lt, flat_map}
+use Rattle.std.specs.List.{sum_by}
 use Rattle.std.specs.Ordering.{int_eq}
-use Rattle.std.proofs.lemmas.Bool.{cases_Bool, and_parts, false≢true, cond-true, cond-false}
+use Rattle.std.proofs.lemmas.Bool.{cases_Bool, false≢true, cond-true, cond-false}
 use Rattle.std.proofs.lemmas.List.Sums.{sum_by-cons, sum_by-append}
-use Rattle.std.proofs.lemmas.Int.{ints}
-use Rattle.ec_lists.proofs.Integers.{int_eq-is, int_eq-same}
+use Rattle.ec_lists.proofs.Integers.{int_eq-from_gt, int_eq-from_lt, int_eq-is, int_eq-same}
 use Rattle.ec_terms.specs.declared.ground.Ground.{Ground}
 use Rattle.ec_terms.specs.declared.theory.Theory.{Theory}
 use Rattle.ec_axioms.specs.Calculus.{PlainEvent}
 use Rattle.ec_axioms.specs.Changes.{is_history}
 use Rattle.ec_axioms.specs.Marks.{PlainMark, mark_at, marks_of, mark_initiates}
 use Rattle.ec_axioms.proofs.HistoryMarks.{instant-mark_at}
-use Rattle.ec_axioms.proofs.Members.{IsMember, IsMember-map, IsMember-from_map, IsMember-filter, IsMember-from_filter, IsPairwise, IsPairwise-filter, IsPairwise-map, list_all-member}
+use Rattle.ec_axioms.proofs.Members.{IsMember, IsMember-map, IsMember-from_map, IsMember-filter, IsMember-from_filter, IsPairwise, IsPairwise-filter, IsPairwise-map}
 use Rattle.ec_changes.proofs.Past.{is_earlier, IsMember-from_marks_of, IsMember-marks_of, IsPairwise-marks_of}
 use Rattle.ec_changes.proofs.Tallies.{sum_by-none}
-use Rattle.ec_rows.specs.Ordered.{is_ascending}
 use Rattle.ec_parts.specs.Caches.{initiations_of, initiations_of_mark}
 
 -- ---- sums
@@ -28,14 +26,6 @@ sum_by-map f g (x ∷ xs) = sum_by-cons f (g x) (map g xs) ∙ ap (λ n. f (g x)
 pub sum_by-flat_map : {X Y : Type 0} (f : Y → ℕ) (g : X → List Y) (xs : List X) → sum_by f (flat_map g xs) ≡ sum_by (λ x. sum_by f (g x)) xs
 sum_by-flat_map f g [] = refl
 sum_by-flat_map f g (x ∷ xs) = sum_by-append f (g x) (flat_map g xs) ∙ ap (λ n. sum_by f (g x) + n) (sum_by-flat_map f g xs) ∙ sym (sum_by-cons (λ y. sum_by f (g y)) x xs)
-
--- a list that ascends by a test has its members in that order
-pub IsPairwise-ascending : {X : Type 0} (stands_before : X → X → Bool) (xs : List X) → is_ascending stands_before xs ≡ true → IsPairwise (λ x y. IsTrue (stands_before x y)) xs
-unfolding is_ascending
-IsPairwise-ascending stands_before [] ascend = tt
-IsPairwise-ascending stands_before (x ∷ xs) ascend =
-    let parts = and_parts (list_all (stands_before x) xs) (is_ascending stands_before xs) ascend in
-    (λ y later. list_all-member (stands_before x) xs y parts.0 later, IsPairwise-ascending stands_before xs parts.1)
 
 -- ---- what the marks of an instant count
 
@@ -51,22 +41,16 @@ sum_at-member f (n ∷ marks) m ascend (inl same) =
     ∙ ap₂ (λ a b. a + b)
     (ap (λ (x : PlainMark). cond (int_eq x.instant m.instant) (f x) 0) same ∙ cond-true (int_eq m.instant m.instant) (f m) 0 (int_eq-same m.instant))
     (sum_by-none (λ (x : PlainMark). cond (int_eq x.instant m.instant) (f x) 0) marks
-    (λ x later. cond-false (int_eq x.instant m.instant) (f x) 0 (subst (λ (y : PlainMark). int_eq x.instant y.instant ≡ false) same (later_apart n.instant x.instant (ascend.0 x later)))))
+    (λ x later. cond-false (int_eq x.instant m.instant) (f x) 0 (subst (λ (y : PlainMark). int_eq x.instant y.instant ≡ false) same (int_eq-from_gt x.instant n.instant (ascend.0 x later)))))
     ∙ drop_zero (f m)
   where
-    later_apart : (a b : ℤ) → int_lt a b ≡ true → int_eq b a ≡ false
-    later_apart a b before = grind (arith, ints)
-
     drop_zero : (k : ℕ) → k + 0 ≡ k
     drop_zero k = omega arith
 sum_at-member f (n ∷ marks) m ascend (inr later) =
     sum_by-cons (λ (x : PlainMark). cond (int_eq x.instant m.instant) (f x) 0) n marks
-    ∙ ap₂ (λ a b. a + b) (cond-false (int_eq n.instant m.instant) (f n) 0 (earlier_apart n.instant m.instant (ascend.0 m later))) (sum_at-member f marks m ascend.1 later)
+    ∙ ap₂ (λ a b. a + b) (cond-false (int_eq n.instant m.instant) (f n) 0 (int_eq-from_lt n.instant m.instant (ascend.0 m later))) (sum_at-member f marks m ascend.1 later)
     ∙ no_more (f m)
   where
-    earlier_apart : (a b : ℤ) → int_lt a b ≡ true → int_eq a b ≡ false
-    earlier_apart a b before = grind (arith, ints)
-
     no_more : (k : ℕ) → 0 + k ≡ k
     no_more k = omega arith
 

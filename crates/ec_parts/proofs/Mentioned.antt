@@ -33,6 +33,7 @@ use Rattle.ec_points.specs.Table.{PointTable}
 use Rattle.ec_parts.specs.declared.tally.Tally.{Tally}
 use Rattle.ec_parts.specs.Tables.{held_mention}
 use Rattle.std.proofs.lemmas.List.Folds.{length-flat_map-take}
+use Rattle.std.proofs.Math.Numerals.{suc-eq-add-one}
 use Rattle.ec_parts.specs.Mentions.{AreTablesBy, AreSomeTables, HasMentioned, HasReleased, entry_props, list_props, terms_of, count_at, links_to}
 use Rattle.ec_parts.proofs.LinksByNumber.{IsOneToOne}
 use Rattle.ec_parts.proofs.OneMention.{AreTablesBy-IsPermutation, IsOneToOne-with_mentions, AreListed, IsOneMore, links_of-more, AreTablesBy-more, AreTablesBy-less, AreKeptBy-less, AreAllAdded-same, AreInitialsOf-same}
@@ -205,11 +206,8 @@ module _ {T : Type 0} (table : List KeptProp) (around : Neighbourhoods) (points 
 -- a list, cut before and behind a place
 pub map-cut : {X Y : Type 0} (f : X → Y) (xs : List X) (i : ℕ) (d : X) → i < length xs → map f xs ≡ map f (take i xs) ++ (f (get_or xs i d) ∷ map f (drop (i + 1) xs))
 map-cut f xs i d below =
-    ap (map f) (sym (take-append-drop i xs) ∙ ap (λ rest. take i xs ++ rest) (drop-cons xs i d below ∙ ap (λ n. get_or xs i d ∷ drop n xs) (add_one i)))
+    ap (map f) (sym (take-append-drop i xs) ∙ ap (λ rest. take i xs ++ rest) (drop-cons xs i d below ∙ ap (λ n. get_or xs i d ∷ drop n xs) (suc-eq-add-one i)))
     ∙ map-append f (take i xs) (get_or xs i d ∷ drop (i + 1) xs)
-  where
-    add_one : (n : ℕ) → suc n ≡ n + 1
-    add_one n = omega arith
 
 -- one more of it
 pub map-take_more : {X Y : Type 0} (f : X → Y) (xs : List X) (i : ℕ) (d : X) → i < length xs → map f (take (i + 1) xs) ≡ map f (take i xs) ++ (f (get_or xs i d) ∷ [])
@@ -219,11 +217,8 @@ map-take_more f xs i d below = ap (map f) (take_more xs i d below) ∙ map-appen
 pub flat_map-cut : {X Y : Type 0} (f : X → List Y) (xs : List X) (i : ℕ) (d : X) → i < length xs
     → flat_map f xs ≡ flat_map f (take i xs) ++ (f (get_or xs i d) ++ flat_map f (drop (i + 1) xs))
 flat_map-cut f xs i d below =
-    ap (flat_map f) (sym (take-append-drop i xs) ∙ ap (λ rest. take i xs ++ rest) (drop-cons xs i d below ∙ ap (λ n. get_or xs i d ∷ drop n xs) (add_one i)))
+    ap (flat_map f) (sym (take-append-drop i xs) ∙ ap (λ rest. take i xs ++ rest) (drop-cons xs i d below ∙ ap (λ n. get_or xs i d ∷ drop n xs) (suc-eq-add-one i)))
     ∙ flat_map-append f (take i xs) (get_or xs i d ∷ drop (i + 1) xs)
-  where
-    add_one : (n : ℕ) → suc n ≡ n + 1
-    add_one n = omega arith
 
 pub flat_map-take_more : {X Y : Type 0} (f : X → List Y) (xs : List X) (i : ℕ) (d : X) → i < length xs → flat_map f (take (i + 1) xs) ≡ flat_map f (take i xs) ++ f (get_or xs i d)
 flat_map-take_more f xs i d below =

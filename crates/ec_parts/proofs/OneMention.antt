@@ -1,24 +1,26 @@
 -- One mention more or less: what becomes of the tables.
 use Rattle.std.proofs.Common.{◌≡◌, ℕ, ◌+◌, Bool, true, false, cond, ◌||◌, List, [], ◌∷◌, get_or, length, filter, Option, Some, None, is_some, IsTrue, IsSome, refl, sym, ap, subst, ◌∙◌, ◌⊎◌, inl, inr, ⊎_elim, arith, suc, zero-add}
-use Rattle.std.specs.Prelude.{◌==◌, option_map, unwrap_or}
+use Rattle.std.specs.Prelude.{◌==◌, option_map, unwrap_or, find}
 use Rattle.std.specs.List.{sum_by, All}
 use Rattle.std.specs.List.Sorted.{IsPermutation}
 use Rattle.std.proofs.lemmas.Bool.{cases_Bool, false≢true, false_from_ne_true, eqb-true, eq-eqb}
 use Rattle.std.proofs.lemmas.List.Elements.{All-map}
 use Rattle.std.proofs.lemmas.List.Sorted.{sum_by-IsPermutation, list_any-IsPermutation, length_permutation}
 use Rattle.std.proofs.lemmas.List.Sums.{sum_by-cons}
+use Rattle.std.proofs.Math.Numerals.{suc-eq-add-one}
 use Rattle.ec_terms.specs.declared.ids.PropId.{PropId}
 use Rattle.ec_terms.specs.declared.ground.Ground.{Ground}
 use Rattle.ec_terms.specs.declared.theory.Theory.{Theory}
 use Rattle.ec_terms.specs.Term.{term_eq}
 use Rattle.ec_terms.specs.Domain.{is_initial}
 use Rattle.ec_terms.proofs.OrderLemmas.{term_eq-Decides}
-use Rattle.ec_lists.proofs.Options.{Some-from_is_some, is_some-option_map}
+use Rattle.ec_lists.proofs.Options.{is_some-option_map}
+use Rattle.ec_lists.proofs.Finds.{is_some-find}
 use Rattle.ec_changes.specs.LiveLaws.{ListsInitials}
 use Rattle.ec_changes.specs.LinkLaws.{links_of}
 use Rattle.ec_changes.proofs.LinkSteps.{LinksInAnyOrder-law}
 use Rattle.ec_props.specs.Table.{KeptProp, prop_at, prop_of, term_at, mentions_at, with_mentions, mentioned}
-use Rattle.ec_props.proofs.KeptLemmas.{place-prop_at, find-term, in_order-with_mentions, prop_at-with_mentions, mentioned-id}
+use Rattle.ec_props.proofs.KeptLemmas.{in_order-with_mentions, prop_at-with_mentions, mentioned-id}
 use Rattle.ec_numbered.specs.PropSet.{are_ascending}
 use Rattle.ec_exclusive.specs.Added.{added_props}
 use Rattle.ec_exclusive.specs.Neighbours.{Neighbourhoods, AreNeighbours, exclusive_at}
@@ -28,7 +30,8 @@ use Rattle.ec_parts.specs.declared.tally.Tally.{Tally}
 use Rattle.ec_parts.specs.Tables.{held_mention, AreAllAdded}
 use Rattle.ec_parts.specs.Caches.{AreInitialsOf}
 use Rattle.ec_parts.specs.Mentions.{is_live_by, AreKeptBy, AreTablesBy, count_at, links_to}
-use Rattle.ec_parts.proofs.LinksByNumber.{IsOneToOne, same_number, AreItsNeighbours, links-one_more}
+use Rattle.ec_parts.proofs.LinksByNumber.{IsOneToOne, same_number, AreItsNeighbours, links-one_more, kept_with}
+use Rattle.ec_axioms.proofs.Members.{find-Some, member-list_any}
 
 -- ---- the order of mentions
 
@@ -73,15 +76,15 @@ IsOneToOne-with_mentions table p count one = record {
         ∙ prop_at-with_mentions p count kept.id table
         ∙ ap (option_map (mentioned p count)) (all k d below)
 
--- a kept term has its number
-pub prop_of-term_at : (table : List KeptProp) (id : ℕ) (t : Ground) → IsOneToOne table → term_at id table ≡ Some t → IsSome (prop_of t table)
-prop_of-term_at table id t one is =
-    let k = Some-from_is_some (prop_at id table) (sym (is_some-option_map (λ (kept : KeptProp). kept.term) (prop_at id table)) ∙ ap is_some is) in
-    let i = place-prop_at id table k.0 k.1 in
-    let found = find-term table i.0 k.0 one.in_order i.1 in
-    let same : Some k.0.term ≡ Some t = sym (ap (option_map (λ (kept : KeptProp). kept.term)) k.1) ∙ is in
-    let term : k.0.term ≡ t = cc in
-    subst (λ u. IsSome (prop_of u table)) term (ap is_some (ap (option_map (λ (kept : KeptProp). kept.id)) found))
+-- a term that is kept under a number has a number
+pub prop_of-there : (table : List KeptProp) (id : ℕ) (t : Ground) → term_at id table ≡ Some t → IsSome (prop_of t table)
+prop_of-there table id t is =
+    let k = kept_with (prop_at id table) t is in
+    let member = (find-Some (λ (kept : KeptProp). kept.id == id) table k.0 k.1.0).0 in
+    let same : term_eq k.0.term t ≡ true = (term_eq-Decides k.0.term t).1 k.1.1 in
+    is_some-option_map (λ (kept : KeptProp). kept.id) (find (λ (kept : KeptProp). term_eq kept.term t) table)
+    ∙ is_some-find (λ (kept : KeptProp). term_eq kept.term t) table
+    ∙ member-list_any (λ (kept : KeptProp). term_eq kept.term t) table k.0 member same
 
 module _ (theory : Theory) (before after : List KeptProp) (same : (id : ℕ) → term_at id after ≡ term_at id before) where
   -- the same numbers are kept
@@ -169,7 +172,7 @@ module _ (theory : Theory) (mentions : List Ground) (p : PropId) (term : Ground)
   }
     where
       live_kept : (q : Ground) → (term_eq q term ≡ true) ⊎ (term_eq q term ≡ false) → IsTrue (is_live_by theory (term ∷ mentions) q) → IsSome (prop_of q less)
-      live_kept q (inl same) live = subst (λ u. IsSome (prop_of u less)) (sym ((term_eq-Decides q term).0 same)) (prop_of-term_at less p.0 term one own)
+      live_kept q (inl same) live = subst (λ u. IsSome (prop_of u less)) (sym ((term_eq-Decides q term).0 same)) (prop_of-there less p.0 term own)
       live_kept q (inr other) live = kept.live q (grind arith)
 
       counts : (id : ℕ) (t : Ground) → term_at id less ≡ Some t → ((id == p.0) ≡ true) ⊎ ((id == p.0) ≡ false)
@@ -225,13 +228,10 @@ module _ (theory : Theory) (mentions : List Ground) (p : PropId) (term : Ground)
       added = AreAllAdded-same theory less more next.terms around tables.added;
       initials = AreInitialsOf-same theory less more next.terms points tables.initials;
       tally_by = record {
-        mentions_by = counted ∙ ap (λ n. n + 1) tables.tally_by.mentions_by ∙ sym (one_longer (length mentions));
+        mentions_by = counted ∙ ap (λ n. n + 1) tables.tally_by.mentions_by ∙ sym (suc-eq-add-one (length mentions));
         links_by = linked ∙ ap (λ n. n + sum_by (links_to (count_at p.0 less == 0) less points) list) tables.tally_by.links_by ∙ sym (links_of-more tables.kept tables.added tables.initials);
       };
     }
-      where
-        one_longer : (n : ℕ) → suc n ≡ n + 1
-        one_longer n = omega arith
 
     -- the tables of one mention less
     pub AreTablesBy-less : AreTablesBy theory (term ∷ mentions) more around points old → new.mentions + 1 ≡ old.mentions

@@ -35,6 +35,7 @@ use Rattle.ec_exclusive.specs.Added.{added_props, is_added}
 use Rattle.ec_exclusive.specs.Neighbours.{AreNeighbours, exclusive_at}
 use Rattle.ec_points.specs.Table.{PointTable, marks_at, is_initial_at, row_at as points_row, marks_in}
 use Rattle.ec_rows.specs.PlainMarks.{plain_marks}
+use Rattle.ec_rows.proofs.OrderedPairs.{IsPairwise-ascending}
 use Rattle.ec_intervals.specs.Table.{IntervalTable, members_at, plain_intervals}
 use Rattle.ec_parts.specs.Tables.{mention_count, held_mention, AreKept}
 use Rattle.ec_parts.specs.Caches.{AreEventsOf, AreEntriesOf, AreInitialsOf, AreMarksOf, AreInitiationsOf, AreIntervalsOf, initiations_of, initiations_of_mark}
@@ -44,7 +45,6 @@ use Rattle.ec_parts.specs.Mentions.{terms_of}
 use Rattle.ec_parts.specs.declared.tally.Tally.{Tally}
 use Rattle.ec_parts.proofs.LinksByNumber.{IsOneToOne, same_number, term_at-prop_of}
 use Rattle.ec_parts.proofs.CachesKept.{AreEntriesOf-moved, prop_of-moved}
-use Rattle.ec_parts.proofs.MarkSums.{IsPairwise-ascending}
 use Rattle.ec_parts.proofs.GatheredMarks.{marks_of-gathered, neighbours-inits}
 
 -- a property that nothing mentions is new in a table

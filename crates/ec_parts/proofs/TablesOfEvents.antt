@@ -1,6 +1,6 @@
 -- The tables of a list of events, with one event more and with one less.
-use Rattle.std.proofs.Common.{◌≡◌, ◌≤◌, length, List, [], ◌∷◌, ◌++◌, map, Option, Some, None, IsTrue, refl, sym, ap, ap₂, subst, ◌∙◌}
-use Rattle.std.specs.Prelude.{flat_map, option_map, option_and_then}
+use Rattle.std.proofs.Common.{◌≡◌, ◌≤◌, length, List, [], ◌∷◌, ◌++◌, map, Some, IsTrue, sym, ap, ap₂, subst, ◌∙◌}
+use Rattle.std.specs.Prelude.{flat_map}
 use Rattle.std.specs.List.Sorted.{IsPermutation}
 use Rattle.std.proofs.lemmas.List.Elements.{filter_map-append}
 use Rattle.std.proofs.lemmas.List.Sorted.{IsPermutation-sym}
@@ -19,6 +19,8 @@ use Rattle.ec_exclusive.specs.Neighbours.{Neighbourhoods}
 use Rattle.ec_context.specs.declared.entry.Entry.{Entry}
 use Rattle.ec_context.specs.declared.entry.EntryLiteral.{EntryLiteral}
 use Rattle.ec_context.specs.Entries.{each_of, shown_literal, shown_literals, shown_entry, shown_entries}
+use Rattle.ec_context.proofs.EachOf.{each_of-first}
+use Rattle.ec_context.proofs.Shown.{IsLiteralShownAs-literal, IsShownAs-entry}
 use Rattle.ec_points.specs.Table.{PointTable}
 use Rattle.ec_parts.specs.declared.tally.Tally.{Tally}
 use Rattle.ec_parts.specs.StandFor.{AreTables}
@@ -27,29 +29,6 @@ use Rattle.ec_parts.specs.Mentions.{AreTablesBy, AreSomeTables, HasMentioned, Ha
 use Rattle.ec_parts.proofs.OneMention.{AreTablesBy-IsPermutation}
 
 -- ---- the terms of shown entries
-
--- what stands first where all have something
-pub record HasFirst {A : Type 0} (o : Option A) (os : Option (List A)) (all : List A) : Type 0 where
-  pub first : A
-  pub others : List A
-  pub first_is : o ≡ Some first
-  pub others_are : os ≡ Some others
-  pub all_are : all ≡ first ∷ others
-
-pub has_first : {A : Type 0} (o : Option A) (os : Option (List A)) (all : List A) → option_and_then (λ a. option_map (λ rest. a ∷ rest) os) o ≡ Some all → HasFirst o os all
-has_first None os all is = cc
-has_first (Some a) None all is = cc
-has_first (Some a) (Some rest) all is = record { first = a; others = rest; first_is = refl; others_are = refl; all_are = cc }
-
--- the term of a literal
-literal_term : (table : List KeptProp) (literal : EntryLiteral) (shown : GroundLiteral) → shown_literal table literal ≡ Some shown → term_at literal.prop.0 table ≡ Some shown.prop
-unfolding shown_literal
-literal_term table literal shown is = each (term_at literal.prop.0 table) is
-  where
-    each : (o : Option Ground) → option_map (λ term. record { positive = literal.positive; prop = term }) o ≡ Some shown → o ≡ Some shown.prop
-    each None is = cc
-    each (Some t) is =
-        let same : record { positive = literal.positive; prop = t } ≡ shown = cc in ap (λ (l : GroundLiteral). Some l.prop) same
 
 -- a number in front
 terms_of-cons : (table : List KeptProp) (p : PropId) (props : List PropId) (t : Ground) (ts : List Ground) → term_at p.0 table ≡ Some t → terms_of table props ≡ ts → terms_of table (p ∷ props) ≡ t ∷ ts
@@ -60,25 +39,17 @@ terms_of-literals : (table : List KeptProp) (literals : List EntryLiteral) (show
 unfolding each_of
 terms_of-literals table [] shown is = let none : [] ≡ shown = cc in ap (map (λ (l : GroundLiteral). l.prop)) none
 terms_of-literals table (literal ∷ literals) shown is =
-    let parts = has_first (shown_literal table literal) (shown_literals table literals) shown is in
+    let parts = each_of-first (shown_literal table) literal literals shown is in
     terms_of-cons table literal.prop (map (λ (l : EntryLiteral). l.prop) literals) parts.first.prop (map (λ (l : GroundLiteral). l.prop) parts.others)
-    (literal_term table literal parts.first parts.first_is) (terms_of-literals table literals parts.others parts.others_are)
+    (IsLiteralShownAs-literal table literal parts.first parts.first_is).prop (terms_of-literals table literals parts.others parts.others_are)
     ∙ ap (map (λ (l : GroundLiteral). l.prop)) (sym parts.all_are)
 
 -- the terms of an entry
 terms_of-entry : (table : List KeptProp) (entry : Entry) (shown : GroundEntry) → shown_entry table entry ≡ Some shown → terms_of table (entry_props entry) ≡ entry_mentions shown
-unfolding shown_entry
-terms_of-entry table entry shown is = each (term_at entry.head.0 table) (shown_literals table entry.literals) refl refl is
-  where
-    each : (head : Option Ground) (literals : Option (List GroundLiteral)) → term_at entry.head.0 table ≡ head → shown_literals table entry.literals ≡ literals
-        → option_and_then (λ h. option_map (λ ls. record { rule = entry.rule; kind = entry.kind; head = h; literals = ls }) literals) head ≡ Some shown
-        → terms_of table (entry_props entry) ≡ entry_mentions shown
-    each None literals head_is literals_are both = cc
-    each (Some h) None head_is literals_are both = cc
-    each (Some h) (Some ls) head_is literals_are both =
-        let same : record { rule = entry.rule; kind = entry.kind; head = h; literals = ls } ≡ shown = cc in
-        terms_of-cons table entry.head (map (λ (l : EntryLiteral). l.prop) entry.literals) h (map (λ (l : GroundLiteral). l.prop) ls) head_is (terms_of-literals table entry.literals ls literals_are)
-        ∙ ap entry_mentions same
+terms_of-entry table entry shown is =
+    let seen = IsShownAs-entry table entry shown is in
+    terms_of-cons table entry.head (map (λ (l : EntryLiteral). l.prop) entry.literals) shown.head (map (λ (l : GroundLiteral). l.prop) shown.literals) seen.head
+    (terms_of-literals table entry.literals shown.literals seen.literals)
 
 -- the terms of all entries are their mentions
 pub terms_of-entries : (table : List KeptProp) (entries : List Entry) (shown : List GroundEntry) → shown_entries table entries ≡ Some shown
@@ -86,7 +57,7 @@ pub terms_of-entries : (table : List KeptProp) (entries : List Entry) (shown : L
 unfolding each_of
 terms_of-entries table [] shown is = let none : [] ≡ shown = cc in ap (flat_map entry_mentions) none
 terms_of-entries table (entry ∷ entries) shown is =
-    let parts = has_first (shown_entry table entry) (shown_entries table entries) shown is in
+    let parts = each_of-first (shown_entry table) entry entries shown is in
     filter_map-append (λ (p : PropId). term_at p.0 table) (entry_props entry) (list_props entries)
     ∙ ap₂ {C = List Ground} (λ xs ys. xs ++ ys) (terms_of-entry table entry parts.first parts.first_is) (terms_of-entries table entries parts.others parts.others_are)
     ∙ ap (flat_map entry_mentions) (sym parts.all_are)

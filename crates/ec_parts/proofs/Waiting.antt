@@ -74,7 +74,7 @@ row_there rows k d below =
     number_there (added_props rows) row.prop (IsMember-map (λ (r : Added). r.prop) rows row (IsMember_at rows row k below (get_or_default rows k row d below)))
 
 -- all where each member
-All-from_members : {X : Type 0} (P : X → Type 0) (xs : List X) → ((x : X) → IsMember xs x → P x) → All P xs
+pub All-from_members : {X : Type 0} (P : X → Type 0) (xs : List X) → ((x : X) → IsMember xs x → P x) → All P xs
 All-from_members P xs each k d below = each (get_or xs k d) (IsMember_at xs (get_or xs k d) k below (get_or_default xs k (get_or xs k d) d below))
 
 -- a member of what a function gives of the members

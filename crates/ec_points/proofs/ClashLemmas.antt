@@ -10,7 +10,7 @@ use Rattle.std.proofs.lemmas.Bool.{cases_Bool, eqb-true}
 use Rattle.std.proofs.lemmas.Cmp.{int_cmp_total, nat_cmp_total, on_total, then_total}
 use Rattle.std.proofs.lemmas.Int.{ints}
 use Rattle.std.proofs.lemmas.Option.{get_or_from_slice_get}
-use Rattle.ec_lists.proofs.Integers.{int_eq-is}
+use Rattle.ec_lists.proofs.Integers.{int_eq-is, int_lt-not_le}
 use Rattle.ec_lists.proofs.Partitions.{IsCut, take-partition, drop-partition}
 use Rattle.ec_lists.proofs.Tests.{list_any-same}
 use Rattle.std.proofs.lemmas.List.Elements.{filter_agree}
@@ -47,9 +47,6 @@ is_same-is_eq a b m n = grind (arith, ints)
 up_to-before : (a b t : ℤ) (o : Ordering) → is_lt (ordering_then (int_cmp a b) o) ≡ true → int_le b t ≡ true → int_le a t ≡ true
 up_to-before a b t o = grind (arith, ints)
 
-later-not_up_to : (a t : ℤ) → int_lt t a ≡ not (int_le a t)
-later-not_up_to a t = grind (arith, ints)
-
 module _ {T : Type 0} (rank : T → ℤ) where
   abbrev key_of : Clash T → Key
   key_of c = (rank c.at, c.p.0)
@@ -65,7 +62,7 @@ module _ {T : Type 0} (rank : T → ℤ) where
 
   -- and what follows them is after it
   pub drop-up_to : (t : ℤ) (cs : List (Clash T)) (i : ℕ) → IsCut (λ c. int_le (rank c.at) t) cs i → drop i cs ≡ filter (λ c. int_lt t (rank c.at)) cs
-  drop-up_to t cs i cut = drop-partition (λ c. int_le (rank c.at) t) (λ c. int_lt t (rank c.at)) (λ c. later-not_up_to (rank c.at) t) cs i cut
+  drop-up_to t cs i cut = drop-partition (λ c. int_le (rank c.at) t) (λ c. int_lt t (rank c.at)) (λ c. int_lt-not_le t (rank c.at)) cs i cut
 
   module _ (x : Clash T) where
     abbrev pub before : Clash T → Bool

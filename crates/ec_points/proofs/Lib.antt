@@ -1,8 +1,8 @@
 mod AppliedChanges
 mod ClashLemmas
 mod LastMarks
-mod Lists
-mod MadeChanges
+pub mod Lists
+pub mod MadeChanges
 mod NextClash
 mod NotedChanges
 mod PastMarks

@@ -1,7 +1,8 @@
 -- A property that is added and dropped again leaves the others as they were.
-use Rattle.std.proofs.Common.{◌≡◌, ℕ, ◌≢◌, Bool, true, false, not, ◌&&◌, ◌||◌, sym, ap, subst, ◌∙◌, ⊎_elim, arith}
+use Rattle.std.proofs.Common.{◌≡◌, ◌≢◌, Bool, true, false, not, ◌&&◌, ◌||◌, sym, ap, subst, ◌∙◌, ⊎_elim, arith}
 use Rattle.std.specs.Prelude.{◌==◌}
 use Rattle.std.proofs.lemmas.Bool.{cases_Bool, false≢true, eqb-true, eq-eqb}
+use Rattle.ec_lists.proofs.Numbers.{eqb-turned}
 use Rattle.ec_terms.specs.declared.ids.PropId.{PropId}
 use Rattle.ec_terms.specs.declared.theory.Theory.{Theory}
 use Rattle.ec_numbered.specs.PropSet.{has_number}
@@ -15,10 +16,7 @@ use Rattle.ec_parts.proofs.adopting.adopt_one.Goals as goal
 -- with a number that was absent and without it again
 with_without : (p q : PropId) (there : Bool) → ((q.0 == p.0) ≡ true → there ≡ false) → (not (q.0 == p.0) && ((p.0 == q.0) || there)) ≡ there
 with_without p q there absent =
-    ⊎_elim (λ same. let none = absent same in grind arith) (λ other. let back : (p.0 == q.0) ≡ false = turned p.0 q.0 other in grind arith) (cases_Bool (q.0 == p.0))
-  where
-    turned : (a b : ℕ) → (b == a) ≡ false → (a == b) ≡ false
-    turned a b h = grind arith
+    ⊎_elim (λ same. let none = absent same in grind arith) (λ other. let back : (p.0 == q.0) ≡ false = eqb-turned q.0 p.0 other in grind arith) (cases_Bool (q.0 == p.0))
 
 pub returns-in-Err-clause-stayed : goal.returns-in-Err-clause-stayed
 returns-in-Err-clause-stayed g c = record {

@@ -1,6 +1,5 @@
 -- The entries in the slot are released as any others.
-use Rattle.std.proofs.Common.{◌≡◌, ◌+◌, ◌≤◌, ◌^◌, All, length, List, ℕ, IsTrue, sym, subst, ap}
-use Rattle.ec_context.specs.declared.entry.Entry.{Entry}
+use Rattle.std.proofs.Common.{All, sym, subst}
 use Rattle.ec_context.specs.Entries.{IsKeptEntry}
 use Rattle.ec_numbered.specs.ByNumber.{kept_at}
 use Rattle.ec_parts.specs.Mentions.{AreOfEventsWith, AreSomeTables, HasReleased, TakeEventOut, list_props}
