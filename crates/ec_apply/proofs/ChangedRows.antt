@@ -1,9 +1,10 @@
 -- Rows of marks after some changes: they stay in order, and they are the rows of the new list where the changes are planned for it.
-use Rattle.std.proofs.Common.{◌≡◌, ℕ, ℤ, length, Bool, true, false, cond, not, ◌&&◌, List, [], ◌∷◌, filter, find, Option, Some, None, option_map, IsTrue, IsFalse, IsSome, is_some, refl, sym, ap, subst, ◌∙◌, ⊎_elim, arith}
+use Rattle.std.proofs.Common.{◌≡◌, ℕ, ℤ, length, Bool, true, false, cond, not, ◌&&◌, List, [], ◌∷◌, filter, Option, Some, None, option_map, IsTrue, IsFalse, IsSome, is_some, refl, sym, ap, subst, ◌∙◌, ⊎_elim}
 use Rattle.std.specs.Prelude.{int_lt, ◌==◌}
 use Rattle.std.specs.List.{All}
 use Rattle.std.specs.Ordering.{int_eq}
 use Rattle.std.proofs.lemmas.Bool.{cases_Bool, and_from, false≢true, eqb-true}
+use Rattle.std.proofs.Math.Bool.{and-false}
 use Rattle.ec_lists.proofs.Finds.{find-map, find-filter, find_agree, find-none}
 use Rattle.ec_lists.proofs.Integers.{int_eq-is}
 use Rattle.ec_terms.specs.declared.ground.Ground.{Ground}
@@ -20,6 +21,7 @@ use Rattle.ec_rows.proofs.KnownByTimes.{by_time-ext}
 use Rattle.ec_rows.proofs.OrderedLemmas.{ascending-first, ascending-rest, is_ascending-filter, is_ascending-with_member}
 use Rattle.ec_rows.proofs.TimedLemmas.{IsOrder-by_time}
 use Rattle.ec_points.specs.Changes.{Change, ChangesAreMade, are_all_apart, change_at, changed, count_of, has_change, made, without_mark}
+use Rattle.ec_points.proofs.MadeChanges.{find-never}
 use Rattle.ec_props.specs.Table.{KeptProp, prop_at}
 use Rattle.ec_delta.specs.Ready.{mark_made}
 use Rattle.ec_apply.proofs.PlainRows.{AreInOrder, AreInOrder-marks_of, from_marks_of, if_marked, plain_at, plain_rows-ext}
@@ -102,16 +104,10 @@ module _ {T : Type 0} (rank : T → ℤ) where
       (λ fails. found_none t fails marks ∙ sym (found_none t fails others)) (cases_Bool (q t)))
     where
       both : (t a : ℤ) → q t ≡ true → (q a && int_eq a t) ≡ int_eq a t
-      both t a passes = ⊎_elim (λ here. ap (λ b. b && int_eq a t) (ap q (int_eq-is a t here) ∙ passes)) (λ elsewhere. ap (λ b. q a && b) elsewhere ∙ never (q a) ∙ sym elsewhere) (cases_Bool (int_eq a t))
-        where
-          never : (b : Bool) → (b && false) ≡ false
-          never b = grind arith
+      both t a passes = ⊎_elim (λ here. ap (λ b. b && int_eq a t) (ap q (int_eq-is a t here) ∙ passes)) (λ elsewhere. ap (λ b. q a && b) elsewhere ∙ and-false (q a) ∙ sym elsewhere) (cases_Bool (int_eq a t))
 
       neither : (t a : ℤ) → q t ≡ false → (q a && int_eq a t) ≡ false
-      neither t a fails = ⊎_elim (λ here. ap (λ b. b && int_eq a t) (ap q (int_eq-is a t here) ∙ fails)) (λ elsewhere. ap (λ b. q a && b) elsewhere ∙ never (q a)) (cases_Bool (int_eq a t))
-        where
-          never : (b : Bool) → (b && false) ≡ false
-          never b = grind arith
+      neither t a fails = ⊎_elim (λ here. ap (λ b. b && int_eq a t) (ap q (int_eq-is a t here) ∙ fails)) (λ elsewhere. ap (λ b. q a && b) elsewhere ∙ and-false (q a)) (cases_Bool (int_eq a t))
 
       found_all : (t : ℤ) → q t ≡ true → (ms : List (Mark T)) → row_mark_at rank t (filter (λ (m : Mark T). q (rank m.at)) ms) ≡ row_mark_at rank t ms
       found_all t passes ms =
@@ -121,11 +117,7 @@ module _ {T : Type 0} (rank : T → ℤ) where
       found_none : (t : ℤ) → q t ≡ false → (ms : List (Mark T)) → row_mark_at rank t (filter (λ (m : Mark T). q (rank m.at)) ms) ≡ None
       found_none t fails ms =
           find-filter (λ (m : Mark T). int_eq (rank m.at) t) (λ m. q (rank m.at)) ms
-          ∙ find_agree (λ (m : Mark T). q (rank m.at) && int_eq (rank m.at) t) (λ m. false) (λ m. neither t (rank m.at) fails) ms ∙ nothing ms
-        where
-          nothing : (ks : List (Mark T)) → find (λ (m : Mark T). false) ks ≡ None
-          nothing [] = refl
-          nothing (k ∷ ks) = nothing ks
+          ∙ find_agree (λ (m : Mark T). q (rank m.at) && int_eq (rank m.at) t) (λ m. false) (λ m. neither t (rank m.at) fails) ms ∙ find-never ms
 
 -- changes of kept properties are of no number that is not kept
 pub count_of-none : {T : Type 0} (table : List KeptProp) (changes : List (Change T)) (n : ℕ) → All (λ (change : Change T). IsSome (prop_at change.0.0 table)) changes → prop_at n table ≡ None

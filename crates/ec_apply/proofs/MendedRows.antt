@@ -6,6 +6,7 @@ use Rattle.std.proofs.lemmas.List.Elements.{filter-append}
 use Rattle.std.proofs.lemmas.List.Folds.{list_any-append}
 use Rattle.ec_axioms.proofs.Members.{IsMember, filter_agree, list_any-false}
 use Rattle.std.specs.Cmp.Lexicographic.{pointwise}
+use Rattle.std.proofs.Math.Bool.{or-false}
 use Rattle.ec_axioms.specs.Changes.{interval_eq}
 use Rattle.ec_terms.specs.Domain.{is_strong}
 use Rattle.ec_exclusive.specs.Neighbours.{Neighbourhoods}
@@ -57,9 +58,6 @@ module _ {T : Type 0} (rank : T → ℤ) (around : Neighbourhoods) (points : Poi
     matters_next m =
         ap (matters_in m) (take_next touched i row there) ∙ list_any-append (λ (r : Row T). r.0 == m && r.1.matters) (take i touched) (row ∷ [])
         ∙ ap (λ b. matters_in m (take i touched) || b) (or-false (row.0 == m && row.1.matters))
-      where
-        or-false : (b : Bool) → (b || false) ≡ b
-        or-false b = grind arith
 
     -- the intervals of this property are as they were
     same-row : row_at row.0 now ≡ row_at row.0 start

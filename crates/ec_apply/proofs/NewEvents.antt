@@ -1,5 +1,5 @@
 -- The events of the new list: what is taken out of the store and what is put in leaves them, and what is kept of them by slot.
-use Rattle.std.proofs.Common.{◌≡◌, ℕ, zero, suc, ℤ, Bool, true, false, cond, not, ◌&&◌, ◌||◌, List, [], ◌∷◌, length, map, filter, find, Option, Some, None, option_map, is_some, IsTrue, IsFalse, IsSome, refl, sym, ap, ap₂, subst, ◌∙◌, inl, inr, ⊎_elim, slice_get, get_or, arith}
+use Rattle.std.proofs.Common.{◌≡◌, ℕ, ℤ, Bool, true, false, cond, not, ◌&&◌, ◌||◌, List, [], ◌∷◌, length, map, filter, find, Option, Some, None, option_map, is_some, IsTrue, IsFalse, IsSome, refl, sym, ap, ap₂, subst, ◌∙◌, inl, inr, ⊎_elim, slice_get, get_or, arith}
 use Rattle.std.specs.Prelude.{◌==◌, bytes_eq, int_lt, nat_lt}
 use Rattle.std.specs.List.{All, list_all, list_any}
 use Rattle.std.specs.Ordering.{int_eq}
@@ -7,10 +7,13 @@ use Rattle.std.proofs.lemmas.Bool.{cases_Bool, and_parts, and_from, false≢true
 use Rattle.std.proofs.lemmas.Int.{ints}
 use Rattle.std.proofs.lemmas.List.{length-map}
 use Rattle.std.proofs.lemmas.Slice.Eq.{bytes_eq-Decides}
+use Rattle.std.proofs.Math.Bool.{not-not}
+use Rattle.ec_points.proofs.MadeChanges.{find-never}
 use Rattle.ec_lists.proofs.Filters.{filter-map}
 use Rattle.ec_lists.proofs.Finds.{find-filter, find_agree}
 use Rattle.ec_lists.proofs.Options.{None-from_is_some}
 use Rattle.ec_lists.proofs.Tests.{list_any-and, list_any-filter, list_any-same}
+use Rattle.ec_lists.proofs.Places.{slice_get-map_at}
 use Rattle.ec_terms.specs.declared.ids.Slot.{Slot}
 use Rattle.ec_terms.specs.declared.theory.Theory.{Theory}
 use Rattle.ec_terms.specs.Domain.{entries_of}
@@ -18,7 +21,7 @@ use Rattle.ec_axioms.specs.declared.event.Event.{Event}
 use Rattle.ec_axioms.specs.Calculus.{PlainEvent, is_current}
 use Rattle.ec_axioms.specs.Changes.{comes_before, event_eq, events_only_in, has_event, has_id, is_history}
 use Rattle.ec_axioms.specs.Events.{event_of}
-use Rattle.ec_axioms.proofs.Members.{IsMember, IsMember-from_filter, IsMember-map, Contains-from_member, filter_agree, list_all-from_members, list_all-member, list_any-member, member-list_any}
+use Rattle.ec_axioms.proofs.Members.{IsMember, IsMember-from_filter, IsMember-map, Contains-from_member, filter_agree, list_all-from_members, list_all-member, list_any-member, member-list_any, IsMember-slice_get}
 use Rattle.ec_changes.proofs.KeptEvents.{IsMember-from_has_event, SameEventsSameHistory-law, event_eq-is, has_event-member}
 use Rattle.ec_rows.specs.Ordered.{is_ascending}
 use Rattle.ec_rows.proofs.OrderedLemmas.{ascending-first, ascending-rest, is_ascending-filter}
@@ -41,18 +44,6 @@ use Rattle.ec_delta.specs.Looked.{active_found}
 use Rattle.ec_delta.specs.Ready.{AreBitsOf}
 use Rattle.ec_apply.specs.Events.{AreAligned, AreFresh, IsAdded, StaysOrIsAdded, are_slots_apart, with_flips, without_slots}
 use Rattle.ec_apply.proofs.TakenOut.{kept_under}
-
--- what stands at a place is a member
-IsMember-slice_get : {X : Type 0} (xs : List X) (i : ℕ) (x : X) → slice_get xs i ≡ Some x → IsMember xs x
-IsMember-slice_get [] i x there = cc
-IsMember-slice_get (y ∷ xs) zero x there = let same : y ≡ x = cc in inl same
-IsMember-slice_get (y ∷ xs) (suc i) x there = inr (IsMember-slice_get xs i x there)
-
--- the value of a function at a place
-slice_get-map_at : {X Y : Type 0} (f : X → Y) (xs : List X) (i : ℕ) (x : X) → slice_get xs i ≡ Some x → slice_get (map f xs) i ≡ Some (f x)
-slice_get-map_at f [] i x there = cc
-slice_get-map_at f (y ∷ xs) zero x there = let same : y ≡ x = cc in ap (λ z. Some (f z)) same
-slice_get-map_at f (y ∷ xs) (suc i) x there = slice_get-map_at f xs i x there
 
 -- ---- events of a history
 
@@ -142,12 +133,8 @@ module _ {T : Type 0} where
           never : (a b : Bool) → (a && false) ≡ (b && false)
           never a b = grind arith
 
-      nothing : (ks : List (Kept T)) → find (λ (k : Kept T). false) ks ≡ None
-      nothing [] = refl
-      nothing (k ∷ ks) = nothing ks
-
       by_test : (b : Bool) → option_map (λ (k : Kept T). k.1) (find (λ (k : Kept T). not b && (k.0.0 == slot.0)) events) ≡ cond b None (event_at slot events)
-      by_test true = ap (option_map (λ (k : Kept T). k.1)) (nothing events)
+      by_test true = ap (option_map (λ (k : Kept T). k.1)) (find-never events)
       by_test false = refl
 
   -- entries that are those of the events stand where events stand
@@ -218,11 +205,7 @@ module _ {T : Type 0} (rank : T → ℤ) (theory : Theory) (table : List KeptPro
 
   -- an event is left where it stands in the new list
   left : (k : Kept T) → IsMember store.events k → not (has_slot k.0 change.remove) ≡ has_event new (plain_of rank k)
-  left k member = ap not (is_change.removed k (Contains-from_member store.events k member)) ∙ twice (has_event new (plain_of rank k))
-    where
-      twice : (b : Bool) → not (not b) ≡ b
-      twice true = refl
-      twice false = refl
+  left k member = ap not (is_change.removed k (Contains-from_member store.events k member)) ∙ not-not (has_event new (plain_of rank k))
 
   -- so what is left is what stands in both lists
   history-left : history_of rank (without_slots change.remove store.events) ≡ filter (has_event new) old

@@ -1,17 +1,19 @@
 -- The marks and the initiations of the new list, as the planned changes leave them.
 use Rattle.std.proofs.Common.{◌≡◌, ℕ, ◌+◌, ◌≤◌, ℤ, Bool, true, false, cond, not, ◌&&◌, ◌||◌, List, [], ◌∷◌, ◌++◌, length, map, filter, Option, Some, None, is_some, IsTrue, IsFalse, IsSome, refl, sym, ap, subst, ◌∙◌, inl, inr, ⊎_elim, nat_lt, arith, length-append}
-use Rattle.std.specs.Prelude.{int_lt, ◌==◌}
+use Rattle.std.specs.Prelude.{◌==◌}
 use Rattle.std.specs.List.{All, IsDistinct, list_any}
 use Rattle.std.specs.Ordering.{int_eq}
 use Rattle.std.specs.Cmp.{int_eq_equiv}
-use Rattle.std.proofs.lemmas.Bool.{cases_Bool, and_parts, and_from, or_left, or_right, eq-eqb}
+use Rattle.std.proofs.lemmas.Bool.{cases_Bool, and_parts, and_from, or_left, or_right, eq-eqb, and_left}
 use Rattle.std.proofs.lemmas.Int.{ints}
 use Rattle.std.proofs.lemmas.List.{length-map}
 use Rattle.std.proofs.lemmas.List.Folds.{list_any-append}
 use Rattle.std.proofs.lemmas.Map.Made.{length-le_from_is_member}
+use Rattle.std.proofs.Math.Bool.{and-false}
 use Rattle.ec_lists.proofs.Finds.{is_some-find}
-use Rattle.ec_lists.proofs.Integers.{int_eq-is, int_eq-same}
+use Rattle.ec_lists.proofs.Integers.{int_eq-is, int_eq-same, int_eq-from_lt}
 use Rattle.ec_lists.proofs.Tests.{list_any-map, list_any-same}
+use Rattle.ec_lists.proofs.Booleans.{false-from_not}
 use Rattle.ec_terms.specs.declared.ground.Ground.{Ground}
 use Rattle.ec_terms.specs.declared.theory.Theory.{Theory}
 use Rattle.ec_axioms.specs.Calculus.{PlainEvent}
@@ -97,24 +99,15 @@ module _ {T : Type 0} (rank : T → ℤ) (law : ChangesAreMade rank) (theory : T
       ∙ change_at-own changes (ascending-rest (are_apart rank) d changes apart) c later
     where
       other : are_apart rank d c ≡ true → (d.0.0 == c.0.0 && int_eq (rank d.1.at) (rank c.1.at)) ≡ false
-      other e = not-true (d.0.0 == c.0.0 && int_eq (rank d.1.at) (rank c.1.at)) e
-        where
-          not-true : (b : Bool) → not b ≡ true → b ≡ false
-          not-true b e = grind arith
+      other e = false-from_not (d.0.0 == c.0.0 && int_eq (rank d.1.at) (rank c.1.at)) e
 
   -- so no new initiation clashes
   pub no_new_clashes : IsTrue (are_all_apart rank planned.initiations) → (clash : ℕ → ℤ → Bool) → new_clashes rank clash planned.initiations ≡ 0
   no_new_clashes apart clash =
-      ap length (filter_none (λ (c : Change T). is_clash c.1 && not (clash c.0.0 (rank c.1.at))) planned.initiations (λ c member. never (is_clash c.1) _ (bare c member)))
+      ap length (filter_none (λ (c : Change T). is_clash c.1 && not (clash c.0.0 (rank c.1.at))) planned.initiations (λ c member. and_left (is_clash c.1) _ (bare c member)))
     where
-      never : (a b : Bool) → a ≡ false → (a && b) ≡ false
-      never a b e = grind arith
-
       no_clash : (mark : Mark T) → mark.clashes ≡ 0 → is_clash mark ≡ false
-      no_clash mark none = ap (λ n. nat_lt 0 mark.inits && nat_lt 0 n) none ∙ drops (nat_lt 0 mark.inits)
-        where
-          drops : (b : Bool) → (b && false) ≡ false
-          drops b = grind arith
+      no_clash mark none = ap (λ n. nat_lt 0 mark.inits && nat_lt 0 n) none ∙ and-false (nat_lt 0 mark.inits)
 
       kept : (c : Change T) → IsMember planned.initiations c → IsSome (prop_at c.0.0 table)
       kept c member = let at = Contains-from_member planned.initiations c member in subst (λ (d : Change T). IsSome (prop_at d.0.0 table)) at.2 (marks_planned.starts_of_kept at.0 c at.1)
@@ -148,13 +141,10 @@ module _ {T : Type 0} (rank : T → ℤ) (law : ChangesAreMade rank) (theory : T
           row : IsMarkRow rank (marks_at n points')
           row = IsMarkRow-marks_of rank theory new p (marks_at n points') history_new (marks'.marks n p kept)
 
-          other : (s t : ℤ) → int_lt s t ≡ true → int_eq s t ≡ false
-          other s t before = grind (arith, ints)
-
           pairs : (ms : List (Mark T)) → is_ascending (mark_before rank) ms ≡ true → IsPairwise (λ (l m : Mark T). IsFalse (int_eq (rank l.at) (rank m.at))) ms
           pairs [] ascending = tt
           pairs (m ∷ ms) ascending = (
-            λ l member. other (rank m.at) (rank l.at) (list_all-member (mark_before rank m) ms l (ascending-first (mark_before rank) m ms ascending) member),
+            λ l member. int_eq-from_lt (rank m.at) (rank l.at) (list_all-member (mark_before rank m) ms l (ascending-first (mark_before rank) m ms ascending) member),
             pairs ms (ascending-rest (mark_before rank) m ms ascending),
           )
 

@@ -2,8 +2,7 @@
 use Rattle.std.proofs.Common.{◌≡◌, ℕ, ◌+◌, ℤ, nat_lt, Bool, true, false, cond, List, [], ◌∷◌, map, filter, find, Option, Some, None, option_map, IsTrue, IsFalse, refl, sym, ap, subst, ◌∙◌, inl, inr, ⊎_elim, arith}
 use Rattle.std.specs.Prelude.{int_lt}
 use Rattle.std.specs.Ordering.{int_eq}
-use Rattle.std.proofs.lemmas.Bool.{cases_Bool, and_from, false≢true}
-use Rattle.std.proofs.lemmas.Bool.Decides.{nat_tests}
+use Rattle.std.proofs.lemmas.Bool.{cases_Bool, false≢true}
 use Rattle.std.proofs.lemmas.Int.{ints}
 use Rattle.ec_lists.proofs.Finds.{find-map}
 use Rattle.ec_lists.proofs.Integers.{int_eq-is, int_eq-same}
@@ -14,9 +13,10 @@ use Rattle.ec_axioms.specs.Changes.{is_history}
 use Rattle.ec_axioms.specs.Marks.{PlainMark, is_marked, mark_at, mark_initiates, marks_of}
 use Rattle.ec_axioms.proofs.HistoryMarks.{AreAllMarked-mark_at, instant-mark_at}
 use Rattle.ec_axioms.proofs.Instants.{IsPairwise-from_ascending, is_ascending-instants_of}
-use Rattle.ec_axioms.proofs.Members.{IsMember, IsMember-filter, IsMember-from_filter, IsMember-from_map, IsMember-map, IsPairwise, IsPairwise-filter, IsPairwise-map, IsPairwise-weaker, find-None, find-Some, list_all-from_members}
-use Rattle.ec_rows.specs.Ordered.{is_ascending}
+use Rattle.ec_axioms.proofs.Members.{IsMember, IsMember-filter, IsMember-from_filter, IsMember-from_map, IsMember-map, IsPairwise, IsPairwise-filter, IsPairwise-map, IsPairwise-weaker, find-None, find-Some}
+use Rattle.ec_axioms.proofs.MarkLaws.{is_marked-initiates}
 use Rattle.ec_rows.proofs.KnownByTimes.{by_time-ext}
+use Rattle.ec_rows.proofs.OrderedPairs.{ascending-from_pairwise}
 use Rattle.ec_parts.specs.Caches.{initiations_of, initiations_of_mark}
 use Rattle.ec_delta.specs.Ready.{initiation_at}
 
@@ -31,12 +31,6 @@ if_marked mark = cond (is_marked mark) (Some mark) None
 -- plain marks stand in the order of their instants
 abbrev pub AreInOrder : List PlainMark → Type 0
 AreInOrder marks = IsPairwise (λ (m n : PlainMark). IsTrue (int_lt m.instant n.instant)) marks
-
--- members in pairwise order ascend
-ascending-from_pairwise : {X : Type 0} (before : X → X → Bool) (xs : List X) → IsPairwise (λ x y. IsTrue (before x y)) xs → is_ascending before xs ≡ true
-unfolding is_ascending
-ascending-from_pairwise before [] pairs = refl
-ascending-from_pairwise before (x ∷ xs) pairs = and_from _ _ (list_all-from_members (before x) xs pairs.0) (ascending-from_pairwise before xs pairs.1)
 
 -- two rows in order with the same at each instant are one
 pub plain_rows-ext : (xs ys : List PlainMark) → AreInOrder xs → AreInOrder ys → ((t : ℤ) → plain_at t xs ≡ plain_at t ys) → xs ≡ ys
@@ -80,10 +74,6 @@ plain_at-initiating t (m ∷ marks) order =
     later : (a b : ℤ) → int_eq a t ≡ true → int_lt a b ≡ true → int_eq b t ≡ false
     later a b here before = grind (arith, ints)
 
--- a mark that initiates has a count
-initiates-marked : (mark : PlainMark) → mark_initiates mark ≡ true → is_marked mark ≡ true
-initiates-marked mark starts = grind (arith, nat_tests)
-
 bare_marked : (n : ℕ) → nat_lt 0 (n + 0 + 0) ≡ nat_lt 0 n
 bare_marked n = ap (nat_lt 0) (omega arith)
 
@@ -93,7 +83,7 @@ initiation_kept : (mark : PlainMark) (t : ℤ) → mark.instant ≡ t
 initiation_kept mark t placed =
     let bare : ℤ → PlainMark = λ u. record { instant = u; inits = mark.inits; terms = 0; clashes = 0 } in
     ⊎_elim
-    (λ starts. ap (λ b. option_map initiations_of_mark (keep_initiating (cond b (Some mark) None))) (initiates-marked mark starts)
+    (λ starts. ap (λ b. option_map initiations_of_mark (keep_initiating (cond b (Some mark) None))) (is_marked-initiates mark starts)
     ∙ ap (λ b. option_map initiations_of_mark (cond b (Some mark) None)) starts ∙ ap (λ u. Some (bare u)) placed
     ∙ sym (ap (λ b. cond b (Some (bare t)) None) (bare_marked mark.inits ∙ starts)))
     (λ none. dropped none (is_marked mark) ∙ sym (ap (λ b. cond b (Some (bare t)) None) (bare_marked mark.inits ∙ none)))

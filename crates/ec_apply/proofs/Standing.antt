@@ -1,5 +1,5 @@
 -- Once all caches are changed, the parts stand for the new list, and what changed is counted.
-use Rattle.std.proofs.Common.{◌≡◌, ℕ, ℤ, true, false, not, ◌&&◌, List, [], ◌∷◌, length, filter, Option, Some, None, is_some, IsTrue, IsFalse, IsSome, refl, sym, ap, ap₂, ◌∙◌, inl, inr, ⊎_elim, slice_get, zero, suc}
+use Rattle.std.proofs.Common.{◌≡◌, ℕ, ℤ, true, false, not, ◌&&◌, List, [], length, filter, Option, Some, None, is_some, IsTrue, IsFalse, IsSome, refl, sym, ap, ap₂, ◌∙◌, ⊎_elim}
 use Rattle.std.specs.Cmp.Lexicographic.{pointwise}
 use Rattle.std.specs.Option.{option_map_or}
 use Rattle.std.proofs.lemmas.Bool.{cases_Bool, false≢true, false_from_ne_true}
@@ -10,7 +10,7 @@ use Rattle.ec_axioms.specs.declared.event.Seen.{Seen}
 use Rattle.ec_axioms.specs.Calculus.{PlainEvent, intervals_of}
 use Rattle.ec_axioms.specs.Changes.{change_counts, has_other_intervals, interval_eq, is_history}
 use Rattle.ec_axioms.specs.Links.{is_live}
-use Rattle.ec_axioms.proofs.Members.{IsMember}
+use Rattle.ec_axioms.proofs.Members.{IsMember, slice_get-member}
 use Rattle.ec_changes.specs.LiveLaws.{ListsInitials}
 use Rattle.ec_changes.proofs.LiveMarks.{not_live-unknown}
 use Rattle.ec_changes.proofs.OtherIntervals.{OtherIntervalsDiffer-law}
@@ -39,12 +39,6 @@ pub seen-same : (counts : Seen) (seen on off props : ℕ) → seen ≡ counts.se
 seen-same counts seen on off props is_seen is_on is_off is_props =
     let made : ℕ → ℕ → ℕ → ℕ → Seen = λ a b c d. record { seen = a; on = b; off = c; props = d } in
     ap (λ a. made a on off props) is_seen ∙ ap (λ b. made counts.seen b off props) is_on ∙ ap (λ c. made counts.seen counts.on c props) is_off ∙ ap (made counts.seen counts.on counts.off) is_props
-
--- a member stands at a place
-member-place : {X : Type 0} (xs : List X) (x : X) → IsMember xs x → (i : ℕ) × (slice_get xs i ≡ Some x)
-member-place [] x member = absurd member
-member-place (y ∷ xs) x (inl same) = (zero, ap Some same)
-member-place (y ∷ xs) x (inr later) = let at = member-place xs x later in (suc at.0, at.1)
 
 module _ {T : Type 0} (rank : T → ℤ) (theory : Theory) (old new : List PlainEvent) (view : View T) (planned : Planned T) (points : PointTable T) (intervals : IntervalTable T)
     (added : AreAllAdded theory view.table view.neighbours) (windows : AreWindows rank view planned) (unmoved : KeepsWhatIsUnmoved theory old new view.table planned)
@@ -100,7 +94,7 @@ module _ {T : Type 0} (rank : T → ℤ) (theory : Theory) (old new : List Plain
       told : (row : Row T) → IsMember planned.touched row → row.1.matters ≡ true
           → (p : Ground) × (term_at row.0 view.table ≡ Some p) × (is_moved rank view.intervals intervals row ≡ has_other_intervals theory old new p)
       told row member matters =
-          let place = member-place planned.touched row member in
+          let place = slice_get-member planned.touched row member in
           let found = touched_at-listed planned.touched place.0 row once place.1 in
           let term = kept_term view.table (record { 0 = row.0 }) (windows.kept row.0 row.1 found) in (
             term.0,

@@ -5,6 +5,8 @@ use Rattle.std.specs.List.{All, list_all}
 use Rattle.std.proofs.lemmas.Bool.{cases_Bool, and_parts, false≢true, eq-eqb}
 use Rattle.std.proofs.lemmas.List.Folds.{list_any-append}
 use Rattle.std.proofs.lemmas.Slice.Eq.{bytes_eq-Decides}
+use Rattle.std.proofs.Math.Bool.{or-false}
+use Rattle.ec_points.proofs.MadeChanges.{find-never}
 use Rattle.ec_lists.proofs.Filters.{filter-each, filter-filter}
 use Rattle.ec_lists.proofs.Tests.{list_all-get_or}
 use Rattle.ec_apply.proofs.LastMembers.{ascending-last, live-parts}
@@ -100,7 +102,7 @@ module _ {T : Type 0} where
       ap (option_map (λ (k : Kept T). k.1)) (find-filter (λ (k : Kept T). k.0.0 == slot.0) (λ k. not (gone.0 == k.0.0)) events)
       ∙ ⊎_elim
       (λ here. ap (option_map (λ (k : Kept T). k.1))
-      (find_agree (λ (k : Kept T). not (gone.0 == k.0.0) && (k.0.0 == slot.0)) (λ k. false) (λ k. none k.0.0 here) events ∙ never events)
+      (find_agree (λ (k : Kept T). not (gone.0 == k.0.0) && (k.0.0 == slot.0)) (λ k. false) (λ k. none k.0.0 here) events ∙ find-never events)
       ∙ sym (ap (λ b. cond b None (event_at slot events)) here))
       (λ elsewhere. ap (option_map (λ (k : Kept T). k.1))
       (find_agree (λ (k : Kept T). not (gone.0 == k.0.0) && (k.0.0 == slot.0)) (λ k. k.0.0 == slot.0) (λ k. same k.0.0 elsewhere) events)
@@ -113,18 +115,11 @@ module _ {T : Type 0} where
       same : (n : ℕ) → (gone.0 == slot.0) ≡ false → (not (gone.0 == n) && (n == slot.0)) ≡ (n == slot.0)
       same n elsewhere = grind arith
 
-      never : (ks : List (Kept T)) → find (λ (k : Kept T). false) ks ≡ None
-      never [] = refl
-      never (k ∷ ks) = never ks
-
   -- ---- one removal less
 
   -- a slot is to be taken out by one removal more
   pub has_slot-last : (slot : Slot) (rest : List (Removal T)) (r : Removal T) → has_slot slot (rest ++ r ∷ []) ≡ (has_slot slot rest || (r.slot.0 == slot.0))
   has_slot-last slot rest r = list_any-append (λ (s : Removal T). s.slot.0 == slot.0) rest (r ∷ []) ∙ ap (λ b. has_slot slot rest || b) (or-false (r.slot.0 == slot.0))
-    where
-      or-false : (b : Bool) → (b || false) ≡ b
-      or-false b = grind arith
 
   -- taking out the last slot, and then the others, takes out all
   pub without_slots-last : (rest : List (Removal T)) (r : Removal T) (events : List (Kept T))

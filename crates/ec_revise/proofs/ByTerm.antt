@@ -2,6 +2,7 @@
 use Rattle.std.proofs.Common.{◌≡◌, ℕ, Bool, true, not, ◌&&◌, List, [], ◌∷◌, Option, Some, None, IsTrue, refl, sym, ap, ap₂, subst, ◌∙◌, ⊎_elim, arith}
 use Rattle.std.specs.Prelude.{◌==◌, is_some, unwrap_or}
 use Rattle.std.proofs.lemmas.Bool.{cases_Bool, eq-eqb, eqb-true, false≢true, false_from_ne_true}
+use Rattle.std.proofs.Math.Bool.{and-true}
 use Rattle.ec_terms.specs.declared.ids.PropId.{PropId}
 use Rattle.ec_terms.specs.declared.ground.Ground.{Ground}
 use Rattle.ec_terms.specs.declared.theory.Kind.{Kind}
@@ -14,7 +15,7 @@ use Rattle.ec_terms.proofs.OrderLemmas.{term_eq-Decides}
 use Rattle.ec_axioms.specs.Calculus.{is_initiating, is_terminating, is_clashing}
 use Rattle.ec_props.specs.Table.{KeptProp, prop_of, term_at}
 use Rattle.ec_numbered.proofs.Numbers.{has_number-filter}
-use Rattle.ec_exclusive.specs.Added.{Added, added_props, is_added, neighbours_of, stands_in_list}
+use Rattle.ec_exclusive.specs.Added.{added_props, is_added, neighbours_of, stands_in_list}
 use Rattle.ec_exclusive.specs.Neighbours.{Neighbourhoods, AreNeighbours, both_exclusive, exclusive_at}
 use Rattle.ec_exclusive.proofs.KeptLists.{is_added-neighbours_of}
 use Rattle.ec_exclusive.proofs.RowLemmas.{neighbours-exclusive}
@@ -24,7 +25,7 @@ use Rattle.ec_revise.specs.TurnCounts.{clashes_at, down_count, initiates_at, is_
 use Rattle.ec_revise.specs.Visit.{PlainTurn, bare_entry, downs, ups}
 
 -- numbers are the same where their terms are
-number-term : (table : List KeptProp) (m n : ℕ) (p q : Ground) → FindsItsTerms table → term_at m table ≡ Some p → term_at n table ≡ Some q → (m == n) ≡ term_eq p q
+pub number-term : (table : List KeptProp) (m n : ℕ) (p q : Ground) → FindsItsTerms table → term_at m table ≡ Some p → term_at n table ≡ Some q → (m == n) ≡ term_eq p q
 number-term table m n p q finds first second =
     ⊎_elim
     (λ same.
@@ -46,16 +47,13 @@ module _ (theory : Theory) (table : List KeptProp) (neighbours : Neighbourhoods)
       → stands_in_list id (neighbours_of head neighbours.rows) ≡ are_exclusive theory p term
   stands-exclusive head term shown in_rows = of_list (neighbours_of head neighbours.rows) refl
     where
-      and_true : (b : Bool) → (b && true) ≡ b
-      and_true b = grind arith
-
       of_list : (o : Option (List PropId)) → neighbours_of head neighbours.rows ≡ o → stands_in_list id o ≡ are_exclusive theory p term
       of_list None none = absurd (false≢true (sym (ap is_some none) ∙ sym (is_added-neighbours_of head neighbours.rows) ∙ in_rows))
       of_list (Some list) some =
           ap (λ ps. stands_in_list id (Some ps)) (neighbours-exclusive theory table neighbours head list are some)
           ∙ has_number-filter id (exclusive_at theory table head) (added_props neighbours.rows)
           ∙ ap (λ b. exclusive_at theory table head id && b) added
-          ∙ and_true (exclusive_at theory table head id)
+          ∙ and-true (exclusive_at theory table head id)
           ∙ ap₂ (both_exclusive theory) shown kept
           ∙ are_exclusive-comm theory term p
 

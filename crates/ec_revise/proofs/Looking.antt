@@ -117,7 +117,7 @@ length-effects_by theory events current active wanted t same =
     (λ effect member. same effect (IsMember-from_filter (λ (effect : Effect). wanted effect.entry) (entries_at theory events t) effect member).0))
 
 -- an entry is the same as itself
-same_entry-itself : (effect : Effect) → IsTrue (same_entry effect effect)
+pub same_entry-itself : (effect : Effect) → IsTrue (same_entry effect effect)
 unfolding same_entry
 same_entry-itself effect = and_from _ _ (event_eq-same effect.event) (eq-eqb effect.entry.rule effect.entry.rule refl)
 

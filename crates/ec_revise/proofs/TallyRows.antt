@@ -1,7 +1,7 @@
 -- What a tally has of each property after a turn is counted for one more.
 use Rattle.std.proofs.Common.{◌≡◌, ℕ, ◌+◌, ◌<◌, Bool, true, false, cond, ◌||◌, List, [], ◌∷◌, length, take, get_or, Some, refl, sym, ap, ap₂, subst, ◌∙◌, ⊎_elim, add-one, arith}
 use Rattle.std.specs.Prelude.{◌==◌, is_some, if◌then◌else◌, unwrap_or}
-use Rattle.std.proofs.lemmas.Bool.{cases_Bool, cond-false, cond-true, eqb-true}
+use Rattle.std.proofs.lemmas.Bool.{cases_Bool, cond-false, cond-true, eqb-true, or_right}
 use Rattle.std.proofs.lemmas.List.Folds.{list_any-append}
 use Rattle.std.proofs.Math.Bool.{or-false}
 use Rattle.std.proofs.Math.Seq.{take-suc}
@@ -53,7 +53,7 @@ CountsEach-more ps i d part up first before after ascending below done more = re
       let unseen : has_number q.0 (take i ps) ≡ false = subst (λ m. has_number m (take i ps) ≡ false) n (not-yet ps i d ascending below) in
       cond-true _ _ _ (or-false ((get_or ps i d).0 == q.0) ∙ here)
       ∙ ap (with_one part up) (done.counted q ∙ cond-false _ _ _ unseen)
-      ∙ sym (cond-true _ _ _ (has_number-more ps i d q.0 below ∙ either_right (has_number q.0 (take i ps)) _ here)))
+      ∙ sym (cond-true _ _ _ (has_number-more ps i d q.0 below ∙ or_right (has_number q.0 (take i ps)) _ here)))
       (λ apart.
       cond-false _ _ _ (or-false ((get_or ps i d).0 == q.0) ∙ apart)
       ∙ done.counted q
@@ -66,9 +66,6 @@ CountsEach-more ps i d part up first before after ascending below done more = re
       ∙ ap (λ b. b || is_some (row_at q.0 first)) (sym (has_number-more ps i d q.0 below));
 }
   where
-    either_right : (b c : Bool) → c ≡ true → (b || c) ≡ true
-    either_right b c passes = grind arith
-
     left_alone : (b c : Bool) → c ≡ false → (b || c) ≡ b
     left_alone b c fails = grind arith
 

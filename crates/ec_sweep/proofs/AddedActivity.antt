@@ -8,6 +8,7 @@ use Rattle.std.proofs.lemmas.List.{length-map, length-take-le}
 use Rattle.std.proofs.lemmas.Option.{none-some, slice_get-map, slice_get_within}
 use Rattle.ec_lists.proofs.Filters.{length-filter_le, length-filter_wider}
 use Rattle.ec_lists.proofs.Integers.{int_eq-is, int_eq-same}
+use Rattle.ec_intervals.proofs.Spliced.{slice_get-drop}
 use Rattle.ec_terms.specs.declared.ids.PropId.{PropId}
 use Rattle.ec_terms.specs.declared.theory.Theory.{Theory}
 use Rattle.ec_terms.specs.Domain.{GroundEntry, entries_of}
@@ -16,7 +17,7 @@ use Rattle.ec_axioms.specs.Calculus.{Currency, Effect, PlainEvent, effects_of}
 use Rattle.ec_axioms.specs.Changes.{events_only_in}
 use Rattle.ec_axioms.specs.Events.{event_of}
 use Rattle.ec_axioms.specs.Plain.{events_at}
-use Rattle.ec_axioms.proofs.Members.{IsMember, IsMember-filter, IsMember-from_filter, IsMember-map}
+use Rattle.ec_axioms.proofs.Members.{IsMember, IsMember-filter, IsMember-from_filter, IsMember-map, IsMember-slice_get}
 use Rattle.ec_agenda.specs.Due.{Due}
 use Rattle.ec_changes.specs.Differences.{entries_at}
 use Rattle.ec_changes.proofs.Activity.{event-effects_of}
@@ -47,8 +48,9 @@ use Rattle.ec_sweep.specs.Visiting.{CanLook}
 use Rattle.ec_sweep.proofs.HitActivity.{currency_over-found}
 use Rattle.ec_sweep.proofs.HitEffects.{AreEffectsOf}
 use Rattle.ec_sweep.proofs.LookedActivity.{active_then, then-added, then-elsewhere}
-use Rattle.ec_sweep.proofs.ReadingEntries.{AreAtSlots, each_of-slice_get, effect_by, kept-shown, slice_get-member}
-use Rattle.ec_sweep.proofs.SameMembers.{slice_get-drop, slice_get-joined, slice_get-take}
+use Rattle.ec_context.proofs.EachOf.{each_of-at, each_of-slice_get}
+use Rattle.ec_sweep.proofs.ReadingEntries.{AreAtSlots, effect_by}
+use Rattle.ec_sweep.proofs.SameMembers.{slice_get-joined, slice_get-take}
 use Rattle.ec_sweep.proofs.TimedRuns.{run-first, run-next}
 
 -- ---- words of lists
@@ -182,14 +184,14 @@ module _ {T : Type 0} (rank : T → ℤ) (theory : Theory) (new : List PlainEven
   met-before i event within there =
       (IsMember-from_filter (λ (e : Event T). int_le (rank e.at) r) change.add event
       (subst (λ es. IsMember es event) (run-first rank (λ (e : Event T). e.at) r change.add ordered)
-      (slice_get-member (take before change.add) i event
+      (IsMember-slice_get (take before change.add) i event
       (slice_get-take before change.add i event (subst (λ n. i < n) can.shows.bits within) there)))).1
 
   -- a word behind those is of an event at the instant
   met-now : (i j word : ℕ) (event : Event T) → i ≡ length looked.bits + j → slice_get bits.words j ≡ Some word → slice_get change.add i ≡ Some event → slice_get adds j ≡ Some event
   met-now i j word event is word_there there =
       subst (λ es. slice_get es j ≡ Some event) (sym adds_are)
-      (slice_get-drop before (take up_to change.add) j event
+      (slice_get-drop (take up_to change.add) before j event
       (slice_get-take up_to change.add (before + j) event
       (let within = slice_get_within bits.words j word word_there in let count = word-count in let all = length-adds in omega arith)
       (subst (λ k. slice_get change.add k ≡ Some event) (is ∙ ap (λ n. n + j) can.shows.bits) there)))
@@ -229,9 +231,9 @@ module _ {T : Type 0} (rank : T → ℤ) (theory : Theory) (new : List PlainEven
               let same : effect_by (event_of rank event) ground ≡ effect =
               ap (λ o. unwrap_or o (effect_by (event_of rank event) ground))
               (sym (ap (λ o. option_map (effect_by (event_of rank event)) (option_and_then (shown_entry view.table) o)) here ∙ ap (option_map (effect_by (event_of rank event))) is) ∙ made) in
-              let member = slice_get-member (entries_of theory event.term) k ground
+              let member = IsMember-slice_get (entries_of theory event.term) k ground
               (each_of-slice_get (shown_entry view.table) list (entries_of theory event.term) shown k ∙ ap (option_and_then (shown_entry view.table)) here ∙ is) in
-              ap active_after (sym same) ∙ sym (acts-added event (slice_get-member adds j event there) entry ground is member)
+              ap active_after (sym same) ∙ sym (acts-added event (IsMember-slice_get adds j event there) entry ground is member)
               ∙ sym (ap (λ o. option_map_or (acts by_number t) o false) here)
 
   pub added-then : (i word k : ℕ) (event : Event T) (effect : Effect) → slice_get change.add i ≡ Some event → slice_get after.bits i ≡ Some word
@@ -242,7 +244,7 @@ module _ {T : Type 0} (rank : T → ℤ) (theory : Theory) (new : List PlainEven
       then-elsewhere rank theory new view tally change r t dirty agenda due looked planned active progress can one slots removals removals_are hits are seen of_hits effect
       (λ here.
       never (rank event.at)
-      (ap (λ (e : PlainEvent). e.rank) (sym (event-effects_of theory (event_of rank event) effect (slice_get-member (effects_of theory (event_of rank event)) k effect at_place))) ∙ here)
+      (ap (λ (e : PlainEvent). e.rank) (sym (event-effects_of theory (event_of rank event) effect (IsMember-slice_get (effects_of theory (event_of rank event)) k effect at_place))) ∙ here)
       (met-before i event front.0 there))
       ∙ can.shows.added i word k event effect there front.1 at_place)
       (λ behind. added-now behind.0 word k event effect behind.2 (met-now i behind.0 word event behind.1 behind.2 there) at_place)
@@ -260,7 +262,7 @@ module _ {T : Type 0} (rank : T → ℤ) (theory : Theory) (new : List PlainEven
           → option_map_or (acts by_number t) (slice_get list k) false ≡ false
       of list shown None none = ap (λ o. option_map_or (acts by_number t) o false) none
       of list shown (Some entry) here =
-          let ground = kept-shown rank theory old view.table view.store view.entries can.underway.both.caches.entries_of list (entries_of theory event.term) shown k entry here in
+          let ground = each_of-at (shown_entry view.table) list (entries_of theory event.term) shown k entry here in
           absurd
           (none-some (effect_by (event_of rank event) ground.0)
           (sym nothing

@@ -4,9 +4,8 @@ use Rattle.std.proofs.Common.{◌≡◌, ◌≤ℤ◌, ◌+ℤ◌, ◌-ℤ◌, p
 use Rattle.std.specs.Prelude.{◌&&◌, int_le, not}
 use Rattle.std.specs.List.{list_all}
 use Rattle.std.specs.Option.{option_map_or}
-use Rattle.std.proofs.lemmas.Bool.{cases_Bool, or_cases}
+use Rattle.std.proofs.lemmas.Bool.{cases_Bool}
 use Rattle.std.proofs.lemmas.List.Elements.{All-nil}
-use Rattle.ec_changes.proofs.JoinedMembers.{IsMember-append_left}
 use Rattle.std.proofs.Common.{option_and_then}
 use Rattle.ec_lists.proofs.Integers.{int_le-same}
 use Rattle.ec_terms.specs.declared.ids.Slot.{Slot}
@@ -16,9 +15,8 @@ use Rattle.ec_axioms.specs.declared.event.Event.{Event}
 use Rattle.ec_axioms.specs.Calculus.{PlainEvent, Effect, is_active, is_current}
 use Rattle.ec_axioms.specs.Changes.{events_only_in, has_event}
 use Rattle.ec_axioms.specs.Events.{event_of}
-use Rattle.ec_axioms.specs.Links.{is_live}
 use Rattle.ec_axioms.specs.Marks.{mark_at}
-use Rattle.ec_axioms.proofs.Members.{Contains-from_member, IsMember-append_right, IsMember-filter, IsMember-from_contains, IsMember-map, filter_none, list_all-from_members, list_all-member}
+use Rattle.ec_axioms.proofs.Members.{Contains-from_member, IsMember-append_right, IsMember-filter, IsMember-from_contains, IsMember-map, filter_none, list_all-from_members, list_all-member, IsMember-append_left}
 use Rattle.ec_changes.specs.QuietLaws.{DifferFrom, single_events}
 use Rattle.ec_events.specs.Store.{event_at, history_of, plain_of}
 use Rattle.ec_numbered.specs.ByNumber.{kept_at}
@@ -31,7 +29,7 @@ use Rattle.ec_parts.specs.StandFor.{View}
 use Rattle.ec_entries.specs.declared.event_entries.EventEntries.{EventEntries}
 use Rattle.ec_revise.specs.declared.change.Change.{Change}
 use Rattle.ec_revise.specs.declared.change.Removal.{Removal}
-use Rattle.ec_revise.specs.Sweep.{AreCompared, Swept}
+use Rattle.ec_revise.specs.Sweep.{Swept}
 use Rattle.ec_revise.proofs.Starting.{SweepStarts-law}
 use Rattle.ec_changes.proofs.Past.{PastStays-law}
 use Rattle.ec_revise.specs.Sweep.{Found}
@@ -46,6 +44,7 @@ use Rattle.ec_sweep.specs.declared.sweep.Sweep.{Sweep}
 use Rattle.ec_sweep.specs.State.{IsUnderway, found_by, keeps}
 use Rattle.ec_sweep.specs.Sweeping.{IsSweeping, no_sweep}
 use Rattle.ec_sweep.proofs.Singles.{IsRemoved-of}
+use Rattle.ec_sweep.proofs.NextInstant.{compared}
 
 -- ---- a whole number before all
 
@@ -79,15 +78,6 @@ module _ {T : Type 0} (rank : T → ℤ) (theory : Theory) (new : List PlainEven
   abbrev old : List PlainEvent
   old = history_of rank view.store.events
 
-  -- the two lists are histories, and what is live in one is kept
-  pub compared : AreCompared theory old new (keeps view.table)
-  compared = record {
-    old_history = underway.both.caches.history;
-    new_history = underway.change_is.history;
-    live = λ p live.
-        ⊎_elim (λ in_old. underway.both.live p in_old) (λ in_new. underway.both.tables.kept.live p in_new) (or_cases (is_live theory old p) (is_live theory new p) live);
-  }
-
   abbrev first : ℤ
   first = (below_all (single_events old new)).bound
 
@@ -119,7 +109,7 @@ module _ {T : Type 0} (rank : T → ℤ) (theory : Theory) (new : List PlainEven
   no_test (Some a) f none = none a
 
   swept : Swept theory old new (keeps view.table) start found
-  swept = SweepStarts-law theory old new (keeps view.table) start found compared late
+  swept = SweepStarts-law theory old new (keeps view.table) start found (compared rank theory new view tally change underway) late
       (record {
         dirty = λ p. nothing_of (λ (id : ℕ). dirty_at id nothing.dirty) (prop_of p view.table) (λ id. refl);
         planned = λ p t. nothing_of (λ (id : ℕ). option_map (λ change. plain_mark rank change.1) (change_at rank id t nothing.planned.marks)) (prop_of p view.table) (λ id. refl);
@@ -135,7 +125,7 @@ module _ {T : Type 0} (rank : T → ℤ) (theory : Theory) (new : List PlainEven
 
   marks_same : (p : Ground) (t : ℤ) → t ≤ℤ start → mark_at theory old p t ≡ mark_at theory new p t
   marks_same p t within =
-      (PastStays-law theory old new (start +ℤ pos 1) compared.old_history compared.new_history late).marks p t (omega (arith, ints))
+      (PastStays-law theory old new (start +ℤ pos 1) underway.both.caches.history underway.change_is.history late).marks p t (omega (arith, ints))
 
   -- the bits of a slot are those of its event
   bits_of : (slot : Slot) (event : Event T) → event_at slot view.store.events ≡ Some event → (k : ℕ)

@@ -1,29 +1,25 @@
 -- The times of a change: its lists ascend by them, and each event that stands in one list alone has its time among them.
-use Rattle.std.proofs.Common.{◌≡◌, ℤ, true, not, List, find, Some, IsTrue, sym, ap, subst, ◌∙◌, arith}
-use Rattle.std.specs.Prelude.{◌==◌, int_le, option_map}
+use Rattle.std.proofs.Common.{◌≡◌, ℤ, true, not, List, find, Some, IsTrue, sym, ap, subst, ◌∙◌}
+use Rattle.std.specs.Prelude.{◌==◌, option_map}
 use Rattle.std.specs.List.{All}
 use Rattle.std.proofs.lemmas.Bool.{eqb-true}
-use Rattle.std.proofs.lemmas.Int.{ints}
 use Rattle.std.proofs.lemmas.List.Elements.{All-contains}
+use Rattle.ec_rows.proofs.OrderedPairs.{IsPairwise-from_map}
 use Rattle.ec_terms.specs.declared.theory.Theory.{Theory}
 use Rattle.ec_axioms.specs.declared.event.Event.{Event}
 use Rattle.ec_axioms.specs.Calculus.{PlainEvent}
 use Rattle.ec_axioms.specs.Changes.{comes_before, events_only_in, has_event}
 use Rattle.ec_axioms.specs.Events.{event_of}
 use Rattle.ec_axioms.proofs.Members.{Contains-from_member, IsMember, IsMember-from_filter, IsMember-from_map, IsPairwise, IsPairwise-filter, list_any-member}
+use Rattle.ec_axioms.proofs.Instants.{int_le-comes_before}
 use Rattle.ec_changes.proofs.KeptEvents.{IsPairwise-from_history}
 use Rattle.ec_events.specs.Store.{Kept, event_at, history_of, plain_of}
 use Rattle.ec_props.specs.Table.{KeptProp}
 use Rattle.ec_revise.specs.declared.change.Change.{Change}
 use Rattle.ec_revise.specs.declared.change.Removal.{Removal}
 use Rattle.ec_revise.specs.Change.{IsChange, has_slot, removal_before}
-use Rattle.ec_sweep.proofs.Gaps.{IsPairwise-from_map, ascends_by, ascends_by-order, ascends_by-pairs}
+use Rattle.ec_sweep.proofs.Gaps.{ascends_by, ascends_by-order, ascends_by-pairs}
 use Rattle.ec_sweep.proofs.NextVisit.{removal_before-le}
-
--- an event that comes before another is no later
-int_le-comes_before : (e f : PlainEvent) → IsTrue (comes_before e f) → int_le e.rank f.rank ≡ true
-unfolding comes_before
-int_le-comes_before e f before = grind (arith, ints)
 
 module _ {T : Type 0} (rank : T → ℤ) (theory : Theory) (table : List KeptProp) (events : List (Kept T)) (new : List PlainEvent) (change : Change T)
     (is : IsChange rank theory table events new change) where

@@ -1,11 +1,11 @@
 -- What is due in an agenda in order: its first member, and what is left of it.
 use Rattle.std.proofs.lemmas.Int.{ints}
-use Rattle.std.proofs.Common.{arith, Some, option_map, slice_get, ◌≡◌, ℕ, ℤ, Bool, true, false, List, [], ◌∷◌, ◌++◌, IsTrue, refl, sym, ap, ap₂, subst, ◌∙◌, ⊎_elim, ◌||◌, ◌&&◌, not}
+use Rattle.std.proofs.Common.{arith, Some, option_map, slice_get, ◌≡◌, ℕ, ℤ, true, false, List, [], ◌∷◌, ◌++◌, IsTrue, refl, sym, ap, ap₂, subst, ◌∙◌, ⊎_elim, ◌||◌, ◌&&◌, not}
 use Rattle.std.specs.Prelude.{◌==◌, ◌≤ℤ◌, int_le, int_lt, IsSomeAnd}
 use Rattle.std.specs.Ordering.{int_eq}
 use Rattle.std.proofs.lemmas.Bool.{cases_Bool, eq-eqb, false≢true}
 use Rattle.std.proofs.lemmas.List.Folds.{list_any-append}
-use Rattle.std.proofs.Math.Bool.{or-false, or_assoc}
+use Rattle.std.proofs.Math.Bool.{or-false, or_assoc, or-true}
 use Rattle.ec_lists.proofs.Booleans.{or_second}
 use Rattle.ec_lists.proofs.Integers.{int_eq-is, int_eq-same, int_le-from_lt, int_le-same, int_lt-not_le}
 use Rattle.ec_lists.proofs.Tests.{list_any-none, list_all-weaker}
@@ -82,8 +82,4 @@ not-empty rank t (x ∷ xs) is first = cc
 
 -- what is due behind the first is due
 pub has_due-rest : {T : Type 0} (rank : T → ℤ) (t : ℤ) (n : ℕ) (x : Due T) (rest : List (Due T)) → has_due rank t n rest ≡ true → has_due rank t n (x ∷ rest) ≡ true
-has_due-rest rank t n x rest due = ap (λ b. is_due rank t n x || b) due ∙ or_comm-true (is_due rank t n x)
-  where
-    or_comm-true : (b : Bool) → (b || true) ≡ true
-    or_comm-true true = refl
-    or_comm-true false = refl
+has_due-rest rank t n x rest due = ap (λ b. is_due rank t n x || b) due ∙ or-true (is_due rank t n x)

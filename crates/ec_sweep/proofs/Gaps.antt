@@ -1,6 +1,6 @@
 -- Lists that ascend by a key, cut where the key passes a number: all that is left has a greater key, and where what is left
 -- begins at another number, no key lies between the two.
-use Rattle.std.proofs.Common.{zero, suc, ◌≡◌, ◌⊎◌, ◌≤ℤ◌, ◌<ℤ◌, ℕ, ℤ, Bool, true, false, List, [], ◌∷◌, map, length, filter, refl, sym, ap, subst, ◌∙◌, inl, inr, ⊎_elim, arith}
+use Rattle.std.proofs.Common.{zero, suc, ◌≡◌, ◌⊎◌, ◌≤ℤ◌, ◌<ℤ◌, ℕ, ℤ, Bool, true, false, List, [], ◌∷◌, length, filter, refl, sym, ap, subst, ◌∙◌, inl, inr, ⊎_elim, arith}
 use Rattle.std.specs.Prelude.{int_le, drop}
 use Rattle.std.specs.List.{list_all}
 use Rattle.std.proofs.lemmas.Bool.{and_from, cases_Bool, cond-true, false≢true, false_from_ne_true}
@@ -9,7 +9,7 @@ use Rattle.ec_lists.proofs.Integers.{int_le-from, int_le-is, int_le-not_before, 
 use Rattle.ec_lists.proofs.Tests.{list_all-weaker}
 use Rattle.ec_rows.specs.Ordered.{is_ascending}
 use Rattle.ec_rows.proofs.OrderedLemmas.{ascending-first, ascending-rest}
-use Rattle.ec_axioms.proofs.Members.{IsMember, IsMember-filter, IsMember-map, IsPairwise, filter_agree, filter_none, list_all-from_members, list_all-member}
+use Rattle.ec_axioms.proofs.Members.{IsMember, IsMember-filter, IsPairwise, filter_agree, filter_none, list_all-from_members, list_all-member}
 use Rattle.ec_sweep.proofs.Firsts.{list_all-from_first}
 
 -- each key is no greater than those behind it
@@ -37,11 +37,6 @@ ascends_by-pairs related key grows (x ∷ xs) pairs =
     and_from (list_all (λ y. int_le (key x) (key y)) xs) (ascends_by key xs)
     (list_all-from_members (λ y. int_le (key x) (key y)) xs (λ y member. grows x y (pairs.0 y member)))
     (ascends_by-pairs related key grows xs pairs.1)
-
--- what is said of each two values of a function is said of its arguments
-pub IsPairwise-from_map : {X Y : Type 0} (related : Y → Y → Type 0) (f : X → Y) (xs : List X) → IsPairwise related (map f xs) → IsPairwise (λ x y. related (f x) (f y)) xs
-IsPairwise-from_map related f [] pairs = tt
-IsPairwise-from_map related f (x ∷ xs) pairs = (λ y member. pairs.0 (f y) (IsMember-map f xs y member), IsPairwise-from_map related f xs pairs.1)
 
 -- ---- the cut
 

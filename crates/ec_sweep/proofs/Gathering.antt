@@ -8,6 +8,7 @@ use Rattle.std.proofs.lemmas.Bool.{cases_Bool, and_parts, eqb-true}
 use Rattle.std.proofs.lemmas.List.{take_more}
 use Rattle.std.proofs.lemmas.List.Folds.{list_any-append}
 use Rattle.std.proofs.lemmas.Option.{none-some, get_or_from_slice_get, slice_get_within}
+use Rattle.std.proofs.Math.Bool.{or-false, and_comm}
 use Rattle.ec_lists.proofs.Options.{None-from_option_map}
 use Rattle.ec_lists.proofs.Tests.{list_any-filter, list_any-same}
 use Rattle.ec_terms.specs.declared.ids.Slot.{Slot}
@@ -19,9 +20,6 @@ use Rattle.ec_sweep.specs.declared.hits.Hit.{Hit}
 use Rattle.ec_sweep.specs.Hits.{Slots, depends_at, has_hit, is_hit}
 
 -- ---- one dependent more
-
-or_none : (b : Bool) → (b || false) ≡ b
-or_none b = grind arith
 
 -- the slot and the place of the k-th, if there is one
 abbrev IsPlaceOf : {T : Type 0} → Option (Dependent T) → Option (Slot × ℕ) → Type 0
@@ -44,7 +42,7 @@ taken_next {T} dependents k slot place nth s p = of (slice_get dependents k) ref
         let places : place ≡ d.place = ap (λ (o : Option (Slot × ℕ)). (unwrap_or o (slot, place)).1) both in
         ap (list_any (is_from s p)) (take_more dependents k d (slice_get_within dependents k d there) ∙ ap (λ e. take k dependents ++ e ∷ []) (get_or_from_slice_get dependents k d d there))
         ∙ list_any-append (is_from s p) (take k dependents) (d ∷ [])
-        ∙ ap (λ b. list_any (is_from s p) (take k dependents) || b) (or_none (is_from s p d) ∙ ap₂ (λ (q : Slot) m. (q.0 == s) && (m == p)) (sym slots) (sym places))
+        ∙ ap (λ b. list_any (is_from s p) (take k dependents) || b) (or-false (is_from s p d) ∙ ap₂ (λ (q : Slot) m. (q.0 == s) && (m == p)) (sym slots) (sym places))
 
 -- a hit of a slot that is not taken out
 same_slot : {T : Type 0} (removals : List (Removal T)) (slot : Slot) (place s p : ℕ) → is_hit s p (record { slot = slot; place = place }) ≡ true
@@ -101,14 +99,11 @@ pub depends_at-any : {T : Type 0} (rank : T → ℤ) (n : ℕ) (slots : Slots T)
     → list_any (is_from s p) (dependents_at rank t dependents) ≡ depends_at rank slots t s p n
 depends_at-any {T} rank n slots dependents exact t s p =
     list_any-filter (is_from s p) (λ (d : Dependent T). int_eq (rank d.at) t) dependents
-    ∙ list_any-same (λ d. int_eq (rank d.at) t && is_from s p d) (λ d. is_from s p d && int_eq (rank d.at) t) (λ d. both (int_eq (rank d.at) t) (is_from s p d)) dependents
+    ∙ list_any-same (λ d. int_eq (rank d.at) t && is_from s p d) (λ d. is_from s p d && int_eq (rank d.at) t) (λ d. and_comm (int_eq (rank d.at) t) (is_from s p d)) dependents
     ∙ sym (list_any-filter (λ (d : Dependent T). int_eq (rank d.at) t) (is_from s p) dependents)
     ∙ ap (list_any (λ (d : Dependent T). int_eq (rank d.at) t)) (exact.exact s p)
     ∙ of (dependent_at n slots s p)
   where
-    both : (a b : Bool) → (a && b) ≡ (b && a)
-    both a b = grind arith
-
     of : (o : Option (Dependent T)) → list_any (λ (d : Dependent T). int_eq (rank d.at) t) (option_to_list o) ≡ option_map_or (λ d. int_eq (rank d.at) t) o false
     of None = refl
-    of (Some d) = or_none (int_eq (rank d.at) t)
+    of (Some d) = or-false (int_eq (rank d.at) t)

@@ -7,7 +7,6 @@ use Rattle.std.specs.Ordering.{int_eq}
 use Rattle.std.proofs.lemmas.Bool.{and_from, and_parts, eq-eqb, eqb-true, false≢true, false_from_ne_true}
 use Rattle.std.proofs.lemmas.List.Elements.{All-contains}
 use Rattle.ec_lists.proofs.Integers.{int_eq-is, int_eq-same}
-use Rattle.ec_lists.proofs.Options.{Some-from_is_some}
 use Rattle.ec_terms.specs.declared.ids.PropId.{PropId}
 use Rattle.ec_terms.specs.declared.ids.Slot.{Slot}
 use Rattle.ec_terms.specs.declared.ground.Ground.{Ground}
@@ -17,13 +16,13 @@ use Rattle.ec_axioms.specs.Calculus.{PlainEvent, Effect, effects_of}
 use Rattle.ec_axioms.specs.Changes.{event_eq, has_event, is_history, kept_events}
 use Rattle.ec_axioms.specs.Events.{event_of}
 use Rattle.ec_axioms.specs.Plain.{events_at}
-use Rattle.ec_axioms.proofs.Members.{Contains-from_member, IsMember, IsMember-filter, IsMember-from_contains, IsMember-from_filter, IsPairwise, list_any-member, member-list_any}
+use Rattle.ec_axioms.proofs.Members.{Contains-from_member, IsMember, IsMember-filter, IsMember-from_contains, IsMember-from_filter, IsPairwise, list_any-member, member-list_any, IsMember-slice_get}
 use Rattle.ec_changes.specs.Differences.{entries_at, reads}
 use Rattle.ec_changes.specs.Turns.{ListsSeen, same_entry, sees}
 use Rattle.ec_changes.proofs.Activity.{event-effects_of}
 use Rattle.ec_changes.proofs.DistinctLists.{IsDistinct-from_pairwise, IsPairwise-from_distinct}
 use Rattle.ec_changes.proofs.JoinedMembers.{IsMember-flat_map, IsMember-from_flat_map}
-use Rattle.ec_changes.proofs.KeptEvents.{event_eq-is, event_eq-same}
+use Rattle.ec_changes.proofs.KeptEvents.{event_eq-is}
 use Rattle.ec_agenda.specs.Due.{Due, has_due}
 use Rattle.ec_props.specs.Table.{KeptProp, prop_of, term_at}
 use Rattle.ec_events.specs.Store.{Kept, event_at, history_of, plain_of}
@@ -37,7 +36,7 @@ use Rattle.ec_revise.specs.declared.change.Removal.{Removal}
 use Rattle.ec_revise.specs.Change.{has_slot}
 use Rattle.ec_revise.specs.ShownTurns.{FindsItsTerms}
 use Rattle.ec_revise.specs.Sweep.{Found}
-use Rattle.ec_revise.proofs.Looking.{HitsAreSeen-law}
+use Rattle.ec_revise.proofs.Looking.{HitsAreSeen-law, same_entry-itself}
 use Rattle.ec_delta.specs.declared.delta.Looked.{Looked}
 use Rattle.ec_delta.specs.declared.delta.Planned.{Planned}
 use Rattle.ec_sweep.specs.declared.hits.Hit.{Hit}
@@ -46,16 +45,11 @@ use Rattle.ec_sweep.specs.State.{DirtyRows, dirty_at, found_by, keeps}
 use Rattle.ec_sweep.specs.Visiting.{CanLook}
 use Rattle.ec_sweep.specs.Hits.{AreHits, depends_at, depends_on_due, is_hit, same_hit}
 use Rattle.ec_sweep.proofs.HitEntries.{hit-by}
-use Rattle.ec_parts.proofs.LinksByNumber.{IsOneToOne, same_number, term_at-prop_of}
-use Rattle.ec_parts.proofs.OneMention.{prop_of-term_at}
+use Rattle.ec_parts.proofs.LinksByNumber.{IsOneToOne, term_at-prop_of}
 use Rattle.ec_lists.proofs.Tests.{list_any-filter_none}
 use Rattle.ec_sweep.proofs.PlacesApart.{kept_under, places_apart, slots_apart}
-use Rattle.ec_sweep.proofs.ReadingEntries.{AreAtSlots, StandsAt, StandsAt-member, dependent-kept, dependent-reads, event-member, reads-dependent, slice_get-member}
-
--- an entry is the same as itself
-pub same_entry-itself : (effect : Effect) → IsTrue (same_entry effect effect)
-unfolding same_entry
-same_entry-itself effect = and_from (event_eq effect.event effect.event) (effect.entry.rule == effect.entry.rule) (event_eq-same effect.event) (eq-eqb effect.entry.rule effect.entry.rule refl)
+use Rattle.ec_sweep.proofs.ReadingEntries.{AreAtSlots, StandsAt, StandsAt-member, dependent-kept, dependent-reads, event-member, reads-dependent}
+use Rattle.ec_sweep.proofs.KeptTerms.{prop_of-term_at}
 
 -- ---- hits and effects, one by one
 
@@ -127,7 +121,7 @@ module _ {T : Type 0} (rank : T → ℤ) (theory : Theory) (events : List (Kept 
       and_from (a.slot.0 == b.slot.0) (a.place == b.place) (eq-eqb a.slot.0 b.slot.0 slots) (eq-eqb a.place b.place places)
     where
       event-at_place : (h : Hit) (g : Effect) (of_h : IsEffectOf rank theory events h g) → g.event ≡ event_of rank of_h.event
-      event-at_place h g of_h = event-effects_of theory (event_of rank of_h.event) g (slice_get-member (effects_of theory (event_of rank of_h.event)) h.place g of_h.at_place)
+      event-at_place h g of_h = event-effects_of theory (event_of rank of_h.event) g (IsMember-slice_get (effects_of theory (event_of rank of_h.event)) h.place g of_h.at_place)
 
   -- so effects of distinct hits are distinct
   pub effects-apart : IsTrue (is_history (history_of rank events)) → (hits : List Hit) (effects : List Effect) → AreEffectsOf rank theory events hits effects
@@ -146,9 +140,7 @@ module _ {T : Type 0} (rank : T → ℤ) (theory : Theory) (events : List (Kept 
 
 -- the number of a kept term leads back to it, and the other way
 pub finds_terms : (table : List KeptProp) → IsOneToOne table → FindsItsTerms table
-finds_terms table one n p there =
-    let id = Some-from_is_some (prop_of p table) (prop_of-term_at table n p one there) in
-    id.1 ∙ ap Some (same_number table id.0 n p one (term_at-prop_of table p id.0 one id.1) there)
+finds_terms table one n p there = prop_of-term_at table n p one.in_order there
 
 module _ {T : Type 0} (rank : T → ℤ) (theory : Theory) (new : List PlainEvent) (view : View T) (tally : Tally) (change : Change T) (r t : ℤ) (dirty : DirtyRows)
     (agenda : List (Due T)) (due : List PropId) (looked : Looked) (planned : Planned T) (active : Effect → Bool) (progress : Progress)
@@ -221,7 +213,7 @@ module _ {T : Type 0} (rank : T → ℤ) (theory : Theory) (new : List PlainEven
       (IsMember-filter (λ (e : PlainEvent). int_eq e.rank t) (filter (has_event new) old) (event_of rank event)
       (IsMember-filter (has_event new) old (event_of rank event) (event-member rank view.store.events slot event there) stays)
       (ap (λ u. int_eq u t) here ∙ int_eq-same t))
-      (slice_get-member (effects_of theory (event_of rank event)) place effect at_place)
+      (IsMember-slice_get (effects_of theory (event_of rank event)) place effect at_place)
 
   pub hit-effect : (hit : Hit) → IsMember hits hit → (effect : Effect) × IsSeenBy hit effect
   hit-effect hit member =

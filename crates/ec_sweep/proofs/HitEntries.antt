@@ -5,6 +5,7 @@ use Rattle.std.specs.List.{All}
 use Rattle.std.specs.Option.{option_map_or}
 use Rattle.std.specs.Ordering.{int_eq}
 use Rattle.std.proofs.lemmas.Bool.{and_from, and_parts, eq-eqb}
+use Rattle.ec_parts.proofs.Waiting.{All-from_members}
 use Rattle.ec_terms.specs.declared.ids.PropId.{PropId}
 use Rattle.ec_numbered.specs.ByNumber.{kept_at}
 use Rattle.ec_context.specs.declared.entry.Entry.{Entry}
@@ -17,7 +18,6 @@ use Rattle.ec_revise.specs.Change.{has_slot}
 use Rattle.ec_sweep.specs.declared.hits.Hit.{Hit}
 use Rattle.ec_sweep.specs.State.{DirtyRows, dirty_at}
 use Rattle.ec_sweep.specs.Acting.{entry_at}
-use Rattle.ec_sweep.proofs.SameMembers.{All-from_members}
 use Rattle.ec_sweep.specs.Hits.{AreHits, Slots, depends_at, depends_on_due, has_hit, is_hit}
 
 -- a hit is one of its list

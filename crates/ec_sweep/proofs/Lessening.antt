@@ -1,17 +1,17 @@
 -- Each visit leaves fewer events behind it.
 use Rattle.std.proofs.lemmas.Int.{ints}
-use Rattle.std.proofs.Common.{zero, suc, ◌≡◌, ◌<◌, ◌≤◌, ◌<ℤ◌, ℕ, ℤ, Bool, true, false, cond, List, [], ◌∷◌, Option, Some, None, IsTrue, length, filter, refl, sym, ap, subst, ◌∙◌, inl, inr, ⊎_elim, arith, ◌||◌}
+use Rattle.std.proofs.Common.{zero, suc, ◌≡◌, ◌<◌, ◌≤◌, ◌<ℤ◌, ℕ, ℤ, true, false, List, [], ◌∷◌, Option, Some, None, IsTrue, length, filter, refl, sym, ap, subst, ◌∙◌, inr, ⊎_elim, arith}
 use Rattle.std.specs.Prelude.{◌⊎◌, IsSome, int_lt, drop}
 use Rattle.std.specs.List.{list_any}
 use Rattle.std.specs.Ordering.{int_eq}
-use Rattle.std.proofs.lemmas.Bool.{false≢true}
 use Rattle.std.proofs.lemmas.List.Elements.{All-contains}
 use Rattle.ec_lists.proofs.Filters.{length-filter_wider}
 use Rattle.ec_lists.proofs.Integers.{int_eq-is, int_lt-from, int_lt-is, int_lt-same}
+use Rattle.ec_lists.proofs.Booleans.{cases_or_three}
 use Rattle.ec_terms.specs.declared.theory.Theory.{Theory}
 use Rattle.ec_axioms.specs.declared.event.Event.{Event}
 use Rattle.ec_axioms.specs.Calculus.{PlainEvent}
-use Rattle.ec_axioms.proofs.Members.{Contains-from_member, IsMember, IsMember-from_contains, IsMember-from_map, list_any-member}
+use Rattle.ec_axioms.proofs.Members.{Contains-from_member, IsMember, IsMember-from_contains, IsMember-from_map, list_any-member, length-filter_fewer}
 use Rattle.ec_agenda.specs.Due.{Due}
 use Rattle.ec_events.specs.Store.{Kept, history_of, plain_of}
 use Rattle.ec_points.specs.Clashes.{is_behind}
@@ -24,33 +24,6 @@ use Rattle.ec_sweep.specs.declared.sweep.Sweep.{Sweep}
 use Rattle.ec_sweep.specs.State.{IsUnderway}
 use Rattle.ec_sweep.specs.Sweeping.{IsLast, IsSweptUpTo, has_visit_at, left_behind}
 use Rattle.ec_sweep.proofs.Singles.{IsRemoved-of}
-
--- where a member passes one test and not the other, which is the narrower, fewer pass the other
-pub length-filter_fewer : {X : Type 0} (p q : X → Bool) (xs : List X) (x : X) → ((y : X) → q y ≡ true → p y ≡ true) → IsMember xs x → p x ≡ true → q x ≡ false
-    → length (filter q xs) < length (filter p xs)
-length-filter_fewer p q [] x wider member passes fails = absurd member
-length-filter_fewer {X} p q (y ∷ xs) x wider (inl same) passes fails =
-    let rest = length-filter_wider q p wider xs in
-    let first : p y ≡ true = ap p same ∙ passes in
-    let second : q y ≡ false = ap q same ∙ fails in
-    let P : Bool → Bool → Type 0 = λ a b. length (cond b (y ∷ filter q xs) (filter q xs)) < length (cond a (y ∷ filter p xs) (filter p xs)) in
-    subst (λ a. P a (q y)) (sym first) (subst (λ b. P true b) (sym second) (omega (arith, rest)))
-length-filter_fewer {X} p q (y ∷ xs) x wider (inr later) passes fails =
-    let rest = length-filter_fewer p q xs x wider later passes fails in
-    by_cases (p y) (q y) (wider y) rest
-  where
-    by_cases : (a b : Bool) → (b ≡ true → a ≡ true) → length (filter q xs) < length (filter p xs)
-        → length (cond b (y ∷ filter q xs) (filter q xs)) < length (cond a (y ∷ filter p xs) (filter p xs))
-    by_cases true true up rest = omega (arith, rest)
-    by_cases true false up rest = omega (arith, rest)
-    by_cases false false up rest = rest
-    by_cases false true up rest = absurd (false≢true (up refl))
-
--- one of three passes
-or_three : (a b c : Bool) → (a || b || c) ≡ true → (a ≡ true) ⊎ ((b ≡ true) ⊎ (c ≡ true))
-or_three true b c is = inl refl
-or_three false true c is = inr (inl refl)
-or_three false false c is = inr (inr is)
 
 -- what is left of a list behind a place is of the list
 IsMember-drop : {X : Type 0} (n : ℕ) (xs : List X) (x : X) → IsMember (drop n xs) x → IsMember xs x
@@ -131,4 +104,4 @@ module _ {T : Type 0} (rank : T → ℤ) (theory : Theory) (new : List PlainEven
       let event = list_any-member (λ (x : Event T). int_eq (rank x.at) (rank at)) (drop sweep.progress.added change.add) some in
       by_added (added_fewer event.0 (IsMember-drop sweep.progress.added change.add event.0 event.1) (int_eq-is (rank event.0.at) (rank at) event.2)))
       single)
-      (or_three _ _ _ there)
+      (cases_or_three _ _ _ there)

@@ -24,6 +24,7 @@ use Rattle.ec_numbered.specs.ByNumber.{kept_at}
 use Rattle.ec_parts.specs.declared.tally.Tally.{Tally}
 use Rattle.ec_parts.specs.StandFor.{View}
 use Rattle.ec_parts.proofs.LinksByNumber.{IsOneToOne}
+use Rattle.ec_parts.proofs.Waiting.{All-from_members}
 use Rattle.ec_agenda.specs.Due.{Due}
 use Rattle.ec_delta.specs.declared.delta.Looked.{Looked}
 use Rattle.ec_delta.specs.declared.delta.Planned.{Planned}
@@ -34,7 +35,6 @@ use Rattle.ec_sweep.specs.State.{DirtyRows, is_current_over}
 use Rattle.ec_sweep.specs.Visiting.{CanLook, HasLooked}
 use Rattle.ec_sweep.proofs.LookByTerm.{HasLooked-by_number}
 use Rattle.ec_sweep.proofs.ReadingEntries.{AreAtSlots, entered-event}
-use Rattle.ec_sweep.proofs.SameMembers.{All-from_members}
 use Rattle.ec_sweep.proofs.TimedRuns.{run-next}
 use Rattle.ec_props.specs.Table.{KeptProp}
 use Rattle.ec_revise.specs.declared.change.Change.{Change}
@@ -42,8 +42,8 @@ use Rattle.ec_revise.specs.declared.change.Removal.{Removal}
 use Rattle.ec_revise.specs.Change.{IsChange, entries_to_show, removal_before}
 use Rattle.ec_context.specs.Entries.{shown_entries}
 use Rattle.ec_rows.specs.Ordered.{is_ascending}
+use Rattle.ec_rows.proofs.OrderedPairs.{IsPairwise-ascending, ascending-from_pairwise, IsPairwise-from_map}
 use Rattle.ec_sweep.specs.Runs.{not_after}
-use Rattle.ec_sweep.proofs.SameMembers.{IsPairwise-from_ascending, IsPairwise-from_map, is_ascending-from_pairwise}
 
 -- ---- parts of lists
 
@@ -67,6 +67,10 @@ length-between xs m n within few =
 pub map-between : {X Y : Type 0} (f : X → Y) (xs : List X) (m n : ℕ) → map f (drop m (take n xs)) ≡ drop m (take n (map f xs))
 map-between f xs m n = sym (drop-map f m (take n xs)) ∙ ap (drop m) (sym (take-map f n xs))
 
+-- what comes first by time, and then by something else, is no later
+int_le-from_first : (s u : ℤ) (below : Bool) → (int_lt s u || (int_eq s u && below)) ≡ true → int_le s u ≡ true
+int_le-from_first s u below before = grind (arith, ints)
+
 -- ---- the lists of a change
 
 module _ {T : Type 0} (rank : T → ℤ) (theory : Theory) (table : List KeptProp) (events : List (Kept T)) (new : List PlainEvent) (change : Change T)
@@ -74,27 +78,21 @@ module _ {T : Type 0} (rank : T → ℤ) (theory : Theory) (table : List KeptPro
   -- removed events go by time
   pub removals-ordered : IsTrue (is_ascending (not_after rank (λ (removal : Removal T). removal.at)) change.remove)
   removals-ordered =
-      is_ascending-from_pairwise (not_after rank (λ (removal : Removal T). removal.at)) change.remove
+      ascending-from_pairwise (not_after rank (λ (removal : Removal T). removal.at)) change.remove
       (IsPairwise-weaker (λ a b. IsTrue (removal_before rank a b)) (λ a b. IsTrue (not_after rank (λ (removal : Removal T). removal.at) a b)) change.remove
-      (IsPairwise-from_ascending (removal_before rank) change.remove is.order)
-      (λ a b left right before. weaker (rank a.at) (rank b.at) (nat_lt a.slot.0 b.slot.0) before))
-    where
-      weaker : (s u : ℤ) (below : Bool) → (int_lt s u || (int_eq s u && below)) ≡ true → int_le s u ≡ true
-      weaker s u below before = grind (arith, ints)
+      (IsPairwise-ascending (removal_before rank) change.remove is.order)
+      (λ a b left right before. int_le-from_first (rank a.at) (rank b.at) (nat_lt a.slot.0 b.slot.0) before))
 
   -- and so do added events
   pub added-ordered : IsTrue (is_ascending (not_after rank (λ (event : Event T). event.at)) change.add)
   unfolding comes_before events_only_in
   added-ordered =
-      is_ascending-from_pairwise (not_after rank (λ (event : Event T). event.at)) change.add
+      ascending-from_pairwise (not_after rank (λ (event : Event T). event.at)) change.add
       (IsPairwise-weaker (λ a b. IsTrue (comes_before (event_of rank a) (event_of rank b))) (λ a b. IsTrue (not_after rank (λ (event : Event T). event.at) a b)) change.add
       (IsPairwise-from_map (λ e f. IsTrue (comes_before e f)) (event_of rank) change.add
       (subst (IsPairwise (λ e f. IsTrue (comes_before e f))) (sym is.added)
       (IsPairwise-filter (λ e f. IsTrue (comes_before e f)) (λ e. not (has_event (history_of rank events) e)) new (IsPairwise-from_history new is.history))))
-      (λ a b left right before. weaker (rank a.at) (rank b.at) _ before))
-    where
-      weaker : (s u : ℤ) (below : Bool) → (int_lt s u || (int_eq s u && below)) ≡ true → int_le s u ≡ true
-      weaker s u below before = grind (arith, ints)
+      (λ a b left right before. int_le-from_first (rank a.at) (rank b.at) _ before))
 
   -- as many lists of entries as added events
   pub length-entries : length change.entries ≡ length change.add

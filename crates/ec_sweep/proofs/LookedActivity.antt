@@ -10,12 +10,12 @@ use Rattle.ec_axioms.specs.Calculus.{Currency, Effect, PlainEvent, effects_of, i
 use Rattle.ec_axioms.specs.Changes.{event_eq, has_event, events_only_in, kept_events}
 use Rattle.ec_axioms.specs.Events.{event_of}
 use Rattle.ec_axioms.specs.Plain.{events_at}
-use Rattle.ec_axioms.proofs.Members.{Contains-from_member, IsMember, IsMember-append_right, IsMember-from_contains, IsMember-from_filter, list_any-member, member-list_any}
+use Rattle.ec_axioms.proofs.Members.{Contains-from_member, IsMember, IsMember-append_right, IsMember-from_contains, IsMember-from_filter, list_any-member, member-list_any, IsMember-slice_get, IsMember-append_left}
 use Rattle.ec_agenda.specs.Due.{Due}
 use Rattle.ec_changes.specs.Differences.{entries_at}
 use Rattle.ec_changes.specs.Turns.{ListsSeen, same_entry}
 use Rattle.ec_changes.proofs.Activity.{event-effects_of, rank-entries_at}
-use Rattle.ec_changes.proofs.JoinedMembers.{IsMember-append_left, IsMember-from_flat_map}
+use Rattle.ec_changes.proofs.JoinedMembers.{IsMember-from_flat_map}
 use Rattle.ec_changes.proofs.KeptEvents.{event_eq-is, has_event-member}
 use Rattle.ec_entries.specs.declared.event_entries.EventEntries.{EventEntries}
 use Rattle.ec_events.specs.Store.{history_of}
@@ -27,6 +27,7 @@ use Rattle.ec_revise.specs.declared.change.Removal.{Removal}
 use Rattle.ec_revise.specs.declared.turn.Turn.{Turn}
 use Rattle.ec_revise.specs.Sweep.{Found}
 use Rattle.ec_revise.specs.Visit.{LooksAt, currency_found}
+use Rattle.ec_revise.proofs.Looking.{same_entry-itself}
 use Rattle.ec_terms.specs.declared.ids.PropId.{PropId}
 use Rattle.ec_delta.specs.declared.delta.Looked.{Looked}
 use Rattle.ec_delta.specs.declared.delta.Planned.{Planned}
@@ -37,11 +38,12 @@ use Rattle.ec_sweep.specs.Hits.{AreHits}
 use Rattle.ec_sweep.specs.State.{DirtyRows, found_by, is_current_over}
 use Rattle.ec_sweep.specs.Visiting.{CanLook}
 use Rattle.ec_sweep.proofs.HitActivity.{acts-found, was-found}
-use Rattle.ec_sweep.proofs.HitEffects.{AreEffectsOf, IsEffectOf, hits-seen, length-effects, same_entry-itself}
+use Rattle.ec_sweep.proofs.HitEffects.{AreEffectsOf, IsEffectOf, hits-seen, length-effects}
 use Rattle.ec_sweep.proofs.HitTurns.{AreReadAs, IsReadAs, hits-off, hits-on}
 use Rattle.ec_sweep.proofs.NowActive.{active_now, active_now-looked, active_now-other, none_of_added, none_of_instant}
 use Rattle.ec_sweep.proofs.PlainTurns.{is_added-kept}
-use Rattle.ec_sweep.proofs.ReadingEntries.{AreAtSlots, IsShownAs-entry, entered-event, placed-effect, slice_get-member}
+use Rattle.ec_context.proofs.Shown.{IsShownAs-entry}
+use Rattle.ec_sweep.proofs.ReadingEntries.{AreAtSlots, entered-event, placed-effect}
 
 -- what is the same entry is of the same event
 pub same_entry-event : (effect other : Effect) → IsTrue (same_entry effect other) → effect.event ≡ other.event
@@ -99,7 +101,7 @@ module _ {T : Type 0} (rank : T → ℤ) (theory : Theory) (new : List PlainEven
   pub hit-rank : (hit : Hit) (effect : Effect) (of_hit : IsEffectOf rank theory view.store.events hit effect) → IsMember seen effect → rank of_hit.event.at ≡ t
   hit-rank hit effect of_hit member =
       ap (λ (e : PlainEvent). e.rank)
-      (sym (event-effects_of theory (event_of rank of_hit.event) effect (slice_get-member (effects_of theory (event_of rank of_hit.event)) hit.place effect of_hit.at_place)))
+      (sym (event-effects_of theory (event_of rank of_hit.event) effect (IsMember-slice_get (effects_of theory (event_of rank of_hit.event)) hit.place effect of_hit.at_place)))
       ∙ seen-rank effect member
 
   -- ---- what is active then

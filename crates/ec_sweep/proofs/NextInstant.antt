@@ -1,5 +1,5 @@
 -- Between the last visit and the next one nothing happens: a sweep has come up to just before the next visit with what it has found.
-use Rattle.std.proofs.Common.{◌≡◌, ◌⊎◌, ◌≤ℤ◌, ◌<ℤ◌, ◌+ℤ◌, pos, ℕ, ℤ, Bool, true, false, ◌||◌, List, Option, Some, None, IsTrue, refl, sym, ap, subst, ◌∙◌, inl, inr, ⊎_elim, arith}
+use Rattle.std.proofs.Common.{◌≡◌, ◌⊎◌, ◌≤ℤ◌, ◌<ℤ◌, ◌+ℤ◌, pos, ℕ, ℤ, true, false, List, Option, Some, None, IsTrue, refl, sym, ap, subst, ◌∙◌, ⊎_elim, arith}
 use Rattle.std.specs.Prelude.{int_le, option_map, unwrap_or, is_some, IsSome, drop}
 use Rattle.std.specs.List.{All, list_all, list_any}
 use Rattle.std.specs.Option.{option_map_or}
@@ -10,6 +10,7 @@ use Rattle.std.proofs.lemmas.List.Elements.{All-contains, All-weaker}
 use Rattle.ec_lists.proofs.Finds.{find-none}
 use Rattle.ec_lists.proofs.Integers.{int_eq-is, int_eq-same, int_le-is}
 use Rattle.ec_lists.proofs.Options.{Some-from_is_some}
+use Rattle.ec_lists.proofs.Booleans.{cases_or_three}
 use Rattle.ec_terms.specs.declared.ground.Ground.{Ground}
 use Rattle.ec_terms.specs.declared.theory.Theory.{Theory}
 use Rattle.ec_axioms.specs.declared.event.Event.{Event}
@@ -46,12 +47,6 @@ due-later {T} rank agenda t first n u due =
     let found = list_any-member (is_due rank u n) agenda due in
     let here : rank found.0.0 ≡ u = int_eq-is (rank found.0.0) u (and_parts _ _ found.2).0 in
     subst (λ v. t ≤ℤ v) here (int_le-is t (rank found.0.0) (list_all-member (λ (d : Due T). int_le t (rank d.0)) agenda found.0 first found.1))
-
--- one of three passes
-or_three : (a b c : Bool) → (a || b || c) ≡ true → (a ≡ true) ⊎ ((b ≡ true) ⊎ (c ≡ true))
-or_three true b c is = inl refl
-or_three false true c is = inr (inl refl)
-or_three false false c is = inr (inr is)
 
 -- the two lists are histories, and what is live in one is kept
 pub compared : {T : Type 0} (rank : T → ℤ) (theory : Theory) (new : List PlainEvent) (view : View T) (tally : Tally) (change : Change T)
@@ -113,7 +108,7 @@ module _ {T : Type 0} (rank : T → ℤ) (theory : Theory) (new : List PlainEven
       let event = list_any-member (λ (x : Event T). int_eq (rank x.at) t) (drop sweep.progress.added change.add) some in
       subst (λ u. r <ℤ u) (int_eq-is (rank event.0.at) t event.2) (additions event.0 event.1))
       single)
-      (or_three _ _ _ there)
+      (cases_or_three _ _ _ there)
 
   up_to : r ≤ℤ s
   up_to = omega (arith, ints, behind, next)

@@ -1,6 +1,6 @@
 -- The next time at which anything bears on a property.
-use Rattle.std.proofs.Common.{◌≡◌, ℕ, zero, suc, ℤ, ◌<ℤ◌, ◌≤ℤ◌, Bool, true, List, [], ◌∷◌, drop, Option, Some, None, IsTrue, IsSomeAnd, refl, sym, ap, subst, ◌∙◌, inl, inr, ⊎_elim, arith}
-use Rattle.std.specs.Prelude.{◌==◌, int_le, int_lt, IfSome, option_map, slice_get}
+use Rattle.std.proofs.Common.{◌≡◌, ℕ, suc, ℤ, ◌<ℤ◌, ◌≤ℤ◌, true, List, [], ◌∷◌, drop, Option, Some, None, IsTrue, IsSomeAnd, refl, sym, ap, subst, ◌∙◌, ◌⊎◌, inl, inr, ⊎_elim, arith}
+use Rattle.std.specs.Prelude.{◌==◌, int_le, int_lt, IfNone, IfSome, option_map, slice_get}
 use Rattle.std.specs.List.{list_all}
 use Rattle.std.specs.Option.{option_to_list}
 use Rattle.std.specs.Ordering.{int_eq}
@@ -9,20 +9,29 @@ use Rattle.std.proofs.lemmas.Int.{ints}
 use Rattle.std.proofs.lemmas.Option.{none-some}
 use Rattle.ec_lists.proofs.Fronts.{drop-slice_get}
 use Rattle.ec_lists.proofs.Integers.{int_eq-is, int_eq-same, int_le-is, int_lt-from, int_lt-is}
+use Rattle.ec_points.proofs.Lists.{is_ascending-drop}
 use Rattle.ec_axioms.proofs.Members.{IsMember, IsMember-filter, IsMember-from_filter, list_all-member, list_any-member, member-list_any}
 use Rattle.ec_entries.specs.declared.event_entries.Dependent.{Dependent}
 use Rattle.ec_entries.specs.Dependents.{AreDependents, dependent_at, dependents_after, is_from}
 use Rattle.ec_rows.specs.declared.mark.Mark.{Mark}
 use Rattle.ec_rows.specs.Marks.{IsMarkRow, has_mark, mark_before, marks_after}
 use Rattle.ec_rows.specs.Ordered.{is_ascending}
-use Rattle.ec_rows.proofs.OrderedLemmas.{ascending-first, ascending-rest}
+use Rattle.ec_rows.proofs.OrderedLemmas.{ascending-first}
 use Rattle.ec_sweep.specs.Settling.{IsReadAt, Slots}
 
--- what follows the first members is in order
-ascending-drop : {X : Type 0} (stands_before : X → X → Bool) (i : ℕ) (xs : List X) → is_ascending stands_before xs ≡ true → is_ascending stands_before (drop i xs) ≡ true
-ascending-drop stands_before zero xs order = order
-ascending-drop stands_before (suc i) [] order = order
-ascending-drop stands_before (suc i) (x ∷ xs) order = ascending-drop stands_before i xs (ascending-rest stands_before x xs order)
+-- where the earlier of two is nothing, both are
+pub earlier-none : {T : Type 0} (first second result : Option T) → IfNone result ((first ≡ None) × (second ≡ None)) → result ≡ None → (first ≡ None) × (second ≡ None)
+earlier-none first second result both none = subst (λ o. IfNone o ((first ≡ None) × (second ≡ None))) none both
+
+-- one of two that is something is so as the one that it is
+pub earlier-one : {T : Type 0} (first second result : Option T) (A B C : T → Type 0) → ((t : T) → A t → C t) → ((t : T) → B t → C t) → (result ≡ first) ⊎ (result ≡ second)
+    → IfSome first A → IfSome second B → IfSome result C
+earlier-one {T} first second result A B C left right either one two =
+    ⊎_elim (λ same. subst (λ o. IfSome o C) (sym same) (wider first A left one)) (λ same. subst (λ o. IfSome o C) (sym same) (wider second B right two)) either
+  where
+    wider : (o : Option T) (P : T → Type 0) → ((t : T) → P t → C t) → IfSome o P → IfSome o C
+    wider None P up holds = tt
+    wider (Some t) P up holds = up t holds
 
 module _ {T : Type 0} (rank : T → ℤ) (t : ℤ) where
   -- ---- marks
@@ -63,7 +72,7 @@ module _ {T : Type 0} (rank : T → ℤ) (t : ℤ) where
         int_lt-is (rank mark.at) (rank found.0.at)
         (list_all-member (mark_before rank mark) (drop (suc i) marks) found.0
         (ascending-first (mark_before rank) mark (drop (suc i) marks)
-        (subst (λ ms. is_ascending (mark_before rank) ms ≡ true) (drop-slice_get marks i mark there) (ascending-drop (mark_before rank) i marks row.ascending))) behind) in
+        (subst (λ ms. is_ascending (mark_before rank) ms ≡ true) (drop-slice_get marks i mark there) (is_ascending-drop (mark_before rank) i marks row.ascending))) behind) in
         omega (arith, ints))
         (subst (λ ms. IsMember ms found.0) front found.1)
 
@@ -122,7 +131,8 @@ module _ {T : Type 0} (rank : T → ℤ) (t : ℤ) where
   -- ---- the earlier of two
 
   -- what is no later than one of two is no later than what that is no later than
-  pub earlier-by : (o next : Option T) (u : ℤ) → IfSome o (λ a. IsSomeAnd next (λ s. rank s ≤ℤ rank a)) → IsSomeAnd o (λ a. rank a ≤ℤ u) → IsSomeAnd next (λ s. rank s ≤ℤ u)
-  earlier-by None next u before within = absurd within
-  earlier-by (Some a) None u before within = absurd before
-  earlier-by (Some a) (Some s) u before within = omega (arith, ints)
+  pub earlier-by : (o next : Option T) (u : ℤ) → (next ≡ None → o ≡ None) → IfSome o (λ a. IfSome next (λ s. rank s ≤ℤ rank a)) → IsSomeAnd o (λ a. rank a ≤ℤ u)
+      → IsSomeAnd next (λ s. rank s ≤ℤ u)
+  earlier-by None next u none before within = absurd within
+  earlier-by (Some a) None u none before within = absurd (none-some a (sym (none refl)))
+  earlier-by (Some a) (Some s) u none before within = omega (arith, ints)

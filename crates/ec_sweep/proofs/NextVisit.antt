@@ -14,6 +14,7 @@ use Rattle.ec_rows.proofs.OrderedLemmas.{and-left}
 use Rattle.ec_lists.proofs.Tests.{list_all-weaker}
 use Rattle.ec_rows.specs.Ordered.{is_ascending}
 use Rattle.ec_lists.proofs.Options.{None-from_option_map}
+use Rattle.ec_points.proofs.Lists.{is_ascending-drop}
 use Rattle.ec_axioms.specs.declared.event.Event.{Event}
 use Rattle.ec_agenda.specs.Due.{Due, are_in_order, comes_before}
 use Rattle.ec_revise.specs.declared.change.Change.{Change}
@@ -22,7 +23,7 @@ use Rattle.ec_revise.specs.Change.{removal_before}
 use Rattle.ec_sweep.specs.declared.progress.Progress.{Progress}
 use Rattle.ec_sweep.specs.Sweeping.{IsInOrder, NothingLeft, NothingLeftBefore, has_visit_at}
 use Rattle.ec_sweep.proofs.Dues.{comes_before-le}
-use Rattle.ec_sweep.proofs.Firsts.{is_ascending-drop, list_all-from_first}
+use Rattle.ec_sweep.proofs.Firsts.{list_all-from_first}
 
 -- ---- one list
 
@@ -87,11 +88,6 @@ at_place {T} {X} rank time xs i o at is there = each (slice_get xs i) refl
         ∙ ap (λ b. b || list_any (λ y. int_eq (rank (time y)) (rank at)) (drop (suc i) xs)) (subst (λ u. int_eq (rank (time x)) (rank u) ≡ true) same (int_eq-same (rank (time x))))
 
 -- ---- clauses on options
-
--- what holds of each value that there is
-pub if_some : {A : Type 0} (o : Option A) (P : A → Type 0) → ((x : A) → o ≡ Some x → P x) → IfSome o P
-if_some None P each = tt
-if_some (Some x) P each = each x refl
 
 -- what holds where there is none
 pub if_none : {A : Type 0} (o : Option A) (P : Type 0) → (o ≡ None → P) → IfNone o P

@@ -1,11 +1,12 @@
 -- Which entries are active once an instant was looked at, and how new bits of slots show it.
-use Rattle.std.proofs.Common.{◌≡◌, ◌≢◌, ℕ, ℤ, Bool, not, ◌&&◌, List, ◌++◌, filter, find, Option, Some, None, IsTrue, IsFalse, refl, sym, ap, ◌∙◌}
+use Rattle.std.proofs.Common.{◌≡◌, ◌≢◌, ℤ, Bool, not, ◌&&◌, List, ◌++◌, filter, find, Option, Some, None, IsTrue, IsFalse, refl, sym, ap, ◌∙◌}
 use Rattle.std.specs.Prelude.{◌==◌, if◌then◌else◌, option_map, unwrap_or}
 use Rattle.std.specs.Ordering.{int_eq}
 use Rattle.std.specs.List.{list_any}
 use Rattle.std.specs.Option.{option_or}
 use Rattle.std.proofs.lemmas.Bool.{and_parts, cond-true, cond-false, false≢true, false_from_ne_true}
 use Rattle.std.proofs.lemmas.List.Folds.{find-append}
+use Rattle.ec_sweep.proofs.OwnChanges.{option_or-none}
 use Rattle.ec_terms.specs.declared.ids.Slot.{Slot}
 use Rattle.ec_terms.specs.declared.theory.Theory.{Theory}
 use Rattle.ec_axioms.specs.Calculus.{Currency, Effect, PlainEvent, effects_of, is_active}
@@ -44,11 +45,7 @@ active_found-second slot first second kept none =
 pub active_found-first : {T : Type 0} (slot : Slot) (first second : List Flip) (kept : Option (EventEntries T)) → flip_at slot second ≡ None
     → active_found slot (first ++ second) kept ≡ active_found slot first kept
 active_found-first slot first second kept none =
-    ap (λ o. unwrap_or o (active_of kept)) (flip_at-append slot first second ∙ ap (option_or (flip_at slot first)) none ∙ same (flip_at slot first))
-  where
-    same : (o : Option ℕ) → option_or o None ≡ o
-    same None = refl
-    same (Some word) = refl
+    ap (λ o. unwrap_or o (active_of kept)) (flip_at-append slot first second ∙ ap (option_or (flip_at slot first)) none ∙ option_or-none (flip_at slot first))
 
 -- ---- what is active now
 

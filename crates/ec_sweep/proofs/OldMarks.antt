@@ -4,6 +4,7 @@ use Rattle.std.specs.Prelude.{is_some, if◌then◌else◌, option_map}
 use Rattle.std.specs.Ordering.{int_eq}
 use Rattle.std.proofs.lemmas.Bool.{cases_Bool, cond-false, cond-true, false≢true, and_parts, and_from}
 use Rattle.std.proofs.lemmas.Bool.Decides.{nat_tests}
+use Rattle.std.proofs.Math.Bool.{and-true}
 use Rattle.ec_lists.proofs.Finds.{find-filter, find-map, is_some-find}
 use Rattle.ec_lists.proofs.Integers.{int_eq-is, int_eq-same}
 use Rattle.ec_lists.proofs.Options.{is_some-option_map}
@@ -19,6 +20,11 @@ use Rattle.ec_rows.specs.Marks.{has_mark, mark_at as row_mark_at}
 use Rattle.ec_rows.specs.PlainMarks.{plain_mark, plain_marks}
 use Rattle.ec_parts.specs.Caches.{initiations_of, initiations_of_mark}
 use Rattle.ec_sweep.specs.Settling.{mark_or_zeros}
+
+-- there is a value where one is chosen, and else none
+is_some-if : {X : Type 0} (b : Bool) (x : X) → is_some (if b then Some x else None) ≡ b
+is_some-if true x = refl
+is_some-if false x = refl
 
 module _ (theory : Theory) (events : List PlainEvent) (p : Ground) where
   -- the mark that a test finds at an instant among those of a property: the one there, if it has a count and passes
@@ -58,10 +64,7 @@ module _ (theory : Theory) (events : List PlainEvent) (p : Ground) where
         sym (find-map (λ (m : PlainMark). int_eq m.instant t) (plain_mark rank) marks)
         ∙ ap (find (λ (m : PlainMark). int_eq m.instant t)) are
         ∙ find-marks_of (λ m. true) t
-        ∙ ap (λ b. if b then Some (mark_at theory events p t) else None) (and_true (is_marked (mark_at theory events p t)))
-      where
-        and_true : (b : Bool) → (b && true) ≡ b
-        and_true b = grind arith
+        ∙ ap (λ b. if b then Some (mark_at theory events p t) else None) (and-true (is_marked (mark_at theory events p t)))
 
     -- so the row has one there where it has a count
     pub has_mark-is : (t : ℤ) → has_mark rank t marks ≡ is_marked (mark_at theory events p t)
@@ -69,11 +72,7 @@ module _ (theory : Theory) (events : List PlainEvent) (p : Ground) where
         sym (is_some-find (λ (m : Mark T). int_eq (rank m.at) t) marks)
         ∙ sym (is_some-option_map (plain_mark rank) (row_mark_at rank t marks))
         ∙ ap is_some (row_mark-is t)
-        ∙ some_if (is_marked (mark_at theory events p t))
-      where
-        some_if : (b : Bool) → is_some (if b then Some (mark_at theory events p t) else None) ≡ b
-        some_if true = refl
-        some_if false = refl
+        ∙ is_some-if (is_marked (mark_at theory events p t)) (mark_at theory events p t)
 
     -- and with zeros where the row has none, it is the mark of the history
     pub mark_or_zeros-is : (at : T) → plain_mark rank (mark_or_zeros at (row_mark_at rank (rank at) marks)) ≡ mark_at theory events p (rank at)
@@ -106,8 +105,4 @@ module _ (theory : Theory) (events : List PlainEvent) (p : Ground) where
         ∙ find-map (λ (m : PlainMark). int_eq m.instant t) initiations_of_mark (filter mark_initiates (marks_of theory events p)))
         ∙ is_some-option_map initiations_of_mark (find (λ (m : PlainMark). int_eq m.instant t) (filter mark_initiates (marks_of theory events p)))
         ∙ ap is_some (find-filter (λ (m : PlainMark). int_eq m.instant t) mark_initiates (marks_of theory events p) ∙ find-marks_of mark_initiates t)
-        ∙ some_if (is_marked (mark_at theory events p t) && mark_initiates (mark_at theory events p t))
-      where
-        some_if : (b : Bool) → is_some (if b then Some (mark_at theory events p t) else None) ≡ b
-        some_if true = refl
-        some_if false = refl
+        ∙ is_some-if (is_marked (mark_at theory events p t) && mark_initiates (mark_at theory events p t)) (mark_at theory events p t)

@@ -6,6 +6,7 @@ use Rattle.std.specs.Option.{option_or}
 use Rattle.std.specs.Ordering.{int_eq}
 use Rattle.std.proofs.lemmas.Bool.{false≢true}
 use Rattle.std.proofs.lemmas.List.Folds.{list_any-append, find-append}
+use Rattle.std.proofs.lemmas.List.{length_push}
 use Rattle.ec_lists.proofs.Filters.{filter-filter, length-filter_le}
 use Rattle.ec_lists.proofs.Integers.{int_eq-same}
 use Rattle.ec_lists.proofs.Finds.{find-filter, is_some-find}
@@ -13,6 +14,11 @@ use Rattle.ec_lists.proofs.Tests.{list_any-filter}
 use Rattle.ec_points.specs.Changes.{Change as MarkChange, change_at, count_of, growth_of, has_change, is_new}
 use Rattle.ec_rows.specs.declared.mark.Mark.{Mark}
 use Rattle.ec_sweep.specs.Settling.{own_changes, with_if}
+
+-- nothing in the second place adds nothing
+pub option_or-none : {X : Type 0} (o : Option X) → option_or o None ≡ o
+option_or-none None = refl
+option_or-none (Some x) = refl
 
 -- what stands behind all others passes a test, or it does not
 filter-push : {X : Type 0} (test : X → Bool) (xs : List X) (x : X) → filter test (xs ++ x ∷ []) ≡ (if test x then filter test xs ++ x ∷ [] else filter test xs)
@@ -79,12 +85,8 @@ module _ {T : Type 0} (rank : T → ℤ) (n : ℕ) (so : Bool) (change : MarkCha
       change_at-own rank n t more ∙ ap (find (λ (c : MarkChange T). int_eq (rank c.1.at) t)) with_it
       ∙ found so (own_changes n changes) ∙ sym (change_at-own rank n t changes)
     where
-      or_none : {X : Type 0} (o : Option X) → option_or o None ≡ o
-      or_none None = refl
-      or_none (Some x) = refl
-
       found : (b : Bool) (cs : List (MarkChange T)) → find (λ (c : MarkChange T). int_eq (rank c.1.at) t) (with_if b change cs) ≡ find (λ (c : MarkChange T). int_eq (rank c.1.at) t) cs
-      found true cs = find-append (λ (c : MarkChange T). int_eq (rank c.1.at) t) cs (change ∷ []) ∙ rw apart (or_none (find (λ (c : MarkChange T). int_eq (rank c.1.at) t) cs))
+      found true cs = find-append (λ (c : MarkChange T). int_eq (rank c.1.at) t) cs (change ∷ []) ∙ rw apart (option_or-none (find (λ (c : MarkChange T). int_eq (rank c.1.at) t) cs))
       found false cs = refl
 
   -- it has a change where it had one, and the one more
@@ -110,12 +112,8 @@ module _ {T : Type 0} (rank : T → ℤ) (n : ℕ) (so : Bool) (change : MarkCha
       growth_of-own rank n more marks ∙ ap (λ cs. length (filter (λ (c : MarkChange T). is_new rank marks c.1) cs)) with_it
       ∙ counted so (own_changes n changes) ∙ ap (λ k. k + (if so && is_new rank marks change.1 then 1 else 0)) (sym (growth_of-own rank n changes marks))
     where
-      length-push : {X : Type 0} (xs : List X) (x : X) → length (xs ++ x ∷ []) ≡ length xs + 1
-      length-push [] x = refl
-      length-push (y ∷ xs) x = let rest = length-push xs x in omega arith
-
       pushed : {X : Type 0} (b : Bool) (xs : List X) (x : X) → length (if b then xs ++ x ∷ [] else xs) ≡ length xs + (if b then 1 else 0)
-      pushed true xs x = length-push xs x
+      pushed true xs x = length_push xs x
       pushed false xs x = omega arith
 
       none : (k : ℕ) → k ≡ k + 0
@@ -130,12 +128,8 @@ module _ {T : Type 0} (rank : T → ℤ) (n : ℕ) (so : Bool) (change : MarkCha
   pub count_of-more : count_of n more ≡ count_of n changes + (if so then 1 else 0)
   count_of-more = ap length with_it ∙ counted so (own_changes n changes)
     where
-      length-push : {X : Type 0} (xs : List X) (x : X) → length (xs ++ x ∷ []) ≡ length xs + 1
-      length-push [] x = refl
-      length-push (y ∷ xs) x = let rest = length-push xs x in omega arith
-
       counted : (b : Bool) (cs : List (MarkChange T)) → length (with_if b change cs) ≡ length cs + (if b then 1 else 0)
-      counted true cs = length-push cs change
+      counted true cs = length_push cs change
       counted false cs = omega arith
 
 -- a property without a change at any time has none

@@ -16,6 +16,8 @@ use Rattle.ec_axioms.proofs.Members.{IsMember}
 use Rattle.ec_context.specs.declared.entry.Entry.{Entry}
 use Rattle.ec_context.specs.Activity.{NumberCurrency}
 use Rattle.ec_context.specs.Entries.{each_of, shown_entries, shown_entry}
+use Rattle.ec_context.proofs.EachOf.{each_of-first}
+use Rattle.ec_context.proofs.Shown.{IsShownAs-entry}
 use Rattle.ec_exclusive.specs.Added.{is_added}
 use Rattle.ec_exclusive.specs.Neighbours.{Neighbourhoods}
 use Rattle.ec_props.specs.Table.{KeptProp, prop_at, term_at}
@@ -26,7 +28,7 @@ use Rattle.ec_revise.specs.ShownTurns.{AreShown}
 use Rattle.ec_revise.specs.Visit.{turn_to}
 use Rattle.ec_sweep.specs.Acting.{acts, added_turns, turns_from, turn_of, up_turns}
 use Rattle.ec_sweep.proofs.HitTurns.{AreShown-append, IsShown-entry}
-use Rattle.ec_sweep.proofs.ReadingEntries.{IsShownAs-entry, each_of-begins, effect_by}
+use Rattle.ec_sweep.proofs.ReadingEntries.{effect_by}
 
 module _ (theory : Theory) (table : List KeptProp) (around : Neighbourhoods) (added : AreAllAdded theory table around) where
   -- what the table keeps is added
@@ -41,25 +43,25 @@ module _ (theory : Theory) (table : List KeptProp) (around : Neighbourhoods) (ad
   turns_from-shown active word place e [] all is agree =
       subst (λ gs. AreShown table around.rows [] (map (turn_to (λ _. false)) (filter active (map (effect_by e) gs)))) (ap (λ (o : Option (List GroundEntry)). unwrap_or o []) is) tt
   turns_from-shown active word place e (entry ∷ list) all is agree =
-      let begins = each_of-begins (shown_entry table) entry list all is in
-      let effect : Effect = effect_by e begins.first in
-      let shown = IsShownAs-entry table entry begins.first begins.first_is in
-      let rest = turns_from-shown active word (place + 1) e list begins.others begins.others_are
+      let parts = each_of-first (shown_entry table) entry list all is in
+      let effect : Effect = effect_by e parts.first in
+      let shown = IsShownAs-entry table entry parts.first parts.first_is in
+      let rest = turns_from-shown active word (place + 1) e list parts.others parts.others_are
       (λ k other there.
-      agree (suc k) other (ap (λ gs. slice_get (map (effect_by e) gs) (suc k)) (sym begins.all_are) ∙ there) ∙ ap (is_bit_set word) (further place k)) in
+      agree (suc k) other (ap (λ gs. slice_get (map (effect_by e) gs) (suc k)) parts.all_are ∙ there) ∙ ap (is_bit_set word) (further place k)) in
       let here : active effect ≡ is_bit_set word place =
-      agree zero effect (ap (λ gs. slice_get (map (effect_by e) gs) zero) (sym begins.all_are)) ∙ ap (is_bit_set word) (start place) in
+      agree zero effect (ap (λ gs. slice_get (map (effect_by e) gs) zero) parts.all_are) ∙ ap (is_bit_set word) (start place) in
       let down = turns_from word (place + 1) list in
-      let others = filter active (map (effect_by e) begins.others) in
-      subst (λ gs. AreShown table around.rows (turns_from word place (entry ∷ list)) (map (turn_to (λ _. false)) (filter active (map (effect_by e) gs)))) begins.all_are
+      let others = filter active (map (effect_by e) parts.others) in
+      subst (λ gs. AreShown table around.rows (turns_from word place (entry ∷ list)) (map (turn_to (λ _. false)) (filter active (map (effect_by e) gs)))) (sym parts.all_are)
       (⊎_elim
       (λ on.
-      subst (λ turns. AreShown table around.rows turns (map (turn_to (λ _. false)) (filter active (effect ∷ map (effect_by e) begins.others))))
+      subst (λ turns. AreShown table around.rows turns (map (turn_to (λ _. false)) (filter active (effect ∷ map (effect_by e) parts.others))))
       (sym (cond-true (is_bit_set word place) (turn_of false entry ∷ down) down (sym here ∙ on)))
       (subst (λ es. AreShown table around.rows (turn_of false entry ∷ down) (map (turn_to (λ _. false)) es)) (sym (cond-true (active effect) (effect ∷ others) others on))
-      (IsShown-entry table around.rows false entry effect (λ _. false) refl shown.kind shown.head (is_added-kept entry.head begins.first.head shown.head), rest)))
+      (IsShown-entry table around.rows false entry effect (λ _. false) refl shown.kind shown.head (is_added-kept entry.head parts.first.head shown.head), rest)))
       (λ off.
-      subst (λ turns. AreShown table around.rows turns (map (turn_to (λ _. false)) (filter active (effect ∷ map (effect_by e) begins.others))))
+      subst (λ turns. AreShown table around.rows turns (map (turn_to (λ _. false)) (filter active (effect ∷ map (effect_by e) parts.others))))
       (sym (cond-false (is_bit_set word place) (turn_of false entry ∷ down) down (sym here ∙ off)))
       (subst (λ es. AreShown table around.rows down (map (turn_to (λ _. false)) es)) (sym (cond-false (active effect) (effect ∷ others) others off)) rest))
       (cases_Bool (active effect)))
@@ -78,23 +80,23 @@ module _ (theory : Theory) (table : List KeptProp) (around : Neighbourhoods) (ad
   up_turns-shown current t active e [] all is agree =
       subst (λ gs. AreShown table around.rows [] (map (turn_to (λ _. true)) (filter active (map (effect_by e) gs)))) (ap (λ (o : Option (List GroundEntry)). unwrap_or o []) is) tt
   up_turns-shown current t active e (entry ∷ list) all is agree =
-      let begins = each_of-begins (shown_entry table) entry list all is in
-      let effect : Effect = effect_by e begins.first in
-      let shown = IsShownAs-entry table entry begins.first begins.first_is in
-      let member : (g : GroundEntry) → IsMember (begins.first ∷ begins.others) g → IsMember all g = λ g there. subst (λ gs. IsMember gs g) begins.all_are there in
-      let rest = up_turns-shown current t active e list begins.others begins.others_are (λ other g is_shown there. agree other g is_shown (member g (inr there))) in
-      let here : acts current t entry ≡ active effect = agree entry begins.first begins.first_is (member begins.first (inl refl)) in
+      let parts = each_of-first (shown_entry table) entry list all is in
+      let effect : Effect = effect_by e parts.first in
+      let shown = IsShownAs-entry table entry parts.first parts.first_is in
+      let member : (g : GroundEntry) → IsMember (parts.first ∷ parts.others) g → IsMember all g = λ g there. subst (λ gs. IsMember gs g) (sym parts.all_are) there in
+      let rest = up_turns-shown current t active e list parts.others parts.others_are (λ other g is_shown there. agree other g is_shown (member g (inr there))) in
+      let here : acts current t entry ≡ active effect = agree entry parts.first parts.first_is (member parts.first (inl refl)) in
       let acting = filter (acts current t) list in
-      let others = filter active (map (effect_by e) begins.others) in
-      subst (λ gs. AreShown table around.rows (up_turns current t (entry ∷ list)) (map (turn_to (λ _. true)) (filter active (map (effect_by e) gs)))) begins.all_are
+      let others = filter active (map (effect_by e) parts.others) in
+      subst (λ gs. AreShown table around.rows (up_turns current t (entry ∷ list)) (map (turn_to (λ _. true)) (filter active (map (effect_by e) gs)))) (sym parts.all_are)
       (⊎_elim
       (λ on.
-      subst (λ es. AreShown table around.rows (map (turn_of true) es) (map (turn_to (λ _. true)) (filter active (effect ∷ map (effect_by e) begins.others))))
+      subst (λ es. AreShown table around.rows (map (turn_of true) es) (map (turn_to (λ _. true)) (filter active (effect ∷ map (effect_by e) parts.others))))
       (sym (cond-true (acts current t entry) (entry ∷ acting) acting (here ∙ on)))
       (subst (λ es. AreShown table around.rows (turn_of true entry ∷ map (turn_of true) acting) (map (turn_to (λ _. true)) es)) (sym (cond-true (active effect) (effect ∷ others) others on))
-      (IsShown-entry table around.rows true entry effect (λ _. true) refl shown.kind shown.head (is_added-kept entry.head begins.first.head shown.head), rest)))
+      (IsShown-entry table around.rows true entry effect (λ _. true) refl shown.kind shown.head (is_added-kept entry.head parts.first.head shown.head), rest)))
       (λ off.
-      subst (λ es. AreShown table around.rows (map (turn_of true) es) (map (turn_to (λ _. true)) (filter active (effect ∷ map (effect_by e) begins.others))))
+      subst (λ es. AreShown table around.rows (map (turn_of true) es) (map (turn_to (λ _. true)) (filter active (effect ∷ map (effect_by e) parts.others))))
       (sym (cond-false (acts current t entry) (entry ∷ acting) acting (here ∙ off)))
       (subst (λ es. AreShown table around.rows (map (turn_of true) acting) (map (turn_to (λ _. true)) es)) (sym (cond-false (active effect) (effect ∷ others) others off)) rest))
       (cases_Bool (active effect)))

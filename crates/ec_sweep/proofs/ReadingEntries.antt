@@ -1,5 +1,5 @@
 -- What an entry of a store's event reads, by terms and by the dependents that stand under the numbers of a table.
-use Rattle.std.proofs.Common.{◌≡◌, ℕ, ℤ, zero, suc, Bool, true, ◌||◌, List, [], ◌∷◌, map, find, Option, Some, None, IsTrue, refl, sym, ap, ap₂, subst, ◌∙◌, inl, inr, ⊎_elim}
+use Rattle.std.proofs.Common.{◌≡◌, ℕ, ℤ, Bool, true, ◌||◌, List, [], ◌∷◌, find, Option, Some, None, IsTrue, refl, sym, ap, ap₂, subst, ◌∙◌, inl, ⊎_elim}
 use Rattle.std.specs.Prelude.{◌==◌, unwrap_or, option_map, option_and_then, slice_get}
 use Rattle.std.specs.List.{list_any, All}
 use Rattle.std.specs.Option.{option_to_list}
@@ -12,147 +12,54 @@ use Rattle.ec_terms.specs.declared.ground.Ground.{Ground}
 use Rattle.ec_terms.specs.declared.theory.Theory.{Theory}
 use Rattle.ec_terms.specs.Term.{term_eq}
 use Rattle.ec_terms.specs.Domain.{GroundLiteral, GroundEntry, entries_of}
-use Rattle.ec_terms.proofs.DomainLemmas.{term_eq-refl}
-use Rattle.ec_terms.proofs.OrderLemmas.{term_eq-Decides}
 use Rattle.ec_axioms.specs.declared.event.Event.{Event}
 use Rattle.ec_axioms.specs.Calculus.{PlainEvent, Effect, effects_of}
 use Rattle.ec_axioms.specs.Events.{event_of}
 use Rattle.ec_axioms.specs.Plain.{events_at}
-use Rattle.ec_axioms.proofs.Members.{Contains-from_member, IsMember, IsMember-filter, IsMember-from_filter, IsMember-from_map, IsMember-map, find-Some, list_any-member, member-list_any}
+use Rattle.ec_axioms.proofs.Members.{Contains-from_member, IsMember, IsMember-filter, IsMember-from_filter, IsMember-from_map, IsMember-map, find-Some, list_any-member, member-list_any, IsMember-slice_get, slice_get-member}
 use Rattle.ec_changes.specs.Differences.{entries_at, reads}
 use Rattle.ec_changes.proofs.JoinedMembers.{IsMember-flat_map, IsMember-from_flat_map}
-use Rattle.ec_props.specs.Table.{KeptProp, prop_of, term_at}
+use Rattle.ec_props.specs.Table.{KeptProp, term_at}
 use Rattle.ec_events.specs.Store.{Kept, Store, event_at, history_of, plain_of}
 use Rattle.ec_numbered.specs.ByNumber.{kept_at}
 use Rattle.ec_context.specs.declared.entry.Entry.{Entry}
 use Rattle.ec_context.specs.declared.entry.EntryLiteral.{EntryLiteral}
-use Rattle.ec_context.specs.Entries.{each_of, is_of, shown_entries, shown_entry, shown_literal, shown_literals}
+use Rattle.ec_context.specs.Entries.{each_of, is_of, shown_entry, shown_literal, shown_literals}
+use Rattle.ec_context.proofs.EachOf.{each_of-at, each_of-first, each_of-slice_get}
+use Rattle.ec_context.proofs.Shown.{IsLiteralShownAs-literal, IsShownAs-entry}
 use Rattle.ec_entries.specs.declared.event_entries.Dependent.{Dependent}
 use Rattle.ec_entries.specs.declared.event_entries.EventEntries.{EventEntries}
 use Rattle.ec_entries.specs.Dependents.{AreDependents, Entered, any_on, dependent_at, dependent_if, dependent_in, is_from}
 use Rattle.ec_parts.specs.Caches.{AreEntriesOf, IsEntered, IsEnteredIn}
 use Rattle.ec_revise.specs.ShownTurns.{FindsItsTerms}
-
--- ---- lists
-
--- what stands at a place is a member, and a member stands at a place
-pub slice_get-member : {X : Type 0} (xs : List X) (k : ℕ) (x : X) → slice_get xs k ≡ Some x → IsMember xs x
-slice_get-member [] k x there = absurd (none-some x there)
-slice_get-member (y ∷ xs) zero x there = inl (ap (λ o. unwrap_or o y) there)
-slice_get-member (y ∷ xs) (suc k) x there = inr (slice_get-member xs k x there)
-
-pub member-slice_get : {X : Type 0} (xs : List X) (x : X) → IsMember xs x → (k : ℕ) × (slice_get xs k ≡ Some x)
-member-slice_get [] x member = absurd member
-member-slice_get (y ∷ xs) x (inl same) = (zero, ap Some same)
-member-slice_get (y ∷ xs) x (inr later) = let found = member-slice_get xs x later in (suc found.0, found.1)
-
--- what all options have begins with what the first has
-pub record BeginsWith {X A : Type 0} (f : X → Option A) (x : X) (xs : List X) (all : List A) : Type 0 where
-  pub first : A
-  pub others : List A
-  pub first_is : f x ≡ Some first
-  pub others_are : each_of (map f xs) ≡ Some others
-  pub all_are : first ∷ others ≡ all
-
-pub each_of-begins : {X A : Type 0} (f : X → Option A) (x : X) (xs : List X) (all : List A) → each_of (map f (x ∷ xs)) ≡ Some all → BeginsWith f x xs all
-unfolding each_of
-each_of-begins {X} {A} f x xs all is = of (f x) (each_of (map f xs)) refl refl is
-  where
-    of : (o : Option A) (rest : Option (List A)) → f x ≡ o → each_of (map f xs) ≡ rest → option_and_then (λ a. option_map (λ others. a ∷ others) rest) o ≡ Some all
-        → BeginsWith f x xs all
-    of None rest here others both = absurd (none-some all both)
-    of (Some a) None here others both = absurd (none-some all both)
-    of (Some a) (Some behind) here others both = record { first = a; others = behind; first_is = here; others_are = others; all_are = ap (λ o. unwrap_or o all) both }
-
--- what all options have stands place by place
-pub each_of-slice_get : {X A : Type 0} (f : X → Option A) (xs : List X) (all : List A) → each_of (map f xs) ≡ Some all → (k : ℕ)
-    → slice_get all k ≡ option_and_then f (slice_get xs k)
-unfolding each_of
-each_of-slice_get {X} {A} f [] all is k = ap (λ (o : Option (List A)). slice_get (unwrap_or o []) k) (sym is)
-each_of-slice_get {X} {A} f (x ∷ xs) all is zero =
-    let begins = each_of-begins f x xs all is in ap (λ ys. slice_get ys zero) (sym begins.all_are) ∙ sym begins.first_is
-each_of-slice_get {X} {A} f (x ∷ xs) all is (suc k) =
-    let begins = each_of-begins f x xs all is in ap (λ ys. slice_get ys (suc k)) (sym begins.all_are) ∙ each_of-slice_get f xs begins.others begins.others_are k
+use Rattle.ec_revise.proofs.ByTerm.{number-term}
 
 -- ---- what a table shows
-
--- numbers are the same where their terms are
-pub number-term : (table : List KeptProp) (m n : ℕ) (p q : Ground) → FindsItsTerms table → term_at m table ≡ Some p → term_at n table ≡ Some q → (m == n) ≡ term_eq p q
-number-term table m n p q finds first second =
-    ⊎_elim
-    (λ same.
-    let terms : p ≡ q = ap (λ o. unwrap_or o p) (sym first ∙ ap (λ k. term_at k table) (eqb-true m n same) ∙ second) in
-    same ∙ sym (subst (λ t. term_eq p t ≡ true) terms (term_eq-refl p)))
-    (λ apart.
-    apart
-    ∙ sym (false_from_ne_true (term_eq p q)
-    (λ same.
-    let terms : p ≡ q = (term_eq-Decides p q).0 same in
-    let numbers : m ≡ n = ap (λ o. unwrap_or o m) (sym (finds m p first) ∙ ap (λ t. prop_of t table) terms ∙ finds n q second) in
-    absurd (false≢true (sym apart ∙ eq-eqb m n numbers)))))
-    (cases_Bool (m == n))
-
--- what a shown entry has: the term of its head, its number and kind, and the terms of its literals
-pub record IsShownAs (table : List KeptProp) (entry : Entry) (shown : GroundEntry) : Type 0 where
-  pub head : term_at entry.head.0 table ≡ Some shown.head
-  pub rule : entry.rule ≡ shown.rule
-  pub kind : entry.kind ≡ shown.kind
-  pub literals : shown_literals table entry.literals ≡ Some shown.literals
-
-pub IsShownAs-entry : (table : List KeptProp) (entry : Entry) (shown : GroundEntry) → shown_entry table entry ≡ Some shown → IsShownAs table entry shown
-unfolding shown_entry
-IsShownAs-entry table entry shown is = of (term_at entry.head.0 table) (shown_literals table entry.literals) refl refl is
-  where
-    of : (head : Option Ground) (literals : Option (List GroundLiteral)) → term_at entry.head.0 table ≡ head → shown_literals table entry.literals ≡ literals
-        → option_and_then (λ h. option_map (λ ls. record { rule = entry.rule; kind = entry.kind; head = h; literals = ls }) literals) head ≡ Some shown → IsShownAs table entry shown
-    of None literals there all both = absurd (none-some shown both)
-    of (Some h) None there all both = absurd (none-some shown both)
-    of (Some h) (Some ls) there all both =
-        let same : record { rule = entry.rule; kind = entry.kind; head = h; literals = ls } ≡ shown = cc in
-        record {
-          head = there ∙ ap (λ (e : GroundEntry). Some e.head) same;
-          rule = ap (λ (e : GroundEntry). e.rule) same;
-          kind = ap (λ (e : GroundEntry). e.kind) same;
-          literals = all ∙ ap (λ (e : GroundEntry). Some e.literals) same;
-        }
 
 -- a table that shows literals keeps the term of each
 literals-kept : (table : List KeptProp) (literals : List EntryLiteral) (shown : List GroundLiteral) → shown_literals table literals ≡ Some shown → (n : ℕ) → IsTrue (any_on n literals)
     → (q : Ground) × (term_at n table ≡ Some q)
-unfolding shown_literal
 literals-kept table [] shown is n none = absurd (false≢true none)
 literals-kept table (literal ∷ literals) shown is n some =
-    let begins = each_of-begins (shown_literal table) literal literals shown is in
+    let parts = each_of-first (shown_literal table) literal literals shown is in
     ⊎_elim
-    (λ here. let term = kept_term (term_at literal.prop.0 table) begins.first begins.first_is in (term.0, ap (λ k. term_at k table) (sym (eqb-true literal.prop.0 n here)) ∙ term.1))
-    (λ later. literals-kept table literals begins.others begins.others_are n later)
+    (λ here. (parts.first.prop, ap (λ k. term_at k table) (sym (eqb-true literal.prop.0 n here)) ∙ (IsLiteralShownAs-literal table literal parts.first parts.first_is).prop))
+    (λ later. literals-kept table literals parts.others parts.others_are n later)
     (or_cases (is_of n literal) (any_on n literals) some)
-  where
-    kept_term : (o : Option Ground) (l : GroundLiteral) → option_map (λ term. record { positive = literal.positive; prop = term }) o ≡ Some l → (q : Ground) × (o ≡ Some q)
-    kept_term None l is = absurd (none-some l is)
-    kept_term (Some q) l is = (q, refl)
 
 -- a literal is of a number where its term is that of the number
 module _ (table : List KeptProp) (finds : FindsItsTerms table) (id : ℕ) (p : Ground) (kept : term_at id table ≡ Some p) where
   literal-term : (literal : EntryLiteral) (shown : GroundLiteral) → shown_literal table literal ≡ Some shown → is_of id literal ≡ term_eq shown.prop p
-  unfolding shown_literal
-  literal-term literal shown is = of (term_at literal.prop.0 table) refl is
-    where
-      of : (o : Option Ground) → term_at literal.prop.0 table ≡ o → option_map (λ term. record { positive = literal.positive; prop = term }) o ≡ Some shown
-          → (literal.prop.0 == id) ≡ term_eq shown.prop p
-      of None there both = absurd (none-some shown both)
-      of (Some term) there both =
-          let same : record { positive = literal.positive; prop = term } ≡ shown = cc in
-          number-term table literal.prop.0 id term p finds there kept ∙ ap (λ (l : GroundLiteral). term_eq l.prop p) same
+  literal-term literal shown is = number-term table literal.prop.0 id shown.prop p finds (IsLiteralShownAs-literal table literal shown is).prop kept
 
   literals-terms : (literals : List EntryLiteral) (shown : List GroundLiteral) → shown_literals table literals ≡ Some shown
       → any_on id literals ≡ list_any (λ (l : GroundLiteral). term_eq l.prop p) shown
   unfolding each_of
   literals-terms [] shown is = ap (λ (o : Option (List GroundLiteral)). list_any (λ (l : GroundLiteral). term_eq l.prop p) (unwrap_or o [])) is
   literals-terms (literal ∷ literals) shown is =
-      let begins = each_of-begins (shown_literal table) literal literals shown is in
-      ap₂ (λ a b. a || b) (literal-term literal begins.first begins.first_is) (literals-terms literals begins.others begins.others_are)
-      ∙ ap (list_any (λ (l : GroundLiteral). term_eq l.prop p)) begins.all_are
+      let parts = each_of-first (shown_literal table) literal literals shown is in
+      ap₂ (λ a b. a || b) (literal-term literal parts.first parts.first_is) (literals-terms literals parts.others parts.others_are)
+      ∙ ap (list_any (λ (l : GroundLiteral). term_eq l.prop p)) (sym parts.all_are)
 
   -- an entry has a literal on the number where the entry that is shown reads the term
   pub any_on-reads : (entry : Entry) (effect : Effect) → shown_entry table entry ≡ Some effect.entry → any_on id entry.literals ≡ reads p effect
@@ -191,7 +98,7 @@ pub StandsAt-member : {T : Type 0} (rank : T → ℤ) (theory : Theory) (events 
 StandsAt-member {T} rank theory events slots e effect member one =
     let kept = IsMember-from_map (plain_of rank) events e member in
     let there = All-contains (λ (k : Kept T). event_at k.0 events ≡ Some k.1) events kept.0 slots (Contains-from_member events kept.0 kept.1) in
-    let place = member-slice_get (effects_of theory e) effect one in (
+    let place = slice_get-member (effects_of theory e) effect one in (
       record {
         slot = kept.0.0;
         event = kept.0.1;
@@ -266,20 +173,10 @@ module _ {T : Type 0} (rank : T → ℤ) (theory : Theory) (events : List PlainE
                 },
               )
 
-  -- each entry that is kept is shown
-  pub kept-shown : (list : List Entry) (all : List GroundEntry) → shown_entries table list ≡ Some all → (k : ℕ) (entry : Entry) → slice_get list k ≡ Some entry
-      → (ground : GroundEntry) × (shown_entry table entry ≡ Some ground)
-  kept-shown [] all are_all k entry here = absurd (none-some entry here)
-  kept-shown (first ∷ list) all are_all zero entry here =
-      let begins = each_of-begins (shown_entry table) first list all are_all in
-      (begins.first, ap (shown_entry table) (sym (ap (λ o. unwrap_or o first) here)) ∙ begins.first_is)
-  kept-shown (first ∷ list) all are_all (suc k) entry here =
-      let begins = each_of-begins (shown_entry table) first list all are_all in kept-shown list begins.others begins.others_are k entry here
-
   pub placed-entry : (event : Event T) (kept : EventEntries T) → IsEntered rank theory events table event kept → (place : ℕ) (entry : Entry)
       → slice_get kept.list place ≡ Some entry → (effect : Effect) × IsPlaced event kept place entry effect
   placed-entry event kept is place entry there =
-      let shown = kept-shown kept.list (entries_of theory event.term) is.entries place entry there in (
+      let shown = each_of-at (shown_entry table) kept.list (entries_of theory event.term) is.entries place entry there in (
         effect_by (event_of rank event) shown.0,
         record {
           entry_there = there;
@@ -425,5 +322,5 @@ module _ {T : Type 0} (rank : T → ℤ) (theory : Theory) (events : List PlainE
               (IsMember-flat_map (effects_of theory) (events_at u (history_of rank store.events)) (event_of rank reading.event) reading.effect
               (IsMember-filter (λ (e : PlainEvent). int_eq e.rank u) (history_of rank store.events) (event_of rank reading.event)
               (event-member rank store.events (record { 0 = found.0.slot.0 }) reading.event reading.there) here)
-              (slice_get-member (effects_of theory (event_of rank reading.event)) found.0.place reading.effect reading.at_place))
+              (IsMember-slice_get (effects_of theory (event_of rank reading.event)) found.0.place reading.effect reading.at_place))
               reading.reading

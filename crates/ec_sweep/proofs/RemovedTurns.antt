@@ -8,6 +8,7 @@ use Rattle.std.proofs.lemmas.List.{map-append}
 use Rattle.std.proofs.lemmas.List.Elements.{All-contains, filter-append}
 use Rattle.std.proofs.lemmas.Option.{none-some}
 use Rattle.ec_lists.proofs.Integers.{int_eq-is, int_eq-same}
+use Rattle.ec_rows.proofs.OrderedPairs.{IsPairwise-ascending}
 use Rattle.ec_terms.specs.declared.ids.PropId.{PropId}
 use Rattle.ec_terms.specs.declared.theory.Theory.{Theory}
 use Rattle.ec_terms.specs.Domain.{entries_of}
@@ -45,7 +46,7 @@ use Rattle.ec_sweep.proofs.HitTurns.{AreShown-append}
 use Rattle.ec_sweep.proofs.PlainTurns.{turns_from-shown}
 use Rattle.ec_sweep.proofs.PlacesApart.{kept_under, slots_apart}
 use Rattle.ec_sweep.proofs.ReadingEntries.{AreAtSlots, effect_by, entered-event}
-use Rattle.ec_sweep.proofs.SameMembers.{AreApart, IsPairwise-from_ascending, sum-same_members}
+use Rattle.ec_sweep.proofs.SameMembers.{AreApart, sum-same_members}
 
 -- the effects of an event are its entries, each with it
 effects-made : (theory : Theory) (e : PlainEvent) → effects_of theory e ≡ map (effect_by e) (entries_of theory e.term)
@@ -240,6 +241,6 @@ module _ {T : Type 0} (rank : T → ℤ) (theory : Theory) (new : List PlainEven
       (removed-apart removals (λ removal member. removed removal member)
       (subst (λ rs. IsPairwise (λ a b. IsTrue (removal_before rank a b)) rs) (sym removals_are)
       (IsPairwise-filter (λ a b. IsTrue (removal_before rank a b)) (λ (removal : Removal T). int_eq (rank removal.at) t) change.remove
-      (IsPairwise-from_ascending (removal_before rank) change.remove can.underway.change_is.order))))
+      (IsPairwise-ascending (removal_before rank) change.remove can.underway.change_is.order))))
       gone-apart into-gone from-gone
       ∙ sym (length-filter-flat_map test (effects_of theory) gone)

@@ -1,13 +1,11 @@
--- Sums over lists with the same members, each once; and lists that ascend, by their members.
-use Rattle.std.proofs.Common.{◌≡◌, ℕ, ◌+◌, zero, suc, ◌<◌, Bool, List, [], ◌∷◌, ◌++◌, get_or, length, map, take, drop, Some, IsTrue, refl, sym, ap, subst, ◌∙◌, ◌⊎◌, inl, inr, ⊎_elim, arith}
+-- Sums over lists with the same members, each once; and what stands at a place of lists joined and cut.
+use Rattle.std.proofs.Common.{◌≡◌, ℕ, ◌+◌, zero, suc, ◌<◌, List, [], ◌∷◌, ◌++◌, length, take, Some, refl, sym, ap, subst, ◌∙◌, ◌⊎◌, inl, inr, ⊎_elim, arith}
 use Rattle.std.specs.Prelude.{slice_get}
-use Rattle.std.specs.List.{All, list_all, sum_by}
-use Rattle.std.proofs.lemmas.Bool.{and_from, and_parts}
+use Rattle.std.specs.List.{sum_by}
 use Rattle.std.proofs.lemmas.List.Sums.{sum_by-cons}
 use Rattle.std.proofs.lemmas.Option.{none-some}
-use Rattle.ec_axioms.proofs.Members.{IsMember, IsMember-map, IsPairwise, list_all-from_members, list_all-member}
+use Rattle.ec_axioms.proofs.Members.{IsMember, IsPairwise}
 use Rattle.ec_changes.proofs.JoinedMembers.{empty_from_members}
-use Rattle.ec_rows.specs.Ordered.{is_ascending}
 
 -- ---- a member between two parts
 
@@ -70,50 +68,6 @@ sum-same_members f (x ∷ xs) ys once_xs once_ys into back =
     (back z (subst (λ zs. IsMember zs z) (sym split.parts) (member-more split.before x split.behind z member)))) in
     sum_by-cons f x xs ∙ ap (λ n. f x + n) rest ∙ sym (sum-between f split.before x split.behind) ∙ ap (sum_by f) (sym split.parts)
 
--- what holds of each member holds of all
-pub All-from_members : {X : Type 0} (P : X → Type 0) (xs : List X) → ((x : X) → IsMember xs x → P x) → All P xs
-All-from_members P xs each k d within = each (get_or xs k d) (member_there xs k d within)
-  where
-    member_there : {X : Type 0} (xs : List X) (k : ℕ) (d : X) → k < length xs → IsMember xs (get_or xs k d)
-    member_there [] k d within = absurd (omega arith)
-    member_there (x ∷ xs) zero d within = inl refl
-    member_there (x ∷ xs) (suc k) d within = inr (member_there xs k d (omega arith))
-
--- ---- lists that ascend
-
--- by their members, and the other way
-pub is_ascending-from_pairwise : {X : Type 0} (before : X → X → Bool) (xs : List X) → IsPairwise (λ x y. IsTrue (before x y)) xs → IsTrue (is_ascending before xs)
-unfolding is_ascending
-is_ascending-from_pairwise before [] pairs = refl
-is_ascending-from_pairwise before (x ∷ xs) pairs =
-    and_from (list_all (before x) xs) (is_ascending before xs) (list_all-from_members (before x) xs pairs.0) (is_ascending-from_pairwise before xs pairs.1)
-
-pub IsPairwise-from_ascending : {X : Type 0} (before : X → X → Bool) (xs : List X) → IsTrue (is_ascending before xs) → IsPairwise (λ x y. IsTrue (before x y)) xs
-unfolding is_ascending
-IsPairwise-from_ascending before [] order = tt
-IsPairwise-from_ascending before (x ∷ xs) order =
-    let parts = and_parts (list_all (before x) xs) (is_ascending before xs) order in
-    (λ y later. list_all-member (before x) xs y parts.0 later, IsPairwise-from_ascending before xs parts.1)
-
--- the members whose values stand in an order
-pub IsPairwise-from_map : {X Y : Type 0} (R : Y → Y → Type 0) (f : X → Y) (xs : List X) → IsPairwise R (map f xs) → IsPairwise (λ x y. R (f x) (f y)) xs
-IsPairwise-from_map R f [] pairs = tt
-IsPairwise-from_map R f (x ∷ xs) pairs = (λ y later. pairs.0 (f y) (IsMember-map f xs y later), IsPairwise-from_map R f xs pairs.1)
-
--- two lists joined, where each member of the first stands so to each of the second
-pub IsPairwise-append : {X : Type 0} (R : X → X → Type 0) (xs ys : List X) → IsPairwise R xs → IsPairwise R ys → ((x y : X) → IsMember xs x → IsMember ys y → R x y)
-    → IsPairwise R (xs ++ ys)
-IsPairwise-append R [] ys first second across = second
-IsPairwise-append {X} R (x ∷ xs) ys first second across = (
-  λ y member. ⊎_elim (λ left. first.0 y left) (λ right. across x y (inl refl) right) (cases xs y member),
-  IsPairwise-append R xs ys first.1 second (λ a b left right. across a b (inr left) right),
-)
-  where
-    cases : (zs : List X) (y : X) → IsMember (zs ++ ys) y → IsMember zs y ⊎ IsMember ys y
-    cases [] y member = inr member
-    cases (z ∷ zs) y (inl same) = inl (inl same)
-    cases (z ∷ zs) y (inr later) = ⊎_elim (λ left. inl (inr left)) (λ right. inr right) (cases zs y later)
-
 -- ---- places
 
 -- a place of two lists joined is one of the first, or one of the second behind it
@@ -129,11 +83,3 @@ slice_get-take zero xs i x within there = absurd (omega arith)
 slice_get-take (suc n) [] i x within there = absurd (none-some x there)
 slice_get-take (suc n) (y ∷ xs) zero x within there = there
 slice_get-take (suc n) (y ∷ xs) (suc i) x within there = slice_get-take n xs i x (omega arith) there
-
-pub slice_get-drop : {X : Type 0} (n : ℕ) (xs : List X) (j : ℕ) (x : X) → slice_get xs (n + j) ≡ Some x → slice_get (drop n xs) j ≡ Some x
-slice_get-drop zero xs j x there = subst (λ k. slice_get xs k ≡ Some x) (omega arith) there
-slice_get-drop (suc n) [] j x there = absurd (none-some x there)
-slice_get-drop (suc n) (y ∷ ys) j x there = slice_get-drop n ys j x (subst (λ k. slice_get (y ∷ ys) k ≡ Some x) (next n j) there)
-  where
-    next : (n j : ℕ) → suc n + j ≡ suc (n + j)
-    next n j = omega arith

@@ -1,8 +1,9 @@
 -- What the parts of the settling of one property come to.
-use Rattle.std.proofs.Common.{◌≡◌, ℕ, ℤ, ◌<ℤ◌, ◌≤ℤ◌, Bool, true, ◌&&◌, ◌||◌, List, IsTrue, refl, sym, ap, ap₂, subst, ◌∙◌, inl, inr, ⊎_elim, arith}
+use Rattle.std.proofs.Common.{◌≡◌, ℕ, ℤ, ◌<ℤ◌, ◌≤ℤ◌, Bool, true, ◌&&◌, ◌||◌, List, IsTrue, refl, sym, ap, ap₂, subst, ◌∙◌, inl, inr, ⊎_elim}
 use Rattle.std.specs.Prelude.{◌==◌, is_some, if◌then◌else◌}
 use Rattle.std.specs.Ordering.{int_eq}
 use Rattle.std.proofs.lemmas.Bool.{and_parts, cond-true, eq-eqb, eqb-true, or_cases, or_left, or_right}
+use Rattle.std.proofs.Math.Bool.{and-true}
 use Rattle.ec_lists.proofs.Integers.{int_eq-is, int_eq-same}
 use Rattle.ec_terms.specs.declared.ids.PropId.{PropId}
 use Rattle.ec_agenda.specs.Due.{Due, has_due, is_due}
@@ -73,7 +74,4 @@ module _ {T : Type 0} (rank : T → ℤ) (points : PointTable T) (slots : Slots 
       itself = eq-eqb p.0 p.0 refl
 
       alone : (b : Bool) → (b && (p.0 == p.0)) ≡ b
-      alone b = ap (λ c. b && c) (eq-eqb p.0 p.0 refl) ∙ and_true b
-        where
-          and_true : (b : Bool) → (b && true) ≡ b
-          and_true b = grind arith
+      alone b = ap (λ c. b && c) (eq-eqb p.0 p.0 refl) ∙ and-true b

@@ -16,7 +16,6 @@ use Rattle.ec_terms.specs.declared.ids.PropId.{PropId}
 use Rattle.ec_terms.specs.declared.ground.Ground.{Ground}
 use Rattle.ec_terms.specs.declared.theory.Theory.{Theory}
 use Rattle.ec_axioms.specs.Calculus.{PlainEvent, Effect, is_current}
-use Rattle.ec_axioms.specs.Links.{is_live}
 use Rattle.ec_axioms.specs.Marks.{PlainMark, current_after, is_marked, last_mark_before, mark_at, mark_initiates, marks_of}
 use Rattle.ec_axioms.proofs.HistoryLaws.{CurrencyIsOfTheLastMark-law}
 use Rattle.ec_axioms.proofs.Members.{Contains-from_member, IsMember, IsMember-filter, IsMember-from_contains, IsMember-from_filter, list_any-member, member-list_any}
@@ -24,6 +23,7 @@ use Rattle.ec_changes.proofs.LiveMarks.{mark_same}
 use Rattle.ec_agenda.specs.Due.{Due, has_due, is_due as is_due_at}
 use Rattle.ec_changes.specs.QuietLaws.{current_behind}
 use Rattle.ec_props.specs.Table.{KeptProp, is_in_order, prop_at, prop_of, term_at}
+use Rattle.ec_props.proofs.TextLemmas.{found_own}
 use Rattle.ec_events.specs.Store.{history_of}
 use Rattle.ec_numbered.specs.PropSet.{has_number}
 use Rattle.ec_numbered.proofs.Numbers.{has_number-filter}
@@ -41,7 +41,7 @@ use Rattle.ec_revise.specs.declared.change.Change.{Change}
 use Rattle.ec_revise.specs.declared.settled.Tallied.{Tallied}
 use Rattle.ec_revise.specs.declared.turn.Turn.{Turn}
 use Rattle.ec_revise.specs.ShownTurns.{FindsItsTerms}
-use Rattle.ec_revise.specs.Sweep.{AreCompared, Found, IsDueBy, bears_on, other_currency}
+use Rattle.ec_revise.specs.Sweep.{Found, IsDueBy, bears_on, other_currency}
 use Rattle.ec_revise.specs.Tallied.{IsTallyOf}
 use Rattle.ec_revise.specs.TurnCounts.{IsTallyAt, clashes_at, counts_at, is_initiation, nothing_tallied, row_at, tallied_at}
 use Rattle.ec_revise.specs.Visit.{LeavesOne, PlainTurn, Settles, SettlesOne, counts_same, currency_found, is_turned, mark_after, mark_matters, mark_planned}
@@ -57,12 +57,13 @@ use Rattle.ec_sweep.specs.State.{AreDueOf, DirtyRows, IsPlannedUpTo, dirty_at, f
 use Rattle.ec_sweep.specs.Visiting.{CanSettle, HasSettled, settled_by}
 use Rattle.ec_sweep.specs.Settling.{HaveRoom, Noted, SettlesNumber, SettlesRows, mark_or_zeros, old_mark, own_changes, starts_change, starts_of, touch_of, touched_if}
 use Rattle.ec_sweep.proofs.Bearing.{BearsAt-event, bears_on-number}
-use Rattle.ec_sweep.proofs.KeptTerms.{prop_of-term_at, term_at-prop_of}
+use Rattle.ec_sweep.proofs.KeptTerms.{prop_of-term_at}
 use Rattle.ec_sweep.proofs.OldMarks.{has_initiation-is, mark_or_zeros-is}
 use Rattle.ec_sweep.proofs.OwnChanges.{change_at-elsewhere, change_at-more, change_at-none, change_at-same, has_change-more, has_change-same}
 use Rattle.ec_sweep.proofs.PlannedWindows.{AreWindows-from, HasWindow-from, HasWindow-left, HasWindow-settled, until-settled}
 use Rattle.ec_sweep.proofs.ReadingEntries.{AreAtSlots}
 use Rattle.ec_sweep.proofs.TurnedTerms.{AreShown-added, HasRoomFor-turns, is_turned-none, length-turns_few, mark_tallied-after}
+use Rattle.ec_sweep.proofs.NextInstant.{compared}
 
 -- ---- single facts
 
@@ -111,25 +112,13 @@ module _ {T : Type 0} (rank : T → ℤ) (theory : Theory) (new : List PlainEven
   pub finds : FindsItsTerms view.table
   finds n p kept = prop_of-term_at view.table n p order kept
 
-  -- the two lists are histories, and what is live in one is kept
-  pub compared : AreCompared theory old new (keeps view.table)
-  compared = record {
-    old_history = can.underway.both.caches.history;
-    new_history = can.underway.change_is.history;
-    live = λ p live.
-        ⊎_elim
-        (λ in_old. can.underway.both.live p in_old)
-        (λ in_new. can.underway.both.tables.kept.live p in_new)
-        (or_cases (is_live theory old p) (is_live theory new p) live);
-  }
-
   -- a property with its number
   module _ (n : ℕ) (p : Ground) (found : prop_of p view.table ≡ Some n) where
     abbrev id : PropId
     id = record { 0 = n }
 
     pub kept : term_at n view.table ≡ Some p
-    kept = term_at-prop_of view.table n p numbers found
+    kept = found_own p n view.table view.table numbers found
 
     added : IsTrue (is_added id view.neighbours.rows)
     added = can.underway.both.tables.added.added id ∙ some_of (prop_at n view.table) kept
@@ -348,13 +337,13 @@ module _ {T : Type 0} (rank : T → ℤ) (theory : Theory) (new : List PlainEven
   room n known there =
       let p = term-kept n (kept-row n (ap is_some there)) in
       HasRoomFor-turns rank theory old new (rank at) p.0 turns plains view.neighbours.rows (record { 0 = n }) (old_mark rank view.points at n) known
-      compared.old_history compared.new_history can.turns_at
+      can.underway.both.caches.history can.underway.change_is.history can.turns_at
       (length-turns_few theory old new (rank at) view.table view.neighbours.rows turns plains can.turned can.turns_at can.underway.few_old can.underway.few_new)
       can.underway.few_old (mark n p.0 p.1) (tally_is n p.0 p.1 known there) (tally_of_term n p.0 p.1 known there)
 
   -- the new marks are the old ones after the turns
   new-marks : (p : Ground) → mark_at theory new p (rank at) ≡ mark_after theory plains p (mark_at theory old p (rank at))
-  new-marks p = MarksAreAfterTurns-law theory old new (keeps view.table) (rank at) plains p compared can.turns_at
+  new-marks p = MarksAreAfterTurns-law theory old new (keeps view.table) (rank at) plains p (compared rank theory new view parts change can.underway) can.turns_at
 
   -- ---- the visit
 

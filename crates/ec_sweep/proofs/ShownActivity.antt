@@ -7,6 +7,7 @@ use Rattle.std.proofs.lemmas.Bool.{and_from, and_parts, cases_Bool, cond-true, c
 use Rattle.std.proofs.lemmas.Int.{ints}
 use Rattle.std.proofs.lemmas.List.Elements.{All-append, All-contains, All-weaker}
 use Rattle.std.proofs.lemmas.Option.{none-some}
+use Rattle.ec_rows.proofs.OrderedPairs.{IsPairwise-ascending, ascending-from_pairwise}
 use Rattle.ec_terms.specs.declared.ids.PropId.{PropId}
 use Rattle.ec_terms.specs.declared.ids.Slot.{Slot}
 use Rattle.ec_terms.specs.declared.theory.Theory.{Theory}
@@ -14,17 +15,19 @@ use Rattle.ec_axioms.specs.declared.event.Event.{Event}
 use Rattle.ec_axioms.specs.Calculus.{Effect, PlainEvent, effects_of}
 use Rattle.ec_axioms.specs.Changes.{has_event}
 use Rattle.ec_axioms.specs.Events.{event_of}
-use Rattle.ec_axioms.proofs.Members.{Contains-from_member, IsMember, find-None, list_any-member, member-list_any}
+use Rattle.ec_axioms.proofs.Members.{Contains-from_member, IsMember, find-None, list_any-member, member-list_any, IsMember-slice_get}
 use Rattle.ec_agenda.specs.Due.{Due}
 use Rattle.ec_changes.specs.Turns.{same_entry}
 use Rattle.ec_changes.proofs.Activity.{event-effects_of}
 use Rattle.ec_changes.proofs.KeptEvents.{has_event-member}
+use Rattle.ec_changes.proofs.Hits.{IsPairwise-append}
 use Rattle.ec_events.specs.Store.{event_at, history_of}
 use Rattle.ec_numbered.specs.ByNumber.{kept_at}
 use Rattle.ec_parts.specs.declared.tally.Tally.{Tally}
 use Rattle.ec_parts.specs.Activity.{is_bit_set}
 use Rattle.ec_parts.specs.StandFor.{View}
 use Rattle.ec_parts.proofs.LinksByNumber.{IsOneToOne}
+use Rattle.ec_parts.proofs.Waiting.{All-from_members}
 use Rattle.ec_revise.specs.declared.change.Change.{Change}
 use Rattle.ec_revise.specs.declared.change.Removal.{Removal}
 use Rattle.ec_revise.specs.Change.{has_slot}
@@ -42,8 +45,7 @@ use Rattle.ec_sweep.proofs.HitActivity.{acts-found, no_flip_yet}
 use Rattle.ec_sweep.proofs.HitEffects.{AreEffectsOf, IsEffectOf, effect-of_hit, hit-of_effect, new-stays_ever, one_effect, same_place}
 use Rattle.ec_sweep.proofs.LookedActivity.{active_then, hit-rank, kept-has_event, seen-kept, seen-rank, then-other, then-seen}
 use Rattle.ec_sweep.proofs.NowActive.{active_found-first, active_found-second, none_of_added}
-use Rattle.ec_sweep.proofs.ReadingEntries.{AreAtSlots, event-member, slice_get-member}
-use Rattle.ec_sweep.proofs.SameMembers.{All-from_members, IsPairwise-append, IsPairwise-from_ascending, is_ascending-from_pairwise}
+use Rattle.ec_sweep.proofs.ReadingEntries.{AreAtSlots, event-member}
 
 module _ {T : Type 0} (rank : T → ℤ) (theory : Theory) (new : List PlainEvent) (view : View T) (tally : Tally) (change : Change T) (r t : ℤ) (dirty : DirtyRows)
     (agenda : List (Due T)) (due : List PropId) (looked : Looked) (planned : Planned T) (active : Effect → Bool) (progress : Progress)
@@ -77,7 +79,7 @@ module _ {T : Type 0} (rank : T → ℤ) (theory : Theory) (new : List PlainEven
         effect = effect.0;
         there = ap (λ n. event_at (record { 0 = n }) view.store.events) (sym (eqb-true hit.0.slot.0 slot.0 hit.2)) ∙ effect.2.there;
         member = effect.1;
-        of_event = event-effects_of theory (event_of rank effect.2.event) effect.0 (slice_get-member (effects_of theory (event_of rank effect.2.event)) hit.0.place effect.0 effect.2.at_place);
+        of_event = event-effects_of theory (event_of rank effect.2.event) effect.0 (IsMember-slice_get (effects_of theory (event_of rank effect.2.event)) hit.0.place effect.0 effect.2.at_place);
         here = hit-rank rank theory new view tally change r t dirty agenda due looked planned active progress can one slots removals removals_are hits are seen of_hits hit.0 effect.0 effect.2 effect.1;
       }
 
@@ -158,7 +160,7 @@ module _ {T : Type 0} (rank : T → ℤ) (theory : Theory) (new : List PlainEven
           (none_of_added theory (history_of rank view.store.events) new t effect
           (has_event-member (history_of rank view.store.events) effect.event
           (subst (IsMember (history_of rank view.store.events))
-          (sym (event-effects_of theory (event_of rank event) effect (slice_get-member (effects_of theory (event_of rank event)) k effect at_place)))
+          (sym (event-effects_of theory (event_of rank event) effect (IsMember-slice_get (effects_of theory (event_of rank event)) k effect at_place)))
           (event-member rank view.store.events slot event there))))
           ∙ can.shows.stored slot event k effect there at_place
           ∙ sym (bit-stays slot event k there none)
@@ -215,10 +217,10 @@ module _ {T : Type 0} (rank : T → ℤ) (theory : Theory) (new : List PlainEven
   pub apart-then : IsTrue (are_apart after.flips)
   apart-then =
       subst (λ fs. IsTrue (are_apart fs)) (sym flips.are)
-      (is_ascending-from_pairwise (λ (f g : Flip). not (f.slot.0 == g.slot.0)) (looked.flips ++ flips.added)
+      (ascending-from_pairwise (λ (f g : Flip). not (f.slot.0 == g.slot.0)) (looked.flips ++ flips.added)
       (IsPairwise-append (λ (f g : Flip). IsTrue (not (f.slot.0 == g.slot.0))) looked.flips flips.added
-      (IsPairwise-from_ascending (λ (f g : Flip). not (f.slot.0 == g.slot.0)) looked.flips can.shows.apart)
-      (IsPairwise-from_ascending (λ (f g : Flip). not (f.slot.0 == g.slot.0)) flips.added flips.apart)
+      (IsPairwise-ascending (λ (f g : Flip). not (f.slot.0 == g.slot.0)) looked.flips can.shows.apart)
+      (IsPairwise-ascending (λ (f g : Flip). not (f.slot.0 == g.slot.0)) flips.added flips.apart)
       (λ f g left right.
       ap not
       (false_from_ne_true (f.slot.0 == g.slot.0)

@@ -1,6 +1,6 @@
 -- The events that a change takes out and puts in: each stands in one of the two lists alone, at its time.
-use Rattle.std.proofs.Common.{◌≡◌, ℤ, true, false, List, [], ◌∷◌, ◌&&◌, Option, Some, None, option_map, map, find, refl, sym, ap, ap₂, subst, ◌∙◌, ⊎_elim}
-use Rattle.std.specs.Prelude.{Contains, ◌==◌, int_le, int_lt, not}
+use Rattle.std.proofs.Common.{◌≡◌, ℤ, true, false, List, [], ◌∷◌, ◌&&◌, Option, Some, None, option_map, map, find, refl, sym, ap, ap₂, subst, ◌∙◌}
+use Rattle.std.specs.Prelude.{Contains, ◌==◌, int_le, not}
 use Rattle.std.specs.List.{list_all}
 use Rattle.std.proofs.lemmas.Bool.{eqb-true, eq-eqb, not-true}
 use Rattle.std.proofs.lemmas.List.Elements.{All-contains}
@@ -11,27 +11,16 @@ use Rattle.ec_axioms.specs.Changes.{comes_before, events_only_in, has_event, is_
 use Rattle.ec_axioms.specs.Events.{event_of}
 use Rattle.ec_axioms.proofs.Members.{Contains-from_member, IsMember-from_contains, find-Some, member-list_any}
 use Rattle.ec_axioms.proofs.OrderedEvents.{is_history-filter}
+use Rattle.ec_axioms.proofs.Instants.{int_le-comes_before}
 use Rattle.ec_events.specs.Store.{Kept, event_at, history_of, plain_of}
-use Rattle.ec_lists.proofs.Integers.{int_eq-is, int_le-from_lt, int_le-same}
-use Rattle.ec_lists.proofs.Booleans.{or_second}
 use Rattle.ec_props.specs.Table.{KeptProp}
 use Rattle.ec_rows.specs.Ordered.{is_ascending}
 use Rattle.ec_rows.proofs.OrderedLemmas.{and-left, and-right}
 use Rattle.ec_revise.specs.declared.change.Change.{Change}
 use Rattle.ec_revise.specs.declared.change.Removal.{Removal}
 use Rattle.ec_revise.specs.Change.{IsChange}
-use Rattle.std.proofs.lemmas.Bool.{cases_Bool}
 
 -- ---- added events
-
--- one event comes no later than another that it comes before
-comes_before-le : (e f : PlainEvent) → comes_before e f ≡ true → int_le e.rank f.rank ≡ true
-unfolding comes_before
-comes_before-le e f before =
-    ⊎_elim
-    (λ less. int_le-from_lt e.rank f.rank less)
-    (λ not_less. subst (λ t. int_le e.rank t ≡ true) (int_eq-is e.rank f.rank (and-left _ _ (or_second (int_lt e.rank f.rank) _ not_less before))) (int_le-same e.rank))
-    (cases_Bool (int_lt e.rank f.rank))
 
 -- events that are a history are in order of time
 pub is_ascending-history : {T : Type 0} (rank : T → ℤ) (add : List (Event T)) → is_history (map (event_of rank) add) ≡ true
@@ -43,7 +32,7 @@ is_ascending-history {T} rank (e ∷ add) history =
   where
     each : (es : List (Event T)) → list_all (comes_before (event_of rank e)) (map (event_of rank) es) ≡ true → list_all (λ (f : Event T). int_le (rank e.at) (rank f.at)) es ≡ true
     each [] all = refl
-    each (f ∷ es) all = ap₂ (λ a b. a && b) (comes_before-le (event_of rank e) (event_of rank f) (and-left _ _ all)) (each es (and-right _ _ all))
+    each (f ∷ es) all = ap₂ (λ a b. a && b) (int_le-comes_before (event_of rank e) (event_of rank f) (and-left _ _ all)) (each es (and-right _ _ all))
 
 module _ {T : Type 0} (rank : T → ℤ) (theory : Theory) (table : List KeptProp) (events : List (Kept T)) (new : List PlainEvent) (change : Change T)
     (is : IsChange rank theory table events new change) where

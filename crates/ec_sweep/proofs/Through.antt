@@ -1,7 +1,7 @@
 -- A sweep that is through has found all: what it planned makes the caches those of the new list.
 use Rattle.std.proofs.lemmas.Int.{by_lt_z, ints}
-use Rattle.std.proofs.Common.{◌≡◌, ◌≤ℤ◌, ◌+ℤ◌, pos, ℕ, ℤ, Bool, true, false, not, List, [], ◌∷◌, Option, Some, None, IsTrue, IsFalse, option_map, length, filter, refl, sym, ap, subst, ◌∙◌, inl, inr, ⊎_elim, arith}
-use Rattle.std.specs.Prelude.{Contains, IsSome, int_le, drop, flat_map, slice_get, unwrap_or, is_some, option_and_then}
+use Rattle.std.proofs.Common.{◌≡◌, ◌≤ℤ◌, ◌+ℤ◌, pos, ℕ, ℤ, Bool, true, false, not, List, [], Option, Some, None, IsTrue, IsFalse, option_map, length, filter, refl, sym, ap, subst, ◌∙◌, ⊎_elim, arith}
+use Rattle.std.specs.Prelude.{Contains, IsSome, int_le, drop, slice_get, unwrap_or, is_some, option_and_then}
 use Rattle.std.specs.List.{All, list_all}
 use Rattle.std.specs.Option.{option_map_or}
 use Rattle.std.specs.Ordering.{int_eq}
@@ -17,11 +17,11 @@ use Rattle.ec_axioms.specs.Changes.{events_only_in, has_event}
 use Rattle.ec_axioms.specs.Events.{event_of}
 use Rattle.ec_axioms.specs.Marks.{PlainMark, mark_at}
 use Rattle.ec_axioms.specs.Plain.{events_at}
-use Rattle.ec_axioms.proofs.Members.{Contains-from_member, IsMember, IsMember-append_cases, IsMember-append_right, IsMember-filter, IsMember-from_filter, IsMember-map, filter_all, filter_none}
+use Rattle.ec_axioms.proofs.Members.{Contains-from_member, IsMember, IsMember-append_cases, IsMember-filter, IsMember-from_filter, IsMember-map, filter_all, filter_none, IsMember-slice_get}
 use Rattle.ec_agenda.specs.Due.{has_due}
 use Rattle.ec_changes.specs.Differences.{entries_at}
 use Rattle.ec_changes.specs.QuietLaws.{single_events}
-use Rattle.ec_changes.proofs.JoinedMembers.{IsMember-append_left}
+use Rattle.ec_changes.proofs.JoinedMembers.{IsMember-flat_map}
 use Rattle.ec_changes.proofs.KeptEvents.{IsMember-from_has_event}
 use Rattle.ec_events.specs.Store.{Kept, event_at, history_of}
 use Rattle.ec_numbered.specs.ByNumber.{kept_at}
@@ -49,7 +49,6 @@ use Rattle.ec_sweep.proofs.Gaps.{ascends_by, key-apart}
 use Rattle.ec_sweep.proofs.KeptTerms.{prop_of-term_at}
 use Rattle.ec_sweep.proofs.NextInstant.{compared}
 use Rattle.ec_sweep.proofs.OwnChanges.{change_at-none}
-use Rattle.ec_sweep.proofs.ReadingEntries.{slice_get-member}
 
 -- where nothing of an ordered list is left behind those up to r, all are up to r
 all_within : {X : Type 0} (key : X → ℤ) (r : ℤ) (xs : List X) (n : ℕ) → ascends_by key xs ≡ true → n ≡ length (filter (λ x. int_le (key x) r) xs) → drop n xs ≡ []
@@ -64,12 +63,6 @@ all_within key r xs n ascending is none x member =
 mark_made-found : {T : Type 0} (rank : T → ℤ) (o : Option (MarkChange T)) (old : PlainMark) → mark_made rank o old ≡ unwrap_or (option_map (λ (c : MarkChange T). plain_mark rank c.1) o) old
 mark_made-found rank None old = refl
 mark_made-found rank (Some c) old = refl
-
--- an entry of an event of a list stands at the event's time
-IsMember-flat_map : {X Y : Type 0} (f : X → List Y) (xs : List X) (x : X) (y : Y) → IsMember xs x → IsMember (f x) y → IsMember (flat_map f xs) y
-IsMember-flat_map f [] x y member there = absurd member
-IsMember-flat_map f (z ∷ xs) x y (inl same) there = IsMember-append_left (f z) (flat_map f xs) y (subst (λ w. IsMember (f w) y) (sym same) there)
-IsMember-flat_map f (z ∷ xs) x y (inr later) there = IsMember-append_right (f z) (flat_map f xs) y (IsMember-flat_map f xs x y later there)
 
 entry_at_time : (theory : Theory) (events : List PlainEvent) (e : PlainEvent) (effect : Effect) → IsMember events e → IsMember (effects_of theory e) effect
     → Contains (entries_at theory events e.rank) effect
@@ -182,7 +175,7 @@ module _ {T : Type 0} (rank : T → ℤ) (theory : Theory) (new : List PlainEven
       (subst (λ es. IsMember es (event_of rank event)) underway.change_is.added (IsMember-map (event_of rank) change.add event member))).0
 
   active_new : (e : PlainEvent) (k : ℕ) (effect : Effect) → IsMember new e → slice_get (effects_of theory e) k ≡ Some effect → active effect ≡ is_active (is_current theory new) effect
-  active_new e k effect member is = all.active effect e.rank (entry_at_time theory new e effect member (slice_get-member (effects_of theory e) k effect is))
+  active_new e k effect member is = all.active effect e.rank (entry_at_time theory new e effect member (IsMember-slice_get (effects_of theory e) k effect is))
 
   each_added : length sweep.looked.bits ≡ length change.add
   each_added =
@@ -195,7 +188,7 @@ module _ {T : Type 0} (rank : T → ℤ) (theory : Theory) (new : List PlainEven
       AreActiveBits-from theory new (event_of rank event) word
       (λ k effect there.
       sym (sweeping.found.shows.added i word k event effect is bits there)
-      ∙ active_new (event_of rank event) k effect (added_new event (slice_get-member change.add i event is)) there)
+      ∙ active_new (event_of rank event) k effect (added_new event (IsMember-slice_get change.add i event is)) there)
       (λ k none. sweeping.found.shows.whole i word k event is bits none)
 
   stayed_bits : (slot : Slot) (event : Event T) → event_at slot view.store.events ≡ Some event → IsTrue (has_event new (event_of rank event))

@@ -8,18 +8,16 @@ use Rattle.std.proofs.lemmas.Bool.{and_parts, cases_Bool, cond-true, cond-false}
 use Rattle.std.proofs.lemmas.Int.{ints}
 use Rattle.ec_lists.proofs.Filters.{filter-none}
 use Rattle.ec_lists.proofs.Tests.{list_all-weaker, list_any-none}
+use Rattle.ec_lists.proofs.Integers.{int_le-trans}
 use Rattle.ec_rows.specs.Ordered.{is_ascending}
 use Rattle.ec_rows.proofs.OrderedLemmas.{IsPartitionedBy-ascending}
 use Rattle.ec_sweep.specs.Runs.{not_after}
-
-le-through : (r s t : ℤ) → int_le r s ≡ true → int_le s t ≡ true → int_le r t ≡ true
-le-through r s t first second = grind (arith, ints)
 
 module _ {T X : Type 0} (rank : T → ℤ) (time : X → T) where
   -- a time cuts such a list in two
   pub IsPartitionedBy-up_to : (t : ℤ) (xs : List X) → IsTrue (is_ascending (not_after rank time) xs) → IsPartitionedBy (λ x. int_le (rank (time x)) t) xs
   IsPartitionedBy-up_to t xs order =
-      IsPartitionedBy-ascending (not_after rank time) (λ x. int_le (rank (time x)) t) (λ x y before passes. le-through (rank (time x)) (rank (time y)) t before passes) xs order
+      IsPartitionedBy-ascending (not_after rank time) (λ x. int_le (rank (time x)) t) (λ x y before passes. int_le-trans (rank (time x)) (rank (time y)) t before passes) xs order
 
   abbrev low : ℤ → X → Bool
   low r y = int_le (rank (time y)) r
@@ -34,6 +32,10 @@ module _ {T X : Type 0} (rank : T → ℤ) (time : X → T) where
   none_behind : (x : X) (xs : List X) (test : X → Bool) → ((y : X) → not_after rank time x y ≡ true → not (test y) ≡ true) → list_all (not_after rank time x) xs ≡ true → filter test xs ≡ []
   none_behind x xs test fails all = filter-none test xs (list_any-none test xs (list_all-weaker (not_after rank time x) (λ y. not (test y)) fails xs all))
 
+  -- what comes no earlier than what is late is late
+  stays : (r s u : ℤ) → int_le s r ≡ false → int_le s u ≡ true → not (int_le u r) ≡ true
+  stays r s u late after = grind (arith, ints)
+
   -- the first of such a list are those up to a time
   pub run-first : (r : ℤ) (xs : List X) → IsTrue (is_ascending (not_after rank time) xs) → take (length (filter (λ x. int_le (rank (time x)) r) xs)) xs ≡ filter (λ x. int_le (rank (time x)) r) xs
   unfolding is_ascending
@@ -45,12 +47,9 @@ module _ {T X : Type 0} (rank : T → ℤ) (time : X → T) where
       let all = cond-true (low r x) (x ∷ filter (low r) xs) (filter (low r) xs) early in
       ap (λ ys. take (length ys) (x ∷ xs)) all ∙ ap (λ ys. x ∷ ys) (run-first r xs parts.1) ∙ sym all)
       (λ late.
-      let none = cond-false (low r x) (x ∷ filter (low r) xs) (filter (low r) xs) late ∙ none_behind x xs (low r) (λ y after. stays (rank (time x)) (rank (time y)) late after) parts.0 in
+      let none = cond-false (low r x) (x ∷ filter (low r) xs) (filter (low r) xs) late ∙ none_behind x xs (low r) (λ y after. stays r (rank (time x)) (rank (time y)) late after) parts.0 in
       ap (λ ys. take (length ys) (x ∷ xs)) none ∙ sym none)
       (cases_Bool (int_le (rank (time x)) r))
-    where
-      stays : (s u : ℤ) → int_le s r ≡ false → int_le s u ≡ true → not (int_le u r) ≡ true
-      stays s u late after = grind (arith, ints)
 
   -- behind those up to r, the next up to r + 1 are those at r + 1
   pub run-next : (r : ℤ) (xs : List X) → IsTrue (is_ascending (not_after rank time) xs)
@@ -67,7 +66,7 @@ module _ {T X : Type 0} (rank : T → ℤ) (time : X → T) where
       ∙ rest
       ∙ sym (cond-false (there r x) (x ∷ filter (there r) xs) (filter (there r) xs) (not_at (rank (time x)) early)))
       (λ late.
-      let none : filter (low r) xs ≡ [] = none_behind x xs (low r) (λ y after. stays (rank (time x)) (rank (time y)) late after) parts.0 in
+      let none : filter (low r) xs ≡ [] = none_behind x xs (low r) (λ y after. stays r (rank (time x)) (rank (time y)) late after) parts.0 in
       let first = cond-false (low r x) (x ∷ filter (low r) xs) (filter (low r) xs) late ∙ none in
       ⊎_elim
       (λ here.
@@ -75,7 +74,7 @@ module _ {T X : Type 0} (rank : T → ℤ) (time : X → T) where
       ∙ ap (λ ys. x ∷ ys) (ap (λ ys. drop (length ys) (take (length (filter (low (r +ℤ pos 1)) xs)) xs)) (sym none) ∙ rest)
       ∙ sym (cond-true (there r x) (x ∷ filter (there r) xs) (filter (there r) xs) (same (rank (time x)) here late)))
       (λ later.
-      ap₂ (cut (x ∷ xs)) first (cond-false (low (r +ℤ pos 1) x) (x ∷ filter (low (r +ℤ pos 1)) xs) (filter (low (r +ℤ pos 1)) xs) later ∙ none_behind x xs (low (r +ℤ pos 1)) (λ y after. stays_next (rank (time x)) (rank (time y)) later after) parts.0)
+      ap₂ (cut (x ∷ xs)) first (cond-false (low (r +ℤ pos 1) x) (x ∷ filter (low (r +ℤ pos 1)) xs) (filter (low (r +ℤ pos 1)) xs) later ∙ none_behind x xs (low (r +ℤ pos 1)) (λ y after. stays (r +ℤ pos 1) (rank (time x)) (rank (time y)) later after) parts.0)
       ∙ sym
       (cond-false (there r x) (x ∷ filter (there r) xs) (filter (there r) xs) (apart (rank (time x)) later)
       ∙ none_behind x xs (there r) (λ y after. not_there (rank (time x)) (rank (time y)) later after) parts.0))
@@ -93,12 +92,6 @@ module _ {T X : Type 0} (rank : T → ℤ) (time : X → T) where
 
       apart : (s : ℤ) → int_le s (r +ℤ pos 1) ≡ false → int_eq s (r +ℤ pos 1) ≡ false
       apart s later = grind (arith, ints)
-
-      stays : (s u : ℤ) → int_le s r ≡ false → int_le s u ≡ true → not (int_le u r) ≡ true
-      stays s u late after = grind (arith, ints)
-
-      stays_next : (s u : ℤ) → int_le s (r +ℤ pos 1) ≡ false → int_le s u ≡ true → not (int_le u (r +ℤ pos 1)) ≡ true
-      stays_next s u late after = grind (arith, ints)
 
       not_there : (s u : ℤ) → int_le s (r +ℤ pos 1) ≡ false → int_le s u ≡ true → not (int_eq u (r +ℤ pos 1)) ≡ true
       not_there s u late after = grind (arith, ints)

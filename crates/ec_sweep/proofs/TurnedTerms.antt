@@ -4,6 +4,7 @@ use Rattle.std.specs.Prelude.{◌==◌, if◌then◌else◌}
 use Rattle.std.specs.List.{All, list_any}
 use Rattle.std.proofs.lemmas.Bool.{or_parts}
 use Rattle.std.proofs.lemmas.List.Elements.{All-cons, All-nil}
+use Rattle.std.proofs.Math.Bool.{and-false}
 use Rattle.ec_lists.proofs.Tests.{list_any-or}
 use Rattle.ec_terms.specs.declared.ids.PropId.{PropId}
 use Rattle.ec_terms.specs.declared.ground.Ground.{Ground}
@@ -101,16 +102,10 @@ module _ (theory : Theory) (table : List KeptProp) (neighbours : Neighbourhoods)
       test wanted = list_any (λ (x : PlainTurn). wanted (bare_entry x.kind x.head)) plains
 
       inits_narrower : (turn : Turn) → counts_at neighbours.rows id turn ≡ false → initiates_at id turn ≡ false
-      inits_narrower turn fails = let parts = or_parts (turn.head.0 == id.0) (clashes_at neighbours.rows id turn) fails in ap (λ b. is_initiation turn.kind && b) parts.0 ∙ and_false (is_initiation turn.kind)
-        where
-          and_false : (b : Bool) → (b && false) ≡ false
-          and_false b = grind arith
+      inits_narrower turn fails = let parts = or_parts (turn.head.0 == id.0) (clashes_at neighbours.rows id turn) fails in ap (λ b. is_initiation turn.kind && b) parts.0 ∙ and-false (is_initiation turn.kind)
 
       terms_narrower : (turn : Turn) → counts_at neighbours.rows id turn ≡ false → terminates_at id turn ≡ false
-      terms_narrower turn fails = let parts = or_parts (turn.head.0 == id.0) (clashes_at neighbours.rows id turn) fails in ap (λ b. not (is_initiation turn.kind) && b) parts.0 ∙ and_false (not (is_initiation turn.kind))
-        where
-          and_false : (b : Bool) → (b && false) ≡ false
-          and_false b = grind arith
+      terms_narrower turn fails = let parts = or_parts (turn.head.0 == id.0) (clashes_at neighbours.rows id turn) fails in ap (λ b. not (is_initiation turn.kind) && b) parts.0 ∙ and-false (not (is_initiation turn.kind))
 
 -- ---- the mark after turns
 

@@ -1,5 +1,5 @@
 //! The next time at which anything bears on a property: it has a mark there, or an entry there reads it.
-ghost use Rattle.std.specs.Prelude.{◌≡◌, ◌⊎◌, ◌<ℤ◌, ◌≤ℤ◌, ℤ, Some, IsTrue, IfSome, IsSomeAnd};
+ghost use Rattle.std.specs.Prelude.{◌≡◌, ◌⊎◌, ◌<ℤ◌, ◌≤ℤ◌, ℤ, None, IsTrue, IfNone, IfSome, IsSomeAnd};
 ghost use Rattle.ec_points.specs.Table.{marks_at};
 ghost use Rattle.ec_rows.specs.Marks.{has_mark};
 ghost use Rattle.ec_sweep.specs.Settling.{BearsAt, IsReadAt};
@@ -11,23 +11,27 @@ use ec_points::Points;
 use ec_rows::{MarkRow, SpanRow, TimeRow};
 use ec_terms::PropId;
 
+/// The earlier of two times.
+fn least<T: Moment>(a: T, b: T) -> T
+    ensures first { T.rank result ≤ℤ T.rank a }
+    ensures second { T.rank result ≤ℤ T.rank b }
+    ensures either { (result ≡ a) ⊎ (result ≡ b) }
+{
+    if b.order(&a).is_lt() { b } else { a }
+}
+
 /// The earlier of two times, where there are two.
 pub(crate) fn earlier<T: Moment>(first: Option<T>, second: Option<T>) -> Option<T>
-    ensures one { IfSome result (λ time. (first ≡ Some time) ⊎ (second ≡ Some time)) }
-    ensures before_first { IfSome first (λ time. IsSomeAnd result (λ least. T.rank least ≤ℤ T.rank time)) }
-    ensures before_second { IfSome second (λ time. IsSomeAnd result (λ least. T.rank least ≤ℤ T.rank time)) }
+    ensures first { IfSome first (λ a. IfSome result (λ at. T.rank at ≤ℤ T.rank a)) }
+    ensures second { IfSome second (λ b. IfSome result (λ at. T.rank at ≤ℤ T.rank b)) }
+    ensures either { (result ≡ first) ⊎ (result ≡ second) }
+    ensures none { IfNone result ((first ≡ None) × (second ≡ None)) }
 {
     match first {
         None => second,
         Some(a) => match second {
             None => Some(a),
-            Some(b) => {
-                if b.order(&a).is_lt() {
-                    Some(b)
-                } else {
-                    Some(a)
-                }
-            }
+            Some(b) => Some(least(a, b)),
         },
     }
 }

@@ -1,5 +1,5 @@
 //! The sweep from instant to instant between two lists of events.
-ghost use Rattle.std.specs.Prelude.{◌≡◌, ◌⊎◌, ◌+◌, ◌≤◌, ◌≤ℤ◌, [], None, Some, IsTrue, IfSome, IfNone, IfOk, OnOk, List, option_map, slice_get};
+ghost use Rattle.std.specs.Prelude.{◌≡◌, ◌+◌, ◌≤◌, None, Some, IsTrue, IfSome, IfNone, IfOk, OnOk, List, option_map, slice_get};
 ghost use Rattle.ec_axioms.specs.Calculus.{PlainEvent};
 ghost use Rattle.ec_events.specs.Store.{history_of};
 ghost use Rattle.ec_parts.specs.declared.tally.Tally.{Tally as PartsTally};
@@ -12,6 +12,7 @@ ghost use Rattle.ec_sweep.specs.Visiting.{most_steps, steps_for};
 use crate::dirty::Dirty;
 use crate::due::take_due;
 use crate::look::look;
+use crate::next_time::earlier;
 use crate::progress::Progress;
 use crate::settle_all::settle_all;
 use ec_agenda::Agenda;
@@ -138,31 +139,6 @@ fn next_added<T: Moment>(change: &Change<T>, place: usize) -> Option<T>
         Some(change.add.get(place).at)
     } else {
         None
-    }
-}
-
-/// The earlier of two times.
-fn least<T: Moment>(a: T, b: T) -> T
-    ensures first { T.rank result ≤ℤ T.rank a }
-    ensures second { T.rank result ≤ℤ T.rank b }
-    ensures either { (result ≡ a) ⊎ (result ≡ b) }
-{
-    if b.order(&a).is_lt() { b } else { a }
-}
-
-/// The earlier of two times, where there are two.
-fn earlier<T: Moment>(first: Option<T>, second: Option<T>) -> Option<T>
-    ensures first { IfSome first (λ a. IfSome result (λ at. T.rank at ≤ℤ T.rank a)) }
-    ensures second { IfSome second (λ b. IfSome result (λ at. T.rank at ≤ℤ T.rank b)) }
-    ensures either { (result ≡ first) ⊎ (result ≡ second) }
-    ensures none { IfNone result ((first ≡ None) × (second ≡ None)) }
-{
-    match first {
-        None => second,
-        Some(a) => match second {
-            None => Some(a),
-            Some(b) => Some(least(a, b)),
-        },
     }
 }
 

@@ -5,6 +5,7 @@ use Rattle.std.specs.Option.{option_map_or}
 use Rattle.std.proofs.lemmas.Bool.{cases_Bool, eqb-true}
 use Rattle.std.proofs.lemmas.Bool.Decides.{nat_tests}
 use Rattle.std.proofs.lemmas.Option.{slice_get-get_or, slice_get_past}
+use Rattle.std.proofs.Math.Bool.{and-false}
 use Rattle.ec_context.specs.declared.entry.Entry.{Entry}
 use Rattle.ec_parts.specs.Activity.{is_bit_set}
 use Rattle.ec_sweep.specs.Acting.{acts, turn_of}
@@ -36,12 +37,9 @@ kept_bit before after k j now was none same =
     ⊎_elim
     (λ here.
     let place : k ≡ j = eqb-true k j here in
-    ap (λ w. is_bit_set w j) same ∙ was j ∙ ap (λ b. nat_lt j k && b) (ap now (sym place) ∙ none) ∙ ended (nat_lt j k) ∙ sym (ap (λ b. cond b (now k) (is_bit_set before j)) here ∙ none))
+    ap (λ w. is_bit_set w j) same ∙ was j ∙ ap (λ b. nat_lt j k && b) (ap now (sym place) ∙ none) ∙ and-false (nat_lt j k) ∙ sym (ap (λ b. cond b (now k) (is_bit_set before j)) here ∙ none))
     (λ apart. ap (λ w. is_bit_set w j) same ∙ sym (ap (λ b. cond b (now k) (is_bit_set before j)) apart))
     (cases_Bool (k == j))
-  where
-    ended : (b : Bool) → (b && false) ≡ false
-    ended b = grind arith
 
 -- behind the last entry no bit is set
 bits_whole : (list : List Entry) (k j : ℕ) (now : Entry → Bool) → length list ≤ k
@@ -51,14 +49,11 @@ bits_whole list k j now past =
     (λ low. ap (λ b. b && option_map_or now (slice_get list j) false) low)
     (λ high.
     let none : slice_get list j ≡ None = slice_get_past list j (behind j k (length list) past high) in
-    ap (λ o. nat_lt j k && option_map_or now o false) none ∙ ended (nat_lt j k) ∙ sym (ap (λ o. option_map_or now o false) none))
+    ap (λ o. nat_lt j k && option_map_or now o false) none ∙ and-false (nat_lt j k) ∙ sym (ap (λ o. option_map_or now o false) none))
     (cases_Bool (nat_lt j k))
   where
     behind : (j k n : ℕ) → n ≤ k → nat_lt j k ≡ false → n ≤ j
     behind j k n past high = grind (arith, nat_tests)
-
-    ended : (b : Bool) → (b && false) ≡ false
-    ended b = grind arith
 
 pub loop-k-preserved : goal.loop-k-preserved
 loop-k-preserved g c =

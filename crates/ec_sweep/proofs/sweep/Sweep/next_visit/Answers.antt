@@ -1,10 +1,11 @@
 -- The earliest of the first times of three lists in order.
-use Rattle.ec_sweep.proofs.NextVisit.{NothingLeft-none, NothingLeftBefore-next, first_time-is, has_visit_at-next, if_none, if_some}
+use Rattle.ec_sweep.proofs.NextVisit.{NothingLeft-none, NothingLeftBefore-next, first_time-is, has_visit_at-next, if_none}
 use Rattle.ec_sweep.proofs.sweep.Sweep.next_visit.Goals as goal
+use Rattle.ec_props.proofs.TextLemmas.{IfSome-from}
 
 pub returns-clause-first : goal.returns-clause-first
 returns-clause-first g c =
-    if_some c.earlier.result _
+    IfSome-from c.earlier.result _
     (NothingLeftBefore-next g.T.Moment.rank c.args.change.now c.args.self.now.progress c.args.self.now.agenda c.first_time-due.result c.earlier-single.result
     c.next_removed-removed.result c.next_added-added.result c.earlier.result
     (first_time-is c.first_time-due.result c.args.self.now.agenda c.first_time-due.ensures.some c.first_time-due.ensures.none) c.next_removed-removed.ensures c.next_added-added.ensures
@@ -13,7 +14,7 @@ returns-clause-first g c =
 
 pub returns-clause-there : goal.returns-clause-there
 returns-clause-there g c =
-    if_some c.earlier.result _
+    IfSome-from c.earlier.result _
     (has_visit_at-next g.T.Moment.rank c.args.change.now c.args.self.now.progress c.args.self.now.agenda c.first_time-due.result c.earlier-single.result
     c.next_removed-removed.result c.next_added-added.result c.earlier.result
     (first_time-is c.first_time-due.result c.args.self.now.agenda c.first_time-due.ensures.some c.first_time-due.ensures.none) c.next_removed-removed.ensures c.next_added-added.ensures
