@@ -1,7 +1,7 @@
 -- A batch that is tried: where the walk begins, and what a refusal leaves.
-use Rattle.std.proofs.Common.{◌≡◌, ℤ, ◌||◌, true, Bool, List, length, None, is_some, refl, sym, ap, ◌∙◌, arith}
+use Rattle.std.proofs.Common.{◌≡◌, ℤ, true, List, length, None, is_some, refl, sym, ap, ◌∙◌, arith}
 use Rattle.std.specs.Prelude.{Err}
-use Rattle.std.proofs.lemmas.Bool.{false≢true}
+use Rattle.std.proofs.lemmas.Bool.{false≢true, or_left}
 use Rattle.ec_terms.specs.declared.theory.Theory.{Theory}
 use Rattle.ec_axioms.specs.Changes.{PlainUpdate}
 use Rattle.ec_events.specs.Store.{Kept, history_of}
@@ -28,12 +28,9 @@ HasWalkedTo-start rank theory view tally walk stand within none count = record {
   few_now = (let few = within.few_mentions in omega arith);
   nets = record { untouched = λ id is. refl; touched = λ id n is. absurd (false≢true (ap is_some (sym (none id) ∙ is))) };
   count = count;
-  fresh = λ id p is. left_of _ _ (stand.only_live id p is);
-  idle = λ id p is. left_of _ _ (stand.only_live id p is);
+  fresh = λ id p is. or_left _ _ (stand.only_live id p is);
+  idle = λ id p is. or_left _ _ (stand.only_live id p is);
 }
-  where
-    left_of : (a b : Bool) → a ≡ true → (a || b) ≡ true
-    left_of a b is = ap (λ x. x || b) is
 
 module _ {T : Type 0} (A : Type 0) (rank : T → ℤ) (theory : Theory) (events : List (Kept T)) (updates : List PlainUpdate) (view : View T) (tally : Tally) (walk : Walk T) where
   -- a refusal leaves the walk at some list

@@ -16,10 +16,9 @@ use Rattle.ec_changes.proofs.DistinctLists.{IsPairwise-from_distinct}
 use Rattle.ec_changes.proofs.EventMentions.{MentionsWithEvent-law}
 use Rattle.ec_changes.proofs.LinkSteps.{LinksAreOfMentions-law, LinksInAnyOrder-law}
 use Rattle.ec_replies.specs.Updates.{asserted, with_few_mentions}
+use Rattle.ec_replies.proofs.Limits.{length-with_event, links_of-append}
 use Rattle.ec_engine.specs.Build.{HaveOwnIds, history_from}
 use Rattle.ec_engine.specs.Limits.{IsWithinLimits}
-use Rattle.ec_engine.proofs.FoundEvents.{length-with_event}
-use Rattle.ec_engine.proofs.WalkSteps.{links_of-front}
 
 -- ---- identities
 
@@ -55,7 +54,7 @@ within-one_less theory e events within =
     let moved = MentionsWithEvent-law theory e events in
     let longer = length-with_event e events in
     let mentions = length_permutation _ _ moved ∙ length-append (event_mentions theory e) (mentions_of theory events) in
-    let links = links_of-front theory (event_mentions theory e) (mentions_of theory events) in
+    let links = links_of-append theory (event_mentions theory e) (mentions_of theory events) in
     let links_same = (LinksInAnyOrder-law theory _ _ moved).1 in
     let links_old = LinksAreOfMentions-law theory events in
     let links_new = LinksAreOfMentions-law theory (with_event e events) in

@@ -27,11 +27,6 @@ live-mentioned theory events t some =
     one_of n true some = refl
     one_of n false some = grind (arith, some)
 
--- a property that was kept as it is has its term and its mentions
-pub term_was : (before after : List KeptProp) → ((q : ℕ) → IsSome (prop_at q after) → prop_at q after ≡ prop_at q before) → (id : ℕ) (t : Ground) → term_at id after ≡ Some t → term_at id before ≡ Some t
-term_was before after same id t is =
-    ap (option_map (λ (k : KeptProp). k.term)) (sym (same id (sym (is_some-option_map (λ (k : KeptProp). k.term) (prop_at id after)) ∙ ap is_some is))) ∙ is
-
 pub mentions_were : (before after : List KeptProp) → ((q : ℕ) → IsSome (prop_at q after) → prop_at q after ≡ prop_at q before) → (id n : ℕ) → mentions_at id after ≡ Some n → mentions_at id before ≡ Some n
 mentions_were before after same id n is =
     ap (option_map (λ (k : KeptProp). k.mentions)) (sym (same id (sym (is_some-option_map (λ (k : KeptProp). k.mentions) (prop_at id after)) ∙ ap is_some is))) ∙ is

@@ -2,12 +2,13 @@
 use Rattle.std.proofs.Common.{◌≡◌, ◌+◌, ℕ, Bool, true, false, not, cond, ◌&&◌, ◌||◌, suc, List, [], ◌∷◌, length, Option, Some, None, is_some, IsTrue, IsFalse, refl, sym, ap, subst, ◌∙◌, ⊎_elim, arith}
 use Rattle.std.specs.Prelude.{bytes_eq}
 use Rattle.std.specs.List.{list_all}
-use Rattle.std.proofs.lemmas.Bool.{cases_Bool, and_parts, or_parts, not-true, cond-true, cond-false, false≢true, false_from_ne_true}
+use Rattle.std.proofs.lemmas.Bool.{cases_Bool, and_parts, not-true, cond-true, cond-false, false≢true, false_from_ne_true}
 use Rattle.std.proofs.lemmas.Slice.Eq.{bytes_eq-Decides}
 use Rattle.ec_lists.proofs.Finds.{is_some-find}
+use Rattle.ec_lists.proofs.Booleans.{cond_comm}
 use Rattle.ec_axioms.specs.Calculus.{PlainEvent}
 use Rattle.ec_axioms.specs.Changes.{has_id, comes_before, is_history, has_event, with_event, without_event}
-use Rattle.ec_axioms.proofs.Histories.{comes_before-trans, is_history-with_event, is_history-without_event}
+use Rattle.ec_axioms.proofs.Histories.{comes_before-trans, is_history-with_event, is_history-without_event, absent_parts}
 use Rattle.ec_axioms.proofs.Members.{IsMember, find-Some, list_any-false}
 use Rattle.ec_changes.proofs.KeptEvents.{IsPairwise-from_history, comes_before-itself, same_from_members, has_event-member}
 use Rattle.ec_engine.specs.Walk.{event_with}
@@ -19,22 +20,10 @@ history_parts e events history =
     let outer = and_parts (list_all (comes_before e) events && not (has_id e.id events)) (is_history events) history in
     (not-true (has_id e.id events) (and_parts (list_all (comes_before e) events) (not (has_id e.id events)) outer.0).1, outer.1)
 
--- an identity that is absent from a list is not that of its first event, and is absent from the rest
-absent_parts : (id : List ℕ) (f : PlainEvent) (events : List PlainEvent) → IsFalse (has_id id (f ∷ events)) → IsFalse (bytes_eq f.id id) × IsFalse (has_id id events)
-unfolding has_id
-absent_parts id f events none = or_parts (bytes_eq f.id id) (has_id id events) none
-
 -- an identity is present exactly where an event is found
 pub has_id-found : (id : List ℕ) (events : List PlainEvent) → has_id id events ≡ is_some (event_with id events)
 unfolding has_id
 has_id-found id events = sym (is_some-find (λ (e : PlainEvent). bytes_eq e.id id) events)
-
--- two tests that do not both pass may be asked in either order
-swap_cond : {X : Type 0} (a b : Bool) (x y z : X) → (a ≡ true → b ≡ true → ⊥) → cond a x (cond b y z) ≡ cond b y (cond a x z)
-swap_cond true true x y z apart = absurd (apart refl refl)
-swap_cond true false x y z apart = refl
-swap_cond false true x y z apart = refl
-swap_cond false false x y z apart = refl
 
 -- identities that are both the same as a third are the same
 same_identity : (a b id : List ℕ) → bytes_eq a id ≡ true → bytes_eq b id ≡ true → bytes_eq a b ≡ true
@@ -49,8 +38,8 @@ event_with-put id e (f ∷ events) absent =
     let parts = absent_parts e.id f events absent in
     by_place (comes_before e f)
     (ap (λ o. cond (bytes_eq f.id id) (Some f) o) (event_with-put id e events parts.1)
-    ∙ swap_cond (bytes_eq f.id id) (bytes_eq e.id id) (Some f) (Some e) (event_with id events)
-    (λ one other. false≢true (sym parts.0 ∙ same_identity f.id e.id id one other)))
+    ∙ cond_comm (bytes_eq f.id id) (bytes_eq e.id id) (Some f) (Some e) (event_with id events)
+    (λ other. false_from_ne_true (bytes_eq f.id id) (λ one. false≢true (sym parts.0 ∙ same_identity f.id e.id id one other))))
   where
     by_place : (before : Bool) → cond (bytes_eq f.id id) (Some f) (event_with id (with_event e events)) ≡ cond (bytes_eq e.id id) (Some e) (event_with id (f ∷ events))
         → event_with id (cond before (e ∷ f ∷ events) (f ∷ with_event e events)) ≡ cond (bytes_eq e.id id) (Some e) (event_with id (f ∷ events))
@@ -112,16 +101,6 @@ same_found these those history_these history_those same =
     same_from_members (λ e f. IsTrue (comes_before e f)) comes_before-itself (λ e f before after. comes_before-itself e (comes_before-trans e f e before after)) these those (IsPairwise-from_history these history_these) (IsPairwise-from_history those history_those)
     (λ e member. found-member e.id e those (sym (same e.id) ∙ event_with-member these e history_these member))
     (λ e member. found-member e.id e these (same e.id ∙ event_with-member those e history_those member))
-
--- one event more
-pub length-with_event : (e : PlainEvent) (events : List PlainEvent) → length (with_event e events) ≡ length events + 1
-unfolding with_event
-length-with_event e [] = refl
-length-with_event e (f ∷ events) = by_place (comes_before e f) (length-with_event e events)
-  where
-    by_place : (before : Bool) → length (with_event e events) ≡ length events + 1 → length (cond before (e ∷ f ∷ events) (f ∷ with_event e events)) ≡ length (f ∷ events) + 1
-    by_place true rest = grind arith
-    by_place false rest = grind arith
 
 -- a list without an absent identity
 pub without_event-absent : (id : List ℕ) (events : List PlainEvent) → IsFalse (has_id id events) → without_event id events ≡ events

@@ -1,11 +1,10 @@
 -- The limits on mentions and links, as the tables tell them.
-use Rattle.std.proofs.Common.{◌≡◌, ◌≤◌, ◌<◌, ◌+◌, ℕ, ℤ, suc, true, false, List, [], ◌∷◌, length, map, Option, Some, None, IsTrue, refl, sym, ap, ap₂, subst, ◌∙◌, arith, length-append}
-use Rattle.std.specs.Prelude.{flat_map, option_map, option_and_then, nat_lt, Ok, Err}
+use Rattle.std.proofs.Common.{◌≡◌, ◌≤◌, ◌<◌, ◌+◌, ℕ, ℤ, suc, true, false, List, [], ◌∷◌, length, Some, IsTrue, refl, sym, ap, ap₂, subst, ◌∙◌, arith, length-append}
+use Rattle.std.specs.Prelude.{flat_map, nat_lt, Ok, Err}
 use Rattle.std.proofs.lemmas.Bool.{cond-true, cond-false}
 use Rattle.std.proofs.lemmas.List.{length-map}
 use Rattle.std.proofs.lemmas.Slice.Eq.{bytes_eq-Decides}
 use Rattle.std.proofs.lemmas.List.Sorted.{length_permutation}
-use Rattle.ec_terms.specs.declared.ground.Ground.{Ground}
 use Rattle.ec_terms.specs.declared.theory.Theory.{Theory}
 use Rattle.ec_terms.specs.Domain.{GroundLiteral, GroundEntry, entries_of}
 use Rattle.ec_axioms.specs.declared.event.Cut.TheVariants.{FullMentions, FullLinks}
@@ -16,40 +15,26 @@ use Rattle.ec_axioms.proofs.Histories.{is_history-with_event}
 use Rattle.ec_changes.proofs.EventMentions.{MentionsWithEvent-law}
 use Rattle.ec_context.specs.declared.entry.Entry.{Entry}
 use Rattle.ec_context.specs.declared.entry.EntryLiteral.{EntryLiteral}
-use Rattle.ec_context.specs.Entries.{each_of, shown_literal, shown_literals, shown_entry, shown_entries}
+use Rattle.ec_context.specs.Entries.{each_of, shown_literal, shown_entry, shown_entries}
+use Rattle.ec_context.proofs.EachOf.{each_of-first, each_of-length}
+use Rattle.ec_context.proofs.Shown.{IsShownAs-entry}
 use Rattle.ec_props.specs.Table.{KeptProp, term_at}
 use Rattle.ec_parts.specs.declared.tally.Tally.{Tally}
 use Rattle.ec_parts.specs.Mentions.{AreOfEventsWith, entry_props, list_props}
 use Rattle.ec_parts.specs.StandFor.{View, StandForBoth}
 use Rattle.ec_parts.proofs.CachesKept.{shown_entries-moved}
-use Rattle.ec_parts.proofs.TablesOfEvents.{has_first}
 use Rattle.ec_engine.specs.Limited.{ComesIn}
 use Rattle.ec_replies.specs.Updates.{with_few_mentions}
 use Rattle.ec_engine.proofs.FoundEvents.{event_with-put, found-has_event, without-with_event}
 
 -- ---- how many mentions entries make
 
--- there are as many as are shown
-each_of-length : {X A : Type 0} (f : X → Option A) (xs : List X) (all : List A) → each_of (map f xs) ≡ Some all → length xs ≡ length all
-unfolding each_of
-each_of-length f [] all is = let none : [] ≡ all = cc in ap length none
-each_of-length f (x ∷ xs) all is =
-    let parts = has_first (f x) (each_of (map f xs)) all is in ap suc (each_of-length f xs parts.others parts.others_are) ∙ ap length (sym parts.all_are)
-
 -- an entry makes as many mentions as it has properties
 length-entry_props : (table : List KeptProp) (entry : Entry) (shown : GroundEntry) → shown_entry table entry ≡ Some shown → length (entry_props entry) ≡ length (entry_mentions shown)
-unfolding shown_entry
-length-entry_props table entry shown is = each (term_at entry.head.0 table) (shown_literals table entry.literals) refl is
-  where
-    each : (head : Option Ground) (literals : Option (List GroundLiteral)) → shown_literals table entry.literals ≡ literals
-        → option_and_then (λ h. option_map (λ ls. record { rule = entry.rule; kind = entry.kind; head = h; literals = ls }) literals) head ≡ Some shown
-        → length (entry_props entry) ≡ length (entry_mentions shown)
-    each None literals are both = cc
-    each (Some h) None are both = cc
-    each (Some h) (Some ls) are both =
-        let same : record { rule = entry.rule; kind = entry.kind; head = h; literals = ls } ≡ shown = cc in
-        ap suc (length-map entry.literals (λ (l : EntryLiteral). l.prop) ∙ each_of-length (shown_literal table) entry.literals ls are ∙ sym (length-map ls (λ (l : GroundLiteral). l.prop)))
-        ∙ ap (λ (e : GroundEntry). length (entry_mentions e)) same
+length-entry_props table entry shown is =
+    ap suc
+    (length-map entry.literals (λ (l : EntryLiteral). l.prop) ∙ each_of-length (shown_literal table) entry.literals shown.literals (IsShownAs-entry table entry shown is).literals
+    ∙ sym (length-map shown.literals (λ (l : GroundLiteral). l.prop)))
 
 -- and so do several
 pub length-list_props : (table : List KeptProp) (entries : List Entry) (shown : List GroundEntry) → shown_entries table entries ≡ Some shown
@@ -57,7 +42,7 @@ pub length-list_props : (table : List KeptProp) (entries : List Entry) (shown : 
 unfolding each_of
 length-list_props table [] shown is = let none : [] ≡ shown = cc in ap (λ (es : List GroundEntry). length (flat_map entry_mentions es)) none
 length-list_props table (entry ∷ entries) shown is =
-    let parts = has_first (shown_entry table entry) (shown_entries table entries) shown is in
+    let parts = each_of-first (shown_entry table) entry entries shown is in
     length-append (entry_props entry) (list_props entries)
     ∙ ap₂ (λ m n. m + n) (length-entry_props table entry parts.first parts.first_is) (length-list_props table entries parts.others parts.others_are)
     ∙ sym (length-append (entry_mentions parts.first) (flat_map entry_mentions parts.others))

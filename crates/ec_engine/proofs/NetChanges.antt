@@ -20,6 +20,8 @@ use Rattle.std.proofs.lemmas.Map.Views.{Contains-from_lookup, lookup-from_Contai
 use Rattle.std.proofs.lemmas.Slice.Eq.{bytes_eq-Decides}
 use Rattle.indexmap.specs.IndexMap.{IndexMap}
 use Rattle.ec_lists.proofs.Numbers.{bytes_eq_comm, eqb_comm}
+use Rattle.ec_lists.proofs.Filters.{length-filter_map}
+use Rattle.ec_lists.proofs.Orderings.{Equal-from_then_last}
 use Rattle.ec_terms.specs.declared.ids.Slot.{Slot}
 use Rattle.ec_terms.specs.declared.theory.Theory.{Theory}
 use Rattle.ec_terms.specs.Domain.{entries_of}
@@ -29,13 +31,12 @@ use Rattle.ec_axioms.specs.Calculus.{PlainEvent}
 use Rattle.ec_axioms.specs.Changes.{comes_before, event_eq, events_only_in, has_event, has_id, is_history}
 use Rattle.ec_axioms.specs.Events.{event_of}
 use Rattle.ec_axioms.proofs.Histories.{comes_before-trans}
-use Rattle.ec_axioms.proofs.Members.{Contains-from_member, IsMember, IsMember-filter, IsMember-from_contains, IsMember-from_filter, IsMember-from_filter_map, IsMember-from_map, IsMember-map, IsPairwise, IsPairwise-filter, IsPairwise-map, IsPairwise-weaker, find-Some, list_any-false, list_any-member, member-list_any}
+use Rattle.ec_axioms.proofs.Members.{Contains-from_member, IsMember, IsMember-filter, IsMember-from_contains, IsMember-from_filter, IsMember-from_filter_map, IsMember-from_map, IsMember-map, IsPairwise, IsPairwise-filter, IsPairwise-map, IsPairwise-weaker, find-Some, list_any-false, list_any-member, member-list_any, IsMember-append_left}
 use Rattle.ec_changes.proofs.DistinctLists.{IsPairwise-from_distinct}
-use Rattle.ec_changes.proofs.JoinedMembers.{IsMember-append_left}
 use Rattle.ec_changes.proofs.KeptEvents.{IsMember-from_has_event, IsPairwise-from_history, comes_before-itself, event_eq-is, event_eq-same, has_event-member, same_from_members}
 use Rattle.ec_context.specs.Entries.{shown_entries}
 use Rattle.ec_events.specs.Store.{Kept, event_at, history_of, plain_of, slot_of}
-use Rattle.ec_events.proofs.KeptLemmas.{slot_of-cons}
+use Rattle.ec_events.proofs.KeptLemmas.{slot_of-cons, before-then}
 use Rattle.ec_props.specs.Table.{KeptProp}
 use Rattle.ec_revise.specs.declared.change.Change.{Change}
 use Rattle.ec_revise.specs.declared.change.Removal.{Removal}
@@ -43,13 +44,14 @@ use Rattle.ec_revise.specs.Change.{IsChange, entries_to_show, has_slot, removal_
 use Rattle.ec_rows.specs.Ordered.{is_ascending}
 use Rattle.ec_rows.specs.Times.{place_cmp}
 use Rattle.ec_rows.proofs.TimeLemmas.{place_cmp-total}
+use Rattle.ec_rows.proofs.OrderedPairs.{ascending-from_pairwise, IsPairwise-from_map}
 use Rattle.ec_engine.specs.declared.net.Added.{Added}
 use Rattle.ec_engine.specs.declared.net.Net.{Net}
 use Rattle.ec_engine.specs.Net.{net_in}
 use Rattle.ec_engine.specs.NetChange.{added_before, coming, going, is_back, kept_in, removal_of, stands_there}
 use Rattle.ec_engine.specs.Walk.{IsNetTo, added_event, event_with}
 use Rattle.ec_engine.proofs.FoundEvents.{event_with-member, found-has_event, found-id, found-member}
-use Rattle.ec_engine.proofs.SortedLists.{Equal-then, is_ascending-from_pairwise, IsMember-filter_map, IsMember-moved, IsMember-moved_back, IsPairwise-filter_map, IsPairwise-of_values, IsPairwise-sorted_by, apart_moved, before-then, nat_lt-cmp}
+use Rattle.ec_engine.proofs.SortedLists.{IsMember-filter_map, IsMember-moved, IsMember-moved_back, IsPairwise-filter_map, IsPairwise-sorted_by, apart_moved, nat_lt-cmp}
 use Rattle.ec_engine.proofs.WalkSteps.{stored_event}
 
 -- ---- histories and stores
@@ -97,15 +99,6 @@ gathered-next {X} {Y} h front x so_far more whole gathered is =
     by_value : (o : Option Y) → (so_far ++ option_to_list o) ++ filter_map h (reverse front) ≡ so_far ++ cons_option o (filter_map h (reverse front))
     by_value None = ap (λ ys. ys ++ filter_map h (reverse front)) (append-nil so_far)
     by_value (Some y) = append_assoc so_far (y ∷ []) (filter_map h (reverse front))
-
--- no more is gathered than there is
-length-filter_map : {X Y : Type 0} (h : X → Option Y) (xs : List X) → length (filter_map h xs) ≤ length xs
-length-filter_map h [] = omega arith
-length-filter_map {X} {Y} h (x ∷ xs) = by_value (h x) (length-filter_map h xs)
-  where
-    by_value : (o : Option Y) → length (filter_map h xs) ≤ length xs → length (cons_option o (filter_map h xs)) ≤ length (x ∷ xs)
-    by_value None rest = omega arith
-    by_value (Some y) rest = omega arith
 
 pub length-gathered : {X Y : Type 0} (h : X → Option Y) (xs : List X) → length (filter_map h (reverse xs)) ≤ length xs
 length-gathered h xs = let few = length-filter_map h (reverse xs) in let same = length-reverse xs in omega arith
@@ -426,13 +419,13 @@ module _ {T : Type 0} {rank : T → ℤ} {theory : Theory} {table : List KeptPro
       (gone_up : IsSortedBy (removal_before rank) gone_sorted) (come_up : IsSortedBy (added_before rank) come_sorted) where
     removals_ascend : IsTrue (is_ascending (removal_before rank) gone_sorted)
     removals_ascend =
-        is_ascending-from_pairwise (removal_before rank) gone_sorted
+        ascending-from_pairwise (removal_before rank) gone_sorted
         (IsPairwise-weaker (λ r s. IsTrue (is_lt (removal_cmp (removal_place rank r) (removal_place rank s)))) (λ r s. IsTrue (removal_before rank r s)) gone_sorted
         (IsPairwise-sorted_by removal_cmp removal_cmp-total (removal_place rank) gone_sorted
         (subst (λ lt. IsSortedBy lt gone_sorted) (λ i r s. removal_before-cmp rank r s i) gone_up)
         (IsPairwise-weaker (λ r s. IsFalse (r.slot.0 == s.slot.0)) (λ r s. removal_cmp (removal_place rank r) (removal_place rank s) ≡ Equal → ⊥) gone_sorted
         (apart_moved (λ (r s : Removal T). r.slot.0 == s.slot.0) (λ r s. eqb_comm r.slot.0 s.slot.0) removals gone_sorted gone_moved slots_apart)
-        (λ r s left right apart equal. false≢true (sym apart ∙ eq-eqb r.slot.0 s.slot.0 (nat_cmp-IsAntisymmetric r.slot.0 s.slot.0 (Equal-then (int_cmp (rank r.at) (rank s.at)) (nat_cmp r.slot.0 s.slot.0) equal))))))
+        (λ r s left right apart equal. false≢true (sym apart ∙ eq-eqb r.slot.0 s.slot.0 (nat_cmp-IsAntisymmetric r.slot.0 s.slot.0 (Equal-from_then_last (int_cmp (rank r.at) (rank s.at)) (nat_cmp r.slot.0 s.slot.0) equal))))))
         (λ r s left right before. removal_before-cmp rank r s ∙ before))
 
     additions_in_order : IsPairwise (λ a b. IsTrue (comes_before (event_of rank a.event) (event_of rank b.event))) come_sorted
@@ -442,7 +435,7 @@ module _ {T : Type 0} {rank : T → ℤ} {theory : Theory} {table : List KeptPro
         (IsPairwise-weaker (λ a b. IsFalse (bytes_eq a.event.id b.event.id)) (λ a b. place_cmp (added_place rank a) (added_place rank b) ≡ Equal → ⊥) come_sorted
         (apart_moved (λ (a b : Added T). bytes_eq a.event.id b.event.id) (λ a b. bytes_eq_comm a.event.id b.event.id) additions come_sorted come_moved identities_apart)
         (λ a b left right apart equal. false≢true
-        (sym apart ∙ (bytes_eq-Decides a.event.id b.event.id).1 (slice_cmp-IsAntisymmetric nat_cmp-IsAntisymmetric a.event.id b.event.id (Equal-then (int_cmp (rank a.event.at) (rank b.event.at)) _ equal))))))
+        (sym apart ∙ (bytes_eq-Decides a.event.id b.event.id).1 (slice_cmp-IsAntisymmetric nat_cmp-IsAntisymmetric a.event.id b.event.id (Equal-from_then_last (int_cmp (rank a.event.at) (rank b.event.at)) _ equal))))))
         (λ a b left right before. comes_before-added rank a b ∙ before)
 
     -- an event that comes, in order
@@ -528,7 +521,7 @@ module _ {T : Type 0} {rank : T → ℤ} {theory : Theory} {table : List KeptPro
     history_now = now;
     slots = slots;
     apart = apart_moved (λ (a b : List ℕ × Net T). bytes_eq a.0 b.0) (λ a b. bytes_eq_comm a.0 b.0) nets.entries (reverse nets.entries) (IsPermutation-reverse nets.entries)
-        (IsPairwise-of_values (λ a b. IsFalse (bytes_eq a b)) (λ (entry : List ℕ × Net T). entry.0) nets.entries (IsPairwise-from_distinct bytes_eq (keys_of nets.entries) unique));
+        (IsPairwise-from_map (λ a b. IsFalse (bytes_eq a b)) (λ (entry : List ℕ × Net T). entry.0) nets.entries (IsPairwise-from_distinct bytes_eq (keys_of nets.entries) unique));
     each = λ entry member. net_at entry (IsMember-moved_back nets.entries (reverse nets.entries) entry (IsPermutation-reverse nets.entries) member);
     all = λ id net is.
         IsMember-moved nets.entries (reverse nets.entries) (id, net) (IsPermutation-reverse nets.entries)

@@ -1,17 +1,16 @@
 -- Lists that are sorted and have no two members of one place: each member stands before those behind it.
-use Rattle.std.proofs.Common.{◌≡◌, ℕ, ◌+◌, suc, Bool, true, false, ◌||◌, ◌&&◌, cond, List, [], ◌∷◌, get_or, map, filter_map, Option, Some, None, ℤ, IsTrue, IsFalse, refl, sym, ap, subst, ◌∙◌, inl, inr, arith}
-use Rattle.std.specs.Prelude.{int_lt, nat_lt, ◌==◌}
+use Rattle.std.proofs.Common.{◌≡◌, ℕ, ◌+◌, suc, Bool, true, false, cond, List, [], ◌∷◌, get_or, filter_map, Option, Some, None, IsTrue, IsFalse, refl, sym, ap, subst, ◌∙◌, inl, inr, arith}
+use Rattle.std.specs.Prelude.{nat_lt, ◌==◌}
 use Rattle.std.specs.Cmp.{IsStrictWeakOrder, IsTotalOrder}
-use Rattle.std.specs.List.{cons_option, list_all}
+use Rattle.std.specs.List.{cons_option}
 use Rattle.std.specs.List.Sorted.{IsPermutation, IsSortedBy}
-use Rattle.std.specs.Ordering.{int_cmp, int_eq, is_eq, is_lt, nat_cmp, ordering_reverse, ordering_then}
+use Rattle.std.specs.Ordering.{is_lt, nat_cmp, ordering_reverse}
 use Rattle.std.specs.declared.cmp.Ordering.{Ordering}
 use Rattle.std.specs.declared.cmp.Ordering.TheVariants.{Less, Equal, Greater}
-use Rattle.std.proofs.lemmas.Bool.{and_from, and_parts, false≢true}
+use Rattle.std.proofs.lemmas.Bool.{false≢true}
 use Rattle.std.proofs.lemmas.List.Sorted.{Contains-permutation, IsPermutation-sym, ranks_by, sorted_far}
 use Rattle.std.proofs.lemmas.Map.Keys.{IsDistinct-IsPermutation}
-use Rattle.ec_axioms.proofs.Members.{Contains-from_member, IsMember, IsMember-from_contains, IsMember-from_filter_map, IsPairwise, list_all-from_members, list_all-member}
-use Rattle.ec_rows.specs.Ordered.{is_ascending}
+use Rattle.ec_axioms.proofs.Members.{Contains-from_member, IsMember, IsMember-from_contains, IsMember-from_filter_map, IsPairwise}
 use Rattle.ec_changes.proofs.DistinctLists.{IsDistinct-from_pairwise, IsPairwise-from_distinct}
 
 -- ---- members
@@ -51,16 +50,6 @@ pub apart_moved : {X : Type 0} (same : X → X → Bool) → ((x y : X) → same
     → IsPairwise (λ x y. IsFalse (same x y)) xs → IsPairwise (λ x y. IsFalse (same x y)) ys
 apart_moved same flips xs ys moved apart = IsPairwise-from_distinct same ys (IsDistinct-IsPermutation same flips xs ys moved (IsDistinct-from_pairwise same xs apart))
 
--- values that stand in a relation are those of members that do
-pub IsPairwise-of_values : {X Y : Type 0} (R : Y → Y → Type 0) (f : X → Y) (xs : List X) → IsPairwise R (map f xs) → IsPairwise (λ x y. R (f x) (f y)) xs
-IsPairwise-of_values R f [] pairs = tt
-IsPairwise-of_values {X} R f (x ∷ xs) pairs = (λ y later. pairs.0 (f y) (value_at xs y later), IsPairwise-of_values R f xs pairs.1)
-  where
-    value_at : (zs : List X) (y : X) → IsMember zs y → IsMember (map f zs) (f y)
-    value_at [] y member = absurd member
-    value_at (z ∷ zs) y (inl same) = inl (ap f same)
-    value_at (z ∷ zs) y (inr later) = inr (value_at zs y later)
-
 -- ---- order
 
 -- in a sorted list nothing is less than what stands in front of it
@@ -95,30 +84,6 @@ module _ {K X : Type 0} (compare : K → K → Ordering) (total : IsTotalOrder c
       joined [] first second = tt
       joined (y ∷ ys) first second = (λ z later. before_from_not_behind y z (first.0 z later) (second.0 z later), joined ys first.1 second.1)
 
--- a list ascends where each member stands before those behind it
-pub is_ascending-from_pairwise : {X : Type 0} (before : X → X → Bool) (xs : List X) → IsPairwise (λ x y. IsTrue (before x y)) xs → IsTrue (is_ascending before xs)
-unfolding is_ascending
-is_ascending-from_pairwise before [] pairs = refl
-is_ascending-from_pairwise before (x ∷ xs) pairs =
-    and_from (list_all (before x) xs) (is_ascending before xs) (list_all-from_members (before x) xs pairs.0) (is_ascending-from_pairwise before xs pairs.1)
-
--- and the other way
-pub IsPairwise-from_ascending : {X : Type 0} (before : X → X → Bool) (xs : List X) → IsTrue (is_ascending before xs) → IsPairwise (λ x y. IsTrue (before x y)) xs
-unfolding is_ascending
-IsPairwise-from_ascending before [] order = tt
-IsPairwise-from_ascending before (x ∷ xs) order =
-    let parts = and_parts (list_all (before x) xs) (is_ascending before xs) order in
-    (λ y later. list_all-member (before x) xs y parts.0 later, IsPairwise-from_ascending before xs parts.1)
-
--- before in time, or at the same time and less: as an answer of two comparisons
-pub before-then : (s t : ℤ) (o : Ordering) → (int_lt s t || (int_eq s t && is_lt o)) ≡ is_lt (ordering_then (int_cmp s t) o)
-before-then s t o = by_tests (int_lt s t) (int_lt t s) o
-  where
-    by_tests : (a b : Bool) (r : Ordering) → (a || (is_eq (cond a Less (cond b Greater Equal)) && is_lt r)) ≡ is_lt (ordering_then (cond a Less (cond b Greater Equal)) r)
-    by_tests true b r = refl
-    by_tests false true r = refl
-    by_tests false false r = refl
-
 -- less, as an answer of a comparison
 pub nat_lt-cmp : (m n : ℕ) → nat_lt m n ≡ is_lt (nat_cmp m n)
 nat_lt-cmp m n = by_tests (nat_lt m n) (m == n)
@@ -127,9 +92,3 @@ nat_lt-cmp m n = by_tests (nat_lt m n) (m == n)
     by_tests true b = refl
     by_tests false true = refl
     by_tests false false = refl
-
--- two comparisons that are equal together are equal each
-pub Equal-then : (r o : Ordering) → ordering_then r o ≡ Equal → o ≡ Equal
-Equal-then Less o is = cc
-Equal-then Equal o is = is
-Equal-then Greater o is = cc

@@ -3,16 +3,16 @@ use Rattle.std.proofs.Common.{◌≡◌, ◌≤◌, ◌+◌, ℕ, ℤ, zero, suc
 use Rattle.std.specs.Prelude.{bytes_eq, find, flat_map, option_map, slice_get}
 use Rattle.std.specs.List.{AllByRecursion, IsDistinct}
 use Rattle.std.specs.Map.{keys_of, lookup}
-use Rattle.std.proofs.lemmas.Bool.{cond-true, cond-false, false≢true, false_from_ne_true}
-use Rattle.std.proofs.lemmas.List.{take_more}
+use Rattle.std.proofs.lemmas.Bool.{cond-true, cond-false, false≢true}
 use Rattle.std.proofs.lemmas.Map.Keys.{IsDistinct-head, IsDistinct-tail}
 use Rattle.std.proofs.lemmas.List.Folds.{list_any-append}
-use Rattle.std.proofs.lemmas.Option.{slice_get_within, get_or_from_slice_get}
 use Rattle.std.proofs.lemmas.Slice.Eq.{bytes_eq-Decides}
+use Rattle.std.proofs.Math.Numerals.{suc-eq-add-one}
 use Rattle.ec_lists.proofs.Filters.{filter-filter, filter-each}
 use Rattle.ec_lists.proofs.Finds.{find-map}
 use Rattle.ec_lists.proofs.Fronts.{drop-slice_get}
 use Rattle.ec_lists.proofs.Options.{None-from_is_some, None-from_option_map}
+use Rattle.ec_lists.proofs.Numbers.{bytes_eq-turned}
 use Rattle.ec_terms.specs.declared.theory.Theory.{Theory}
 use Rattle.ec_axioms.specs.Calculus.{PlainEvent}
 use Rattle.ec_axioms.specs.Changes.{has_id, is_history, with_event, without_event}
@@ -30,10 +30,6 @@ use Rattle.ec_engine.proofs.FoundEvents.{event_with-put, event_with-taken, found
 use Rattle.ec_engine.proofs.WalkSteps.{IsNet-moved}
 
 -- ---- what is touched
-
--- the same identity, told the other way
-bytes_eq-turned : (a b : List ℕ) → bytes_eq a b ≡ false → bytes_eq b a ≡ false
-bytes_eq-turned a b apart = false_from_ne_true (bytes_eq b a) (λ same. false≢true (sym apart ∙ (bytes_eq-Decides a b).1 (sym ((bytes_eq-Decides b a).0 same))))
 
 module _ {N : Type 0} where
   -- no identity stands there twice
@@ -138,10 +134,6 @@ module _ {N : Type 0} where
           let fewer = length-append (event_mentions theory e) (flat_map (event_mentions theory) (untouched touched events)) in
           let all = length-append (event_mentions theory e) (flat_map (event_mentions theory) events) in omega arith
 
-  -- one place further
-  pub take_next : (xs : List (List ℕ × N)) (i : ℕ) (x : List ℕ × N) → slice_get xs i ≡ Some x → take (i + 1) xs ≡ take i xs ++ x ∷ []
-  take_next xs i x there = take_more xs i x (slice_get_within xs i x there) ∙ ap (λ y. take i xs ++ y ∷ []) (get_or_from_slice_get xs i x x there)
-
 -- where no identity is touched
 pub untouched-none : (N : Type 0) (events : List PlainEvent) → untouched {N = N} [] events ≡ events
 untouched-none N events = filter-each events
@@ -190,10 +182,7 @@ put_back_next xs i k n events history apart there =
     ∙ ap (λ es. put_back (event_with k events) es) (sym (untouched-before k n rest events))
     ∙ ap (λ o. put_back o (without_event k (untouched rest events))) (sym (event_with-untouched k rest events ∙ cond-false (is_touched k rest) _ _ (apart_behind xs i k n apart there)))
     ∙ put_back-without k (untouched rest events) (history-untouched rest events history)
-    ∙ ap (λ m. untouched (drop m xs) events) (one_more i)
-  where
-    one_more : (m : ℕ) → suc m ≡ m + 1
-    one_more m = omega arith
+    ∙ ap (λ m. untouched (drop m xs) events) (suc-eq-add-one i)
 
 -- what mentions no more than the whole list is within the limit
 pub few_back : {N : Type 0} (theory : Theory) (xs : List (List ℕ × N)) (i limit : ℕ) (events next : List PlainEvent) → next ≡ untouched (drop (i + 1) xs) events → length (mentions_of theory events) ≤ limit

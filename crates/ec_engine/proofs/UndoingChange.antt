@@ -1,5 +1,5 @@
 -- The lists on the way back from a change.
-use Rattle.std.proofs.Common.{◌≡◌, ◌+◌, ℕ, ℤ, zero, suc, Bool, true, false, not, ◌&&◌, List, [], ◌∷◌, length, map, filter, take, Option, Some, None, All, IsTrue, IsFalse, is_some, refl, sym, ap, subst, ◌∙◌, inl, inr, ⊎_elim, arith}
+use Rattle.std.proofs.Common.{◌≡◌, ◌+◌, ℕ, ℤ, zero, suc, Bool, true, false, not, ◌&&◌, List, [], ◌∷◌, length, map, filter, take, Option, Some, None, All, IsTrue, IsFalse, is_some, refl, sym, ap, subst, ◌∙◌, ⊎_elim, arith}
 use Rattle.std.specs.Prelude.{bytes_eq, find, nat_lt, option_map, slice_get, ◌==◌}
 use Rattle.std.specs.List.{IsDistinct, list_all, list_any}
 use Rattle.std.specs.Map.{keys_of}
@@ -8,9 +8,12 @@ use Rattle.std.proofs.lemmas.Bool.{and_parts, cases_Bool, cond-false, eq-eqb, eq
 use Rattle.std.proofs.lemmas.List.{length-map}
 use Rattle.std.proofs.lemmas.List.Elements.{All-contains}
 use Rattle.std.proofs.lemmas.Slice.Eq.{bytes_eq-Decides}
+use Rattle.std.proofs.Math.Bool.{not-not}
+use Rattle.ec_apply.proofs.MendedRows.{take_next}
 use Rattle.ec_lists.proofs.Integers.{int_lt-same}
 use Rattle.ec_lists.proofs.Numbers.{bytes_eq_comm}
 use Rattle.ec_lists.proofs.Tests.{list_any-map, list_any-same}
+use Rattle.ec_lists.proofs.Places.{slice_get-map_at}
 use Rattle.ec_terms.specs.declared.ids.Slot.{Slot}
 use Rattle.ec_terms.specs.declared.theory.Theory.{Theory}
 use Rattle.ec_terms.specs.Domain.{entries_of}
@@ -18,7 +21,7 @@ use Rattle.ec_axioms.specs.declared.event.Event.{Event}
 use Rattle.ec_axioms.specs.Calculus.{PlainEvent}
 use Rattle.ec_axioms.specs.Changes.{comes_before, events_only_in, has_event, has_id, is_history, kept_events, without_event}
 use Rattle.ec_axioms.specs.Events.{event_of}
-use Rattle.ec_axioms.proofs.Members.{Contains-from_member, IsMember, IsMember-filter, IsMember-from_filter, IsMember-from_map, IsMember-map, IsPairwise, IsPairwise-map, IsPairwise-weaker, filter_agree, find-Some, list_any-false, list_any-member, list_any_agree, member-list_any}
+use Rattle.ec_axioms.proofs.Members.{Contains-from_member, IsMember, IsMember-filter, IsMember-from_filter, IsMember-from_map, IsMember-map, IsPairwise, IsPairwise-map, IsPairwise-weaker, filter_agree, find-Some, list_any-false, list_any-member, list_any_agree, member-list_any, IsMember-slice_get}
 use Rattle.ec_axioms.proofs.OrderedEvents.{is_history-filter}
 use Rattle.ec_changes.proofs.DistinctLists.{IsDistinct-from_pairwise}
 use Rattle.ec_changes.proofs.KeptEvents.{kept_events-both}
@@ -33,13 +36,13 @@ use Rattle.ec_revise.specs.declared.change.Change.{Change}
 use Rattle.ec_revise.specs.declared.change.Removal.{Removal}
 use Rattle.ec_revise.specs.Change.{entries_to_show, has_slot, removal_before}
 use Rattle.ec_rows.specs.Ordered.{is_ascending}
+use Rattle.ec_rows.proofs.OrderedPairs.{IsPairwise-ascending}
 use Rattle.ec_engine.specs.Undo.{is_touched, untouched}
 use Rattle.ec_engine.specs.UndoChange.{IsLedTo, events_by_id, id_in, removals_by_id}
 use Rattle.ec_engine.specs.Walk.{event_with}
 use Rattle.ec_engine.proofs.FoundEvents.{event_with-member, found-has_event}
 use Rattle.ec_engine.proofs.NetChanges.{slot_of-member}
-use Rattle.ec_engine.proofs.SortedLists.{IsPairwise-from_ascending}
-use Rattle.ec_engine.proofs.Undoing.{apart_before, event_with-untouched, history-untouched, take_next, untouched-more}
+use Rattle.ec_engine.proofs.Undoing.{apart_before, event_with-untouched, history-untouched, untouched-more}
 
 -- ---- histories
 
@@ -79,24 +82,12 @@ keys_of-values : {N : Type 0} (f : N → List ℕ) (xs : List N) → keys_of (ma
 keys_of-values f [] = refl
 keys_of-values f (x ∷ xs) = ap (λ ks. f x ∷ ks) (keys_of-values f xs)
 
--- a member at a place, with its key
-pub slice_get-value : {X Y : Type 0} (f : X → Y) (xs : List X) (i : ℕ) (x : X) → slice_get xs i ≡ Some x → slice_get (map f xs) i ≡ Some (f x)
-slice_get-value f [] i x there = cc
-slice_get-value {X} f (y ∷ xs) zero x there = let same : y ≡ x = cc in ap (λ z. Some (f z)) same
-slice_get-value f (y ∷ xs) (suc i) x there = slice_get-value f xs i x there
-
 -- where two lists have the same values, there is a member of the second at each place of the first, with the same value
 same_value_at : {X Y Z : Type 0} (f : X → Z) (g : Y → Z) (xs : List X) (ys : List Y) (i : ℕ) (x : X) → map f xs ≡ map g ys → slice_get xs i ≡ Some x → (y : Y) × (slice_get ys i ≡ Some y) × (f x ≡ g y)
 same_value_at f g [] ys i x same there = cc
 same_value_at f g (a ∷ xs) [] i x same there = cc
 same_value_at {X} {Y} {Z} f g (a ∷ xs) (b ∷ ys) zero x same there = let one : a ≡ x = cc in let value : f a ≡ g b = cc in (b, refl, ap f (sym one) ∙ value)
 same_value_at f g (a ∷ xs) (b ∷ ys) (suc i) x same there = let rest : map f xs ≡ map g ys = cc in same_value_at f g xs ys i x rest there
-
--- what stands at a place is a member
-pub member_at : {X : Type 0} (xs : List X) (i : ℕ) (x : X) → slice_get xs i ≡ Some x → IsMember xs x
-member_at [] i x there = cc
-member_at {X} (y ∷ xs) zero x there = let same : y ≡ x = cc in inl same
-member_at (y ∷ xs) (suc i) x there = inr (member_at xs i x there)
 
 -- ---- removals
 
@@ -153,7 +144,7 @@ module _ {T : Type 0} (rank : T → ℤ) (events : List (Kept T)) (history : IsT
         (IsDistinct-from_pairwise bytes_eq (map (λ (removal : Removal T). id_in events removal.slot) removals)
         (IsPairwise-map (λ a b. IsFalse (bytes_eq a b)) (λ (removal : Removal T). id_in events removal.slot) removals
         (IsPairwise-weaker (λ r s. IsTrue (removal_before rank r s)) (λ r s. IsFalse (bytes_eq (id_in events r.slot) (id_in events s.slot))) removals
-        (IsPairwise-from_ascending (removal_before rank) removals order)
+        (IsPairwise-ascending (removal_before rank) removals order)
         (λ r s left right before. false_from_ne_true (bytes_eq (id_in events r.slot) (id_in events s.slot))
         (λ same. never r s (stored_removal r left) (stored_removal s right) left right ((bytes_eq-Decides (id_in events r.slot) (id_in events s.slot)).0 same) before)))))
       where
@@ -206,10 +197,6 @@ module _ {T : Type 0} (rank : T → ℤ) (events : List (Kept T)) (history : IsT
 ids_of : {T : Type 0} (rank : T → ℤ) (events : List (Event T)) → map (λ (e : Event T). e.id) events ≡ map (λ (e : PlainEvent). e.id) (map (event_of rank) events)
 ids_of rank [] = refl
 ids_of rank (e ∷ events) = ap (λ ids. e.id ∷ ids) (ids_of rank events)
-
-not-not : (b : Bool) → not (not b) ≡ b
-not-not true = refl
-not-not false = refl
 
 module _ {T : Type 0} {rank : T → ℤ} {theory : Theory} {view : View T} {tally : Tally} {change : Change T} {soon : List PlainEvent} (led : IsLedTo rank theory view tally change soon) where
   -- the added events have different identities
@@ -271,8 +258,8 @@ module _ {T : Type 0} {rank : T → ℤ} {theory : Theory} {view : View T} {tall
       let event = at.0 in
       let hist = history_of rank view.store.events in
       let added = events_by_id change.add in
-      let here : slice_get added i ≡ Some (event.id, event) = slice_get-value (λ (e : Event T). (e.id, e)) change.add i event at.1 in
-      let among : IsMember change.add event = member_at change.add i event at.1 in
+      let here : slice_get added i ≡ Some (event.id, event) = slice_get-map_at (λ (e : Event T). (e.id, e)) change.add i event at.1 in
+      let among : IsMember change.add event = IsMember-slice_get change.add i event at.1 in
       let in_soon : IsMember soon (event_of rank event) =
       (IsMember-from_filter (λ e. not (has_event hist e)) soon (event_of rank event) (subst (λ es. IsMember es (event_of rank event)) led.change_is.added (IsMember-map (event_of rank) change.add event among))).0 in
       let found : event_with event.id (untouched (take i added) soon) ≡ Some (event_of rank event) =

@@ -1,9 +1,9 @@
 -- A walk goes on: by an event that comes in, by one that goes out, and where nothing comes of an update.
-use Rattle.std.proofs.Common.{◌≡◌, ◌≤◌, ◌+◌, ℕ, ℤ, Bool, true, false, cond, ◌||◌, List, [], ◌∷◌, ◌++◌, length, Option, Some, None, is_some, IsSome, IfSome, All, IsTrue, IsFalse, refl, sym, ap, ap₂, subst, ◌∙◌, ◌⊎◌, inl, inr, ⊎_elim, arith, length-append}
+use Rattle.std.proofs.Common.{◌≡◌, ◌≤◌, ◌+◌, ℕ, ℤ, Bool, true, false, cond, ◌||◌, List, [], ◌++◌, length, Option, Some, None, is_some, IsSome, IfSome, All, IsTrue, IsFalse, refl, sym, ap, ap₂, subst, ◌∙◌, ◌⊎◌, inl, inr, ⊎_elim, arith, length-append}
 use Rattle.std.specs.Prelude.{bytes_eq, option_map, find, Ok, Err, nat_le, nat_lt, ◌==◌}
 use Rattle.std.specs.List.{list_any}
 use Rattle.std.specs.Option.{option_map_or}
-use Rattle.std.proofs.lemmas.Bool.{cond-true, cond-false, false≢true, eq-eqb}
+use Rattle.std.proofs.lemmas.Bool.{cond-true, cond-false, false≢true, eq-eqb, or_left, or_right, or_cases}
 use Rattle.std.proofs.lemmas.List.Elements.{All-contains}
 use Rattle.std.proofs.lemmas.List.Folds.{list_any-append}
 use Rattle.std.proofs.lemmas.List.Sorted.{length_permutation, list_any-IsPermutation}
@@ -26,9 +26,8 @@ use Rattle.ec_axioms.specs.Events.{event_of}
 use Rattle.ec_axioms.specs.Links.{event_mentions, is_live, link_count, mentions_of, most_events, most_links, most_mentions}
 use Rattle.ec_axioms.proofs.Histories.{is_history-with_event, is_history-without_event}
 use Rattle.ec_axioms.proofs.Members.{Contains-from_member, find-Some, list_any-member, member-list_any}
-use Rattle.ec_changes.specs.LinkLaws.{links_of}
 use Rattle.ec_changes.proofs.EventMentions.{MentionsWithEvent-law, MentionsWithoutEvent-law}
-use Rattle.ec_changes.proofs.LinkSteps.{LinksAreOfMentions-law, LinksInAnyOrder-law, OneMentionMore-law}
+use Rattle.ec_changes.proofs.LinkSteps.{LinksAreOfMentions-law, LinksInAnyOrder-law}
 use Rattle.ec_context.specs.declared.entry.Entry.{Entry}
 use Rattle.ec_context.specs.Entries.{shown_entries}
 use Rattle.ec_entries.specs.declared.event_entries.EventEntries.{EventEntries}
@@ -50,21 +49,11 @@ use Rattle.ec_engine.specs.Limits.{IsWithinLimits}
 use Rattle.ec_engine.specs.Net.{is_present_by, net_in, old_slot_by}
 use Rattle.ec_replies.specs.Runs.{may_want_by}
 use Rattle.ec_replies.specs.Updates.{asserted, retracted, with_few_mentions}
+use Rattle.ec_replies.proofs.Limits.{length-with_event, links_of-append}
 use Rattle.ec_engine.specs.Walk.{AreLiveOrListed, HasWalkedTo, IsNet, IsNetTo, added_event, event_with}
-use Rattle.ec_engine.proofs.FoundEvents.{event_with-put, event_with-taken, found-has_event, found-id, has_id-found, length-with_event, length-without_event}
+use Rattle.ec_engine.proofs.FoundEvents.{event_with-put, event_with-taken, found-has_event, found-id, has_id-found, length-without_event}
 
 -- ---- what is listed
-
--- one of two tests passes
-either : (a b : Bool) → (a || b) ≡ true → (a ≡ true) ⊎ (b ≡ true)
-either true b is = inl refl
-either false b is = inr is
-
-left_of : (a b : Bool) → a ≡ true → (a || b) ≡ true
-left_of a b is = grind arith
-
-right_of : (a b : Bool) → b ≡ true → (a || b) ≡ true
-right_of a b is = grind arith
 
 -- what was live or listed is so in a later table, of another list
 listed-more : (theory : Theory) (events later : List PlainEvent) (before after : List KeptProp) (listed now_listed : ℕ → Bool)
@@ -74,8 +63,8 @@ listed-more : (theory : Theory) (events later : List PlainEvent) (before after :
     → AreLiveOrListed theory events before listed → AreLiveOrListed theory later after now_listed
 listed-more theory events later before after listed now_listed kept lives more were id p is =
     ⊎_elim
-    (λ there. ⊎_elim (λ live. lives id p is live) (λ was. right_of (is_live theory later p) (now_listed id) (more id was)) (either (is_live theory events p) (listed id) (were id p there)))
-    (λ new. right_of (is_live theory later p) (now_listed id) new)
+    (λ there. ⊎_elim (λ live. lives id p is live) (λ was. or_right (is_live theory later p) (now_listed id) (more id was)) (or_cases (is_live theory events p) (listed id) (were id p there)))
+    (λ new. or_right (is_live theory later p) (now_listed id) new)
     (kept id p is)
 
 -- the mentions of an event less
@@ -115,14 +104,6 @@ number_of_term table id p ps one is there =
 
 -- ---- limits
 
--- fewer mentions make no more links
-pub links_of-front : (theory : Theory) (front mentions : List Ground) → links_of theory mentions ≤ links_of theory (front ++ mentions)
-links_of-front theory [] mentions = omega arith
-links_of-front theory (p ∷ front) mentions =
-    let rest = links_of-front theory front mentions in
-    let step = OneMentionMore-law theory p (front ++ mentions) in
-    omega arith
-
 -- a list without an event is within the limits that hold for the list
 IsWithinLimits-without : (theory : Theory) (e : PlainEvent) (events : List PlainEvent) → IsTrue (is_history events) → event_with e.id events ≡ Some e
     → IsWithinLimits theory events → IsWithinLimits theory (without_event e.id events)
@@ -131,7 +112,7 @@ IsWithinLimits-without theory e events history found within =
     let there : IsTrue (has_id e.id events) = has_id-found e.id events ∙ ap is_some found in
     let events_less = length-without_event e.id events history there in
     let mentions_less = length_permutation _ _ moved ∙ length-append (event_mentions theory e) (mentions_of theory (without_event e.id events)) in
-    let links_less = links_of-front theory (event_mentions theory e) (mentions_of theory (without_event e.id events)) in
+    let links_less = links_of-append theory (event_mentions theory e) (mentions_of theory (without_event e.id events)) in
     let links_same = (LinksInAnyOrder-law theory _ _ moved).1 in
     let links_old = LinksAreOfMentions-law theory events in
     let links_new = LinksAreOfMentions-law theory (without_event e.id events) in
@@ -245,11 +226,11 @@ module _ {T : Type 0} {rank : T → ℤ} {theory : Theory} {events : List (Kept 
     few_now = walked.few_now;
     nets = IsNetTo-moved keeps soon (λ id. net_in id walk.nets) (λ id. net_in id more.nets) nets walked.nets;
     count = count ∙ walked.count;
-    fresh = listed-more theory (history_of rank events) (history_of rank events) view.table later.table (λ id. has_number id walk.fresh.items) (λ id. has_number id more.fresh.items) new (λ id p is live. left_of _ (has_number id more.fresh.items) live) fresher walked.fresh;
+    fresh = listed-more theory (history_of rank events) (history_of rank events) view.table later.table (λ id. has_number id walk.fresh.items) (λ id. has_number id more.fresh.items) new (λ id p is live. or_left _ (has_number id more.fresh.items) live) fresher walked.fresh;
     idle = listed-more theory soon soon view.table later.table (λ id. has_number id walk.fresh.items || has_number id walk.dying.items) (λ id. has_number id more.fresh.items || has_number id more.dying.items)
-        (λ id p is. ⊎_elim (λ there. inl there) (λ listed. inr (left_of (has_number id more.fresh.items) (has_number id more.dying.items) listed)) (new id p is))
-        (λ id p is live. left_of _ (has_number id more.fresh.items || has_number id more.dying.items) live)
-        (λ id listed. ⊎_elim (λ l. left_of _ _ (fresher id l)) (λ l. right_of _ _ (deader id l)) (either (has_number id walk.fresh.items) (has_number id walk.dying.items) listed))
+        (λ id p is. ⊎_elim (λ there. inl there) (λ listed. inr (or_left (has_number id more.fresh.items) (has_number id more.dying.items) listed)) (new id p is))
+        (λ id p is live. or_left _ (has_number id more.fresh.items || has_number id more.dying.items) live)
+        (λ id listed. ⊎_elim (λ l. or_left _ _ (fresher id l)) (λ l. or_right _ _ (deader id l)) (or_cases (has_number id walk.fresh.items) (has_number id walk.dying.items) listed))
         walked.idle;
   }
 
@@ -281,11 +262,11 @@ module _ {T : Type 0} {rank : T → ℤ} {theory : Theory} {events : List (Kept 
             (record { old = refl; new = sym (event_with-put e.id e soon absent ∙ cond-true (bytes_eq e.id e.id) _ _ ((bytes_eq-Decides e.id e.id).1 refl)); entries = shown })
             walked.nets;
         count = omega arith;
-        fresh = listed-more theory (history_of rank events) (history_of rank events) view.table later.table (λ id. has_number id walk.fresh.items) (λ id. has_number id more.fresh.items) new (λ id p is live. left_of _ (has_number id more.fresh.items) live) fresher walked.fresh;
+        fresh = listed-more theory (history_of rank events) (history_of rank events) view.table later.table (λ id. has_number id walk.fresh.items) (λ id. has_number id more.fresh.items) new (λ id p is live. or_left _ (has_number id more.fresh.items) live) fresher walked.fresh;
         idle = listed-more theory soon (with_event e soon) view.table later.table (λ id. has_number id walk.fresh.items || has_number id walk.dying.items) (λ id. has_number id more.fresh.items || has_number id more.dying.items)
-            (λ id p is. ⊎_elim (λ there. inl there) (λ listed. inr (left_of (has_number id more.fresh.items) (has_number id more.dying.items) listed)) (new id p is))
-            (λ id p is live. left_of _ (has_number id more.fresh.items || has_number id more.dying.items) (is_live-with theory e soon p live))
-            (λ id listed. ⊎_elim (λ l. left_of _ _ (fresher id l)) (λ l. right_of _ _ (deader id l)) (either (has_number id walk.fresh.items) (has_number id walk.dying.items) listed))
+            (λ id p is. ⊎_elim (λ there. inl there) (λ listed. inr (or_left (has_number id more.fresh.items) (has_number id more.dying.items) listed)) (new id p is))
+            (λ id p is live. or_left _ (has_number id more.fresh.items || has_number id more.dying.items) (is_live-with theory e soon p live))
+            (λ id listed. ⊎_elim (λ l. or_left _ _ (fresher id l)) (λ l. or_right _ _ (deader id l)) (or_cases (has_number id walk.fresh.items) (has_number id walk.dying.items) listed))
             walked.idle;
       }
 
@@ -312,18 +293,18 @@ module _ {T : Type 0} {rank : T → ℤ} {theory : Theory} {events : List (Kept 
             (record { old = refl; new = sym (event_with-taken e.id e.id soon ∙ cond-true (bytes_eq e.id e.id) _ _ ((bytes_eq-Decides e.id e.id).1 refl)); entries = tt })
             walked.nets;
         count = omega arith;
-        fresh = listed-more theory (history_of rank events) (history_of rank events) view.table later.table (λ id. has_number id walk.fresh.items) (λ id. has_number id more.fresh.items) (λ id p is. inl (sym (terms id) ∙ is)) (λ id p is live. left_of _ (has_number id more.fresh.items) live) (λ id listed. ap (has_number id) fresh_same ∙ listed) walked.fresh;
+        fresh = listed-more theory (history_of rank events) (history_of rank events) view.table later.table (λ id. has_number id walk.fresh.items) (λ id. has_number id more.fresh.items) (λ id p is. inl (sym (terms id) ∙ is)) (λ id p is live. or_left _ (has_number id more.fresh.items) live) (λ id listed. ap (has_number id) fresh_same ∙ listed) walked.fresh;
         idle = listed-more theory soon (without_event e.id soon) view.table later.table (λ id. has_number id walk.fresh.items || has_number id walk.dying.items) (λ id. has_number id more.fresh.items || has_number id more.dying.items) (λ id p is. inl (sym (terms id) ∙ is))
             (λ id p is live.
-            ⊎_elim (λ stays_live. left_of _ (has_number id more.fresh.items || has_number id more.dying.items) stays_live)
-            (λ own. right_of (is_live theory (without_event e.id soon) p) _ (right_of (has_number id more.fresh.items) (has_number id more.dying.items)
+            ⊎_elim (λ stays_live. or_left _ (has_number id more.fresh.items || has_number id more.dying.items) stays_live)
+            (λ own. or_right (is_live theory (without_event e.id soon) p) _ (or_right (has_number id more.fresh.items) (has_number id more.dying.items)
             (ap (has_number id) dead ∙ list_any-append (λ (q : PropId). q.0 == id) walk.dying.items (list_props entries)
-            ∙ right_of (has_number id walk.dying.items) (has_number id (list_props entries))
+            ∙ or_right (has_number id walk.dying.items) (has_number id (list_props entries))
             (number_of_term view.table id p (list_props entries) one (sym (terms id) ∙ is) (ap (list_any (term_eq p)) (terms_of-entries view.table entries _ shown) ∙ own)))))
-            (either (is_live theory (without_event e.id soon) p) (list_any (term_eq p) (event_mentions theory e)) (is_live-without theory e soon p walked.history found live)))
-            (λ id listed. ⊎_elim (λ l. left_of _ _ (ap (has_number id) fresh_same ∙ l))
-            (λ l. right_of _ _ (ap (has_number id) dead ∙ list_any-append (λ (q : PropId). q.0 == id) walk.dying.items (list_props entries) ∙ left_of (has_number id walk.dying.items) (has_number id (list_props entries)) l))
-            (either (has_number id walk.fresh.items) (has_number id walk.dying.items) listed))
+            (or_cases (is_live theory (without_event e.id soon) p) (list_any (term_eq p) (event_mentions theory e)) (is_live-without theory e soon p walked.history found live)))
+            (λ id listed. ⊎_elim (λ l. or_left _ _ (ap (has_number id) fresh_same ∙ l))
+            (λ l. or_right _ _ (ap (has_number id) dead ∙ list_any-append (λ (q : PropId). q.0 == id) walk.dying.items (list_props entries) ∙ or_left (has_number id walk.dying.items) (has_number id (list_props entries)) l))
+            (or_cases (has_number id walk.fresh.items) (has_number id walk.dying.items) listed))
             walked.idle;
       }
 

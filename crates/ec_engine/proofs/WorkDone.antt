@@ -11,6 +11,7 @@ use Rattle.std.proofs.lemmas.List.{length-map}
 use Rattle.std.proofs.lemmas.List.Elements.{All-contains}
 use Rattle.std.proofs.lemmas.Map.Made.{length-le_from_is_member}
 use Rattle.ec_lists.proofs.Filters.{filter-each, filter-map}
+use Rattle.ec_rows.proofs.OrderedPairs.{IsPairwise-ascending}
 use Rattle.ec_terms.specs.declared.theory.Theory.{Theory}
 use Rattle.ec_terms.specs.Domain.{entries_of}
 use Rattle.ec_axioms.specs.declared.event.Event.{Event}
@@ -28,7 +29,6 @@ use Rattle.ec_revise.specs.declared.change.Change.{Change}
 use Rattle.ec_revise.specs.declared.change.Removal.{Removal}
 use Rattle.ec_revise.specs.Change.{IsChange, entries_to_show, removal_before}
 use Rattle.ec_engine.specs.Revise.{steps_between}
-use Rattle.ec_sweep.proofs.SameMembers.{IsPairwise-from_ascending}
 use Rattle.ec_sweep.proofs.Singles.{IsRemoved-of}
 
 -- as many entries as the events have, once they are shown
@@ -59,7 +59,7 @@ module _ {T : Type 0} (rank : T → ℤ) (theory : Theory) (table : List KeptPro
       IsDistinct-from_pairwise nat_eq _
       (IsPairwise-map (λ m n. IsFalse (nat_eq m n)) (λ (removal : Removal T). removal.slot.0) change.remove
       (IsPairwise-weaker (λ r s. IsTrue (removal_before rank r s)) (λ r s. IsFalse (nat_eq r.slot.0 s.slot.0)) change.remove
-      (IsPairwise-from_ascending (removal_before rank) change.remove is.order) apart))
+      (IsPairwise-ascending (removal_before rank) change.remove is.order) apart))
     where
       time_of : (removal : Removal T) → IsMember change.remove removal → option_map (λ (event : Event T). event.at) (event_at removal.slot events) ≡ Some removal.at
       time_of removal member =

@@ -5,7 +5,7 @@ use Rattle.std.specs.List.{list_all, cons_option}
 use Rattle.std.specs.Ordering.{int_eq}
 use Rattle.std.proofs.lemmas.Bool.{false≢true, and_parts}
 use Rattle.std.proofs.lemmas.List.{length-append, length-map}
-use Rattle.ec_lists.proofs.Filters.{filter-each, length-filter_le}
+use Rattle.ec_lists.proofs.Filters.{filter-each, length-filter_le, length-filter_map}
 use Rattle.ec_lists.proofs.Integers.{int_lt-same, int_lt-not_after, int_lt-trans}
 use Rattle.ec_terms.specs.declared.ground.Ground.{Ground}
 use Rattle.ec_terms.specs.declared.theory.Theory.{Theory}
@@ -16,6 +16,7 @@ use Rattle.ec_axioms.specs.QueryTexts.{Canon, broken_reply, broken_text, counted
 use Rattle.ec_axioms.specs.Timeline.{Begin, before_all, begin_at, Timeline, begins_of, broken_from, initial_begins, is_start, next_break}
 use Rattle.ec_axioms.proofs.HistoryLaws.{SpansAreTheIntervals-law}
 use Rattle.ec_axioms.proofs.Members.{IsMember, IsMember-from_filter_map, IsMember-from_map, IsPairwise, IsPairwise-map, list_all-member}
+use Rattle.ec_axioms.proofs.MarkLaws.{row_starts-first}
 use Rattle.ec_props.specs.Table.{KeptProp, prop_of, term_at}
 use Rattle.ec_rows.specs.Marks.{IsMarkRow, mark_before}
 use Rattle.ec_rows.specs.Ordered.{is_ascending}
@@ -62,12 +63,6 @@ passes_after-searched (Some c) = record { never = λ x. begins_after-itself x.0;
 abbrev start_if : Bool → ℤ → List ℤ → List ℤ
 start_if true t starts = t ∷ starts
 start_if false t starts = starts
-
-row_starts-first : (strong initial : Bool) (before : Option PlainMark) (m : PlainMark) (ms : List PlainMark)
-    → row_starts strong initial before (m ∷ ms) ≡ cond (mark_starts strong initial before m) (m.instant ∷ row_starts strong initial (Some m) ms) (row_starts strong initial (Some m) ms)
-row_starts-first strong initial before m ms =
-    elim (mark_starts strong initial before m) as (λ b. start_if b m.instant (row_starts strong initial (Some m) ms)
-    ≡ cond b (m.instant ∷ row_starts strong initial (Some m) ms) (row_starts strong initial (Some m) ms)) [ true ↦ refl | false ↦ refl ]
 
 -- what lies behind all of some marks lies behind none of their starts
 starts-behind : (strong initial : Bool) (before : Option PlainMark) (t : ℤ) (ms : List PlainMark) → ((m : PlainMark) → IsMember ms m → int_lt t m.instant ≡ true)
@@ -170,14 +165,6 @@ left_behind-all broken = filter-each broken
 
 -- ---- what a row of marks spells, and what the theory says of the property
 
-filter_map-few : {X Y : Type 0} (h : X → Option Y) (xs : List X) → length (filter_map h xs) ≤ length xs
-filter_map-few h [] = omega arith
-filter_map-few {X} {Y} h (x ∷ xs) = by_value (h x) (filter_map-few h xs)
-  where
-    by_value : (o : Option Y) → length (filter_map h xs) ≤ length xs → length (cons_option o (filter_map h xs)) ≤ length (x ∷ xs)
-    by_value None rest = omega (arith, rest)
-    by_value (Some y) rest = omega (arith, rest)
-
 -- a list of events has no more instants than events
 pub instants_of-few : (events : List PlainEvent) → length (instants_of events) ≤ length events
 unfolding instants_of
@@ -201,7 +188,7 @@ broken_of-few : (theory : Theory) (events : List PlainEvent) (p : Ground) → le
 unfolding broken_of timeline_of timeline_by
 broken_of-few theory events p =
     let line : Timeline = timeline_of theory events p in
-    let first = filter_map-few (λ b. broken_from line b (next_break line b)) (begins_of line) in
+    let first = length-filter_map (λ b. broken_from line b (next_break line b)) (begins_of line) in
     let second = length-append (initial_begins line.initial) (map begin_at (filter (is_start line) line.instants)) in
     let third = length-map (filter (is_start line) line.instants) begin_at in
     let fourth = length-filter_le (is_start line) line.instants in

@@ -5,15 +5,14 @@ use Rattle.std.specs.Ordering.{int_eq}
 use Rattle.std.proofs.lemmas.Bool.{false≢true}
 use Rattle.ec_lists.proofs.Filters.{filter-each}
 use Rattle.ec_lists.proofs.Integers.{int_eq-is, int_lt-same, int_lt-not_after, int_lt-trans}
-use Rattle.ec_axioms.proofs.Members.{IsMember, IsMember-filter, IsMember-from_contains, IsMember-from_filter, IsMember-map, Contains-from_member, filter_none, find-Some, find-None, list_any-member}
+use Rattle.ec_axioms.proofs.Members.{IsMember, IsMember-filter, IsMember-from_contains, IsMember-from_filter, IsMember-map, Contains-from_member, filter_none, find-Some, find-None, list_any-member, length-filter_fewer}
 use Rattle.ec_changes.proofs.JoinedMembers.{IsMember-flat_map}
 use Rattle.ec_rows.specs.declared.mark.Mark.{Mark}
+use Rattle.ec_rows.proofs.OrderedPairs.{IsPairwise-ascending}
 use Rattle.ec_points.specs.Table.{PointRow, PointTable, marks_in}
 use Rattle.ec_points.specs.Clashes.{clashes_at, clashes_in, is_behind, is_some_clash, some_clash_at}
 use Rattle.ec_query.specs.Marked.{AreClashTimes}
-use Rattle.ec_query.proofs.ClashTimes.{IsPairwise-of_ascending}
 use Rattle.ec_query.proofs.NextOfOrder.{IsSearchedBy, filter-next}
-use Rattle.ec_query.proofs.StretchLemmas.{length-filter_less}
 
 -- the times that are left behind one
 abbrev pub left_behind : {T : Type 0} → (T → ℤ) → Option T → List ℤ → List ℤ
@@ -42,7 +41,7 @@ module _ {T : Type 0} (rank : T → ℤ) (points : PointTable T) (times : List �
       by_found (Some x) some =
           let found = find-Some (is_behind rank after) times x some in
           let clash = are.clashing x (Contains-from_member times x found.0) in
-          let rest = filter-next int_lt (is_behind rank after) (is_behind-searched rank after) times (IsPairwise-of_ascending times are.ascending) x some in
+          let rest = filter-next int_lt (is_behind rank after) (is_behind-searched rank after) times (IsPairwise-ascending int_lt times are.ascending) x some in
           let listed : IsMember (x ∷ filter (int_lt x) times) (rank at) = subst (λ (ts : List ℤ). IsMember ts (rank at)) rest (IsMember-filter (is_behind rank after) times (rank at) there next.behind) in
           ⊎_elim
           (λ same. ap Some same)
@@ -51,7 +50,7 @@ module _ {T : Type 0} (rank : T → ℤ) (points : PointTable T) (times : List �
 
   pub left_behind-next : (at : T) → IsNextClash rank points after at → left_behind rank after times ≡ rank at ∷ left_behind rank (Some at) times
   left_behind-next at next =
-      filter-next int_lt (is_behind rank after) (is_behind-searched rank after) times (IsPairwise-of_ascending times are.ascending) (rank at) (find-next at next)
+      filter-next int_lt (is_behind rank after) (is_behind-searched rank after) times (IsPairwise-ascending int_lt times are.ascending) (rank at) (find-next at next)
 
   pub left_behind-none : ((n : ℕ) (t : ℤ) → is_behind rank after t ≡ true → clashes_at rank n t points ≡ false) → left_behind rank after times ≡ []
   left_behind-none none =
@@ -90,6 +89,6 @@ clash-marked {T} rank points t some =
 pub fewer_behind : {T : Type 0} (rank : T → ℤ) (points : PointTable T) (after : Option T) (at : T) → some_clash_at rank (rank at) points ≡ true → is_behind rank after (rank at) ≡ true
     → length (left_behind rank (Some at) (mark_times rank points)) < length (left_behind rank after (mark_times rank points))
 fewer_behind rank points after at some behind =
-    length-filter_less (is_behind rank after) (is_behind rank (Some at)) (mark_times rank points) (rank at)
+    length-filter_fewer (is_behind rank after) (is_behind rank (Some at)) (mark_times rank points) (rank at)
     (λ t later. (is_behind-searched rank after).upward (rank at) t behind later)
     (clash-marked rank points (rank at) some) behind (int_lt-same (rank at))

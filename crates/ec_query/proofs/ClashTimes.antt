@@ -14,7 +14,7 @@ use Rattle.ec_terms.proofs.OrderLemmas.{term_eq-Decides}
 use Rattle.ec_axioms.specs.Calculus.{PlainEvent, Effect, clashes_of, effects_at, instants_of, is_active, is_clash, is_clashing, is_current, is_initiating}
 use Rattle.ec_axioms.specs.Marks.{PlainMark, is_marked, mark_at, marks_of}
 use Rattle.ec_axioms.proofs.HistoryMarks.{instant-mark_at}
-use Rattle.ec_axioms.proofs.Members.{IsPairwise, Contains-from_member, IsMember-from_contains, list_all-member, list_all-from_members, IsMember, IsMember-filter, IsMember-from_filter, IsMember-from_map, IsMember-map, length_member, list_any-member, member-list_any, member_length, find-Some, find-None}
+use Rattle.ec_axioms.proofs.Members.{IsPairwise, Contains-from_member, IsMember-from_contains, list_all-from_members, IsMember, IsMember-filter, IsMember-from_filter, IsMember-from_map, IsMember-map, length_member, list_any-member, member-list_any, member_length, find-Some, find-None}
 use Rattle.ec_axioms.specs.Links.{is_live}
 use Rattle.ec_axioms.specs.QueryTexts.{Canon, clashes_reply, counted_text}
 use Rattle.ec_axioms.proofs.Instants.{IsPairwise-from_ascending, is_ascending-filter, is_ascending-instants_of}
@@ -22,6 +22,7 @@ use Rattle.std.specs.Prelude.{◌≤◌, ◌^◌, ◌-◌}
 use Rattle.std.proofs.lemmas.List.Elements.{All-head, All-tail}
 use Rattle.ec_changes.specs.Differences.{entries_at}
 use Rattle.ec_changes.proofs.LiveMarks.{NotLiveIsUnknown-law}
+use Rattle.ec_changes.proofs.Past.{IsMember-marks_of}
 use Rattle.ec_props.specs.Table.{KeptProp, prop_at, term_at}
 use Rattle.ec_rows.specs.Ordered.{is_ascending}
 use Rattle.ec_rows.specs.PlainMarks.{plain_mark, plain_marks}
@@ -115,13 +116,6 @@ marks_of-member theory events p m t member at =
 both-marked : (m : PlainMark) → IsTrue (both_there m) → IsTrue (is_marked m)
 both-marked m both = grind arith
 
--- a mark with a count at an instant is among them
-member-marks_of : (theory : Theory) (events : List PlainEvent) (p : Ground) (t : ℤ) → IsMember (instants_of events) t → IsTrue (is_marked (mark_at theory events p t))
-    → IsMember (marks_of theory events p) (mark_at theory events p t)
-unfolding marks_of
-member-marks_of theory events p t member marked =
-    IsMember-filter is_marked (map (mark_at theory events p) (instants_of events)) (mark_at theory events p t) (IsMember-map (mark_at theory events p) (instants_of events) t member) marked
-
 -- an instant is among the clashes exactly where there is one
 clashes_of-member : (theory : Theory) (events : List PlainEvent) (t : ℤ) → IsMember (clashes_of theory events) t → IsMember (instants_of events) t × IsTrue (is_clash theory events t)
 unfolding clashes_of
@@ -152,13 +146,6 @@ is_ascending-from_instants : (ts : List ℤ) → IsPairwise (λ s t. IsTrue (int
 unfolding is_ascending
 is_ascending-from_instants [] pairs = refl
 is_ascending-from_instants (t ∷ ts) pairs = and_from (list_all (int_lt t) ts) (is_ascending int_lt ts) (list_all-from_members (int_lt t) ts pairs.0) (is_ascending-from_instants ts pairs.1)
-
-pub IsPairwise-of_ascending : (ts : List ℤ) → IsTrue (is_ascending int_lt ts) → IsPairwise (λ s t. int_lt s t ≡ true) ts
-unfolding is_ascending
-IsPairwise-of_ascending [] ascending = tt
-IsPairwise-of_ascending (t ∷ ts) ascending =
-    let parts = and_parts (list_all (int_lt t) ts) (is_ascending int_lt ts) ascending in
-    (λ u member. list_all-member (int_lt t) ts u parts.0 member, IsPairwise-of_ascending ts parts.1)
 
 module _ {T : Type 0} (rank : T → ℤ) (theory : Theory) (events : List PlainEvent) (table : List KeptProp) (points : PointTable T) (marked : AreMarkedOf rank theory events table points)
     (numbers : All (λ kept. prop_at kept.id table ≡ Some kept) table) where
@@ -193,7 +180,7 @@ module _ {T : Type 0} (rank : T → ℤ) (theory : Theory) (events : List PlainE
       let marks = marks_at number.0 points in
       let same = marked.marks_of.marks number.0 p number.1 in
       let listed : IsMember (plain_marks rank marks) (mark_at theory events p t) =
-      subst (λ (ms : List PlainMark). IsMember ms (mark_at theory events p t)) (sym same) (member-marks_of theory events p t there.0 (both-marked (mark_at theory events p t) found.1)) in
+      subst (λ (ms : List PlainMark). IsMember ms (mark_at theory events p t)) (sym same) (IsMember-marks_of theory events p t (both-marked (mark_at theory events p t) found.1)) in
       let mark = IsMember-from_map (plain_mark rank) marks (mark_at theory events p t) listed in
       let here : int_eq (rank mark.0.at) t ≡ true = ap (λ (m : PlainMark). int_eq m.instant t) mark.2 ∙ ap (λ s. int_eq s t) (instant-mark_at theory events p t) ∙ int_eq-same t in
       (number.0, by_found p marks same found.1 mark.0 mark.1 here (find (λ (m : Mark T). int_eq (rank m.at) t) marks) refl)

@@ -1,6 +1,7 @@
 -- The events of a store, as a walk over them meets them.
-use Rattle.std.proofs.Common.{◌≡◌, ℕ, ◌+◌, ◌<◌, ◌≤◌, ℤ, zero, suc, List, [], ◌∷◌, length, map, Option, Some, None, option_map, refl, sym, ap, ◌∙◌, arith}
+use Rattle.std.proofs.Common.{◌≡◌, ℕ, ◌+◌, ◌<◌, ◌≤◌, ℤ, List, length, map, Option, Some, None, option_map, refl, sym, ap, ◌∙◌}
 use Rattle.ec_lists.proofs.Options.{None-from_option_map}
+use Rattle.ec_lists.proofs.Places.{slice_get-none}
 use Rattle.std.specs.Prelude.{slice_get}
 use Rattle.std.proofs.lemmas.Option.{slice_get_within}
 use Rattle.ec_terms.specs.declared.ids.Slot.{Slot}
@@ -8,12 +9,6 @@ use Rattle.ec_axioms.specs.declared.event.Event.{Event}
 use Rattle.ec_axioms.specs.Calculus.{PlainEvent}
 use Rattle.ec_axioms.specs.QueryTexts.{Canon, counted_text, event_text, events_reply}
 use Rattle.ec_events.specs.Store.{Kept, history_of}
-
--- nothing follows the last event
-pub slice_get-none : {X : Type 0} (xs : List X) (i : ℕ) → slice_get xs i ≡ None → length xs ≤ i
-slice_get-none [] i none = omega arith
-slice_get-none (x ∷ xs) zero none = let no = none in absurd (cc)
-slice_get-none (x ∷ xs) (suc i) none = let rest = slice_get-none xs i none in omega (arith, rest)
 
 -- what the next event is, and where the walk goes on behind it
 pub record IsNext {T : Type 0} (events : List (Kept T)) (i : ℕ) (event : Event T) (next : ℕ) : Type 0 where

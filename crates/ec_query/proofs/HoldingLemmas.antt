@@ -1,11 +1,10 @@
 -- Which kept properties hold at a time: the members of a list one after the other, and all of them in term order.
-use Rattle.std.proofs.Common.{◌≡◌, ℕ, ℤ, ◌+◌, ◌<◌, get_or, suc, Bool, true, false, List, [], ◌∷◌, ◌++◌, length, take, drop, map, filter, find, Option, Some, None, option_map, IsTrue, IsSome, All, refl, sym, ap, ap₂, subst, ◌∙◌, inl, inr, take-append-drop, arith}
+use Rattle.std.proofs.Common.{◌≡◌, ℕ, ℤ, ◌+◌, suc, Bool, true, false, List, [], ◌∷◌, ◌++◌, length, take, drop, map, filter, find, Option, Some, None, option_map, IsTrue, IsSome, All, refl, sym, ap, ap₂, subst, ◌∙◌, inl, inr, take-append-drop, arith}
 use Rattle.std.specs.Option.{option_map_or}
 use Rattle.std.specs.Prelude.{slice_get, decimal}
 use Rattle.std.specs.List.{list_all}
 use Rattle.std.proofs.lemmas.Bool.{false≢true, and_parts}
-use Rattle.std.proofs.lemmas.List.{length-map, drop-drop, get_or_default}
-use Rattle.std.proofs.lemmas.Option.{slice_get_read}
+use Rattle.std.proofs.lemmas.List.{length-map, drop-drop}
 use Rattle.std.proofs.lemmas.List.Elements.{All-filter, All-head, All-map, All-tail, filter-append}
 use Rattle.ec_lists.proofs.Filters.{filter-map}
 use Rattle.ec_lists.proofs.Fronts.{drop-slice_get}
@@ -35,10 +34,6 @@ use Rattle.ec_query.proofs.HeldLemmas.{holds_at-kept, holds_at-unkept}
 use Rattle.ec_query.proofs.WritingLemmas.{counted_text-map}
 
 -- ---- one after the other
-
--- what a walk reads at a place stands there
-pub slice_get-item : {X : Type 0} (xs : List X) (i : ℕ) (d : X) → i < length xs → slice_get xs i ≡ Some (get_or xs i d)
-slice_get-item xs i d within = slice_get_read xs (length xs) i (get_or xs i d) refl within (get_or_default xs i d (get_or xs i d) within)
 
 -- the member at a place and those behind it, as far as they pass
 pub filter-next_place : {X : Type 0} (p : X → Bool) (xs : List X) (i : ℕ) (x : X) → slice_get xs i ≡ Some x

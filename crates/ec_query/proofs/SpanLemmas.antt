@@ -1,14 +1,13 @@
 -- Spans as intervals: which of them covers a time, and which begins at one.
-use Rattle.std.proofs.Common.{◌≡◌, ℕ, zero, suc, ℤ, Bool, true, false, cond, ◌&&◌, ◌||◌, List, [], ◌∷◌, ◌++◌, map, length, Option, Some, None, IsTrue, Contains, refl, sym, ap, ap₂, subst, ◌∙◌, inl, inr, arith}
+use Rattle.std.proofs.Common.{◌≡◌, ℕ, zero, suc, ℤ, Bool, true, false, cond, ◌&&◌, ◌||◌, List, [], ◌∷◌, ◌++◌, map, length, Option, Some, None, IsTrue, Contains, refl, sym, ap, ap₂, subst, ◌∙◌, inl, arith}
 use Rattle.std.specs.Prelude.{int_lt, int_le, slice_get, IfSome, IfNone}
 use Rattle.std.specs.List.{list_any, list_all, HoldsAt}
 use Rattle.std.specs.Ordering.{int_cmp, int_eq, is_le}
 use Rattle.std.proofs.lemmas.Bool.{false≢true}
-use Rattle.std.proofs.lemmas.List.{map-append}
 use Rattle.std.proofs.lemmas.List.Folds.{list_any-append}
 use Rattle.std.proofs.lemmas.Option.{get_or_from_slice_get}
 use Rattle.ec_axioms.specs.Timeline.{Interval, before_all, begins_at, covers, has_begin, is_held_at, is_within_end}
-use Rattle.ec_axioms.proofs.Members.{IsMember, list_all-member, Contains-from_member, IsMember-from_contains, IsMember-map, IsMember-append_right}
+use Rattle.ec_axioms.proofs.Members.{IsMember, list_all-member, Contains-from_member, IsMember-from_contains, IsMember-map, IsMember-append_right, IsMember-slice_get}
 use Rattle.ec_rows.specs.Spans.{IsSpanRow, is_covering, is_proper, reaches, ends_after, spans_before}
 use Rattle.ec_rows.specs.Ordered.{is_ascending, by_time}
 use Rattle.ec_rows.specs.declared.span.End.{End}
@@ -16,16 +15,11 @@ use Rattle.ec_rows.specs.declared.span.End.TheVariants.{At, Unended}
 use Rattle.ec_rows.specs.declared.span.Span.{Span}
 use Rattle.ec_rows.proofs.OrderedLemmas.{and-left, and-right, ascending-first, ascending-rest}
 use Rattle.ec_intervals.specs.Table.{front_members, span_interval, plain_end, plain_interval, plain_intervals, plain_spans}
-use Rattle.ec_lists.proofs.Integers.{int_lt-not_after, int_lt-behind, int_eq-same}
+use Rattle.ec_intervals.proofs.Spliced.{plain-members}
+use Rattle.ec_lists.proofs.Integers.{int_lt-not_after, int_lt-behind, int_eq-same, int_eq-from_gt, int_eq-from_lt}
 use Rattle.ec_lists.proofs.Tests.{list_all-weaker}
 use Rattle.std.proofs.lemmas.Int.{ints}
 use Rattle.ec_query.specs.Stretches.{IsEndOver, IsEndFrom}
-
--- what stands at a place is a member
-member-at : {X : Type 0} (xs : List X) (i : ℕ) (x : X) → slice_get xs i ≡ Some x → IsMember xs x
-member-at [] i x is = let no = is in absurd (cc)
-member-at (y ∷ xs) zero x is = let same = is in inl (cc)
-member-at (y ∷ xs) (suc i) x is = inr (member-at xs i x is)
 
 -- what is said of a value, by what is said of it otherwise
 pub IfSome-weaker : {X : Type 0} (o : Option X) (P Q : X → Type 0) → ((x : X) → P x → Q x) → IfSome o P → IfSome o Q
@@ -41,12 +35,6 @@ pub slice_get-end : {X : Type 0} (xs : List X) (i : ℕ) → i ≡ length xs →
 slice_get-end [] i end = refl
 slice_get-end (x ∷ xs) zero end = absurd (omega arith)
 slice_get-end (x ∷ xs) (suc i) end = slice_get-end xs i (omega arith)
-
-apart-behind : (s t : ℤ) → int_lt t s ≡ true → int_eq s t ≡ false
-apart-behind s t = grind (arith, ints)
-
-apart-before : (s t : ℤ) → int_lt s t ≡ true → int_eq s t ≡ false
-apart-before s t = grind (arith, ints)
 
 module _ {T : Type 0} (rank : T → ℤ) where
   -- a span as an interval with its times as whole numbers
@@ -72,7 +60,7 @@ module _ {T : Type 0} (rank : T → ℤ) where
       → IsEndOver (plain_spans rank spans) t (plain_end rank span.end)
   over-span spans i span t is covering = record {
     interval = plain span;
-    member = Contains-from_member (plain_spans rank spans) (plain span) (member-span spans span (member-at spans i span is));
+    member = Contains-from_member (plain_spans rank spans) (plain span) (member-span spans span (IsMember-slice_get spans i span is));
     covering = covers-span span t ∙ subst (λ s. is_covering rank t s ≡ true) (get_or_from_slice_get spans i span span is) (covering span);
     until = refl;
   }
@@ -82,17 +70,13 @@ module _ {T : Type 0} (rank : T → ℤ) where
 
   -- ---- the front and the spans
 
-  parts-of : (front : Option (End T)) (spans : List (Span T))
-      → plain_intervals rank (front_members front ++ map span_interval spans) ≡ plain_intervals rank (front_members front) ++ plain_spans rank spans
-  parts-of front spans = map-append (plain_interval rank) (front_members front) (map span_interval spans)
-
   -- an end of one of the spans is one of all
   pub over-later : (front : Option (End T)) (spans : List (Span T)) (t : ℤ) (end : Option ℤ) → IsEndOver (plain_spans rank spans) t end
       → IsEndOver (plain_intervals rank (front_members front ++ map span_interval spans)) t end
   over-later front spans t end over = record {
     interval = over.interval;
     member =
-        subst (λ (all : List Interval). Contains all over.interval) (sym (parts-of front spans))
+        subst (λ (all : List Interval). Contains all over.interval) (sym (plain-members rank front spans))
         (Contains-from_member (plain_intervals rank (front_members front) ++ plain_spans rank spans) over.interval
         (IsMember-append_right (plain_intervals rank (front_members front)) (plain_spans rank spans) over.interval
         (IsMember-from_contains (plain_spans rank spans) over.interval over.member)));
@@ -118,7 +102,7 @@ module _ {T : Type 0} (rank : T → ℤ) where
   pub held-parts : (front : Option (End T)) (spans : List (Span T)) (t : ℤ) → is_held_at (plain_intervals rank (front_members front)) t ≡ false
       → is_held_at (plain_spans rank spans) t ≡ false → is_held_at (plain_intervals rank (front_members front ++ map span_interval spans)) t ≡ false
   held-parts front spans t first rest =
-      ap (list_any (covers t)) (parts-of front spans)
+      ap (list_any (covers t)) (plain-members rank front spans)
       ∙ list_any-append (covers t) (plain_intervals rank (front_members front)) (plain_spans rank spans)
       ∙ ap₂ (λ a b. a || b) first rest
 
@@ -132,7 +116,7 @@ module _ {T : Type 0} (rank : T → ℤ) where
   pub has_begin-parts : (front : Option (End T)) (spans : List (Span T)) (t : ℤ)
       → has_begin (plain_intervals rank (front_members front ++ map span_interval spans)) t ≡ list_any (λ (s : Span T). int_eq (rank s.from) t) spans
   has_begin-parts front spans t =
-      ap (list_any (λ interval. begins_at t interval.from)) (parts-of front spans)
+      ap (list_any (λ interval. begins_at t interval.from)) (plain-members rank front spans)
       ∙ list_any-append (λ interval. begins_at t interval.from) (plain_intervals rank (front_members front)) (plain_spans rank spans)
       ∙ ap₂ (λ a b. a || b) (no_begin-front front t) (each spans)
     where
@@ -149,7 +133,7 @@ module _ {T : Type 0} (rank : T → ℤ) where
 
   none_at : (spans : List (Span T)) (t : ℤ) → list_all (λ (s : Span T). int_lt t (rank s.from)) spans ≡ true → list_any (λ (s : Span T). int_eq (rank s.from) t) spans ≡ false
   none_at [] t all = refl
-  none_at (s ∷ spans) t all = ap₂ (λ a b. a || b) (apart-behind (rank s.from) t (and-left _ _ all)) (none_at spans t (and-right _ _ all))
+  none_at (s ∷ spans) t all = ap₂ (λ a b. a || b) (int_eq-from_gt (rank s.from) t (and-left _ _ all)) (none_at spans t (and-right _ _ all))
 
   none_before : (spans : List (Span T)) (t : ℤ) → list_all (λ (s : Span T). int_lt t (rank s.from)) spans ≡ true → spans_before rank t spans ≡ []
   none_before [] t all = refl
@@ -166,7 +150,7 @@ module _ {T : Type 0} (rank : T → ℤ) where
       by_case : (b : Bool) → int_lt (rank s.from) t ≡ b → IfSome (slice_get (s ∷ spans) (length (cond b (s ∷ spans_before rank t spans) (spans_before rank t spans)))) (λ span. int_eq (rank span.from) t ≡ false)
           → (IfSome (slice_get spans (length (spans_before rank t spans))) (λ span. int_eq (rank span.from) t ≡ false) → list_any (λ (s : Span T). int_eq (rank s.from) t) spans ≡ false)
           → list_any (λ (s : Span T). int_eq (rank s.from) t) (s ∷ spans) ≡ false
-      by_case true before apart rest = ap₂ (λ a b. a || b) (apart-before (rank s.from) t before) (rest apart)
+      by_case true before apart rest = ap₂ (λ a b. a || b) (int_eq-from_lt (rank s.from) t before) (rest apart)
       by_case false not_before apart rest =
           let later = all_behind s spans t ascending not_before in
           let here : int_eq (rank s.from) t ≡ false = subst (λ (ss : List (Span T)). IfSome (slice_get (s ∷ spans) (length ss)) (λ span. int_eq (rank span.from) t ≡ false)) (none_before spans t later) apart in
@@ -176,10 +160,10 @@ module _ {T : Type 0} (rank : T → ℤ) where
   pub from-span : (front : Option (End T)) (spans : List (Span T)) (i : ℕ) (span : Span T) (t : ℤ) → IsSpanRow rank spans → slice_get spans i ≡ Some span → rank span.from ≡ t
       → IsEndFrom (plain_intervals rank (front_members front ++ map span_interval spans)) t (plain_end rank span.end)
   from-span front spans i span t row is starts =
-      let member = member-at spans i span is in record {
+      let member = IsMember-slice_get spans i span is in record {
         interval = plain span;
         member =
-            subst (λ (all : List Interval). Contains all (plain span)) (sym (parts-of front spans))
+            subst (λ (all : List Interval). Contains all (plain span)) (sym (plain-members rank front spans))
             (Contains-from_member (plain_intervals rank (front_members front) ++ plain_spans rank spans) (plain span)
             (IsMember-append_right (plain_intervals rank (front_members front)) (plain_spans rank spans) (plain span) (member-span spans span member)));
         begins = subst (λ u. int_eq (rank span.from) u ≡ true) starts (int_eq-same (rank span.from));

@@ -1,5 +1,5 @@
 -- How far a property holds from a time on: intervals that follow one another without a gap.
-use Rattle.std.proofs.Common.{◌≡◌, ℕ, ◌<◌, ℤ, Bool, true, false, cond, not, ◌&&◌, List, [], ◌∷◌, length, filter, Option, Some, None, IsTrue, refl, sym, ap, subst, ◌∙◌, inl, inr, ⊎_elim, arith}
+use Rattle.std.proofs.Common.{◌≡◌, ℕ, ◌<◌, ℤ, true, false, not, ◌&&◌, List, length, filter, Option, Some, None, IsTrue, refl, sym, ap, subst, ◌∙◌, ⊎_elim, arith}
 use Rattle.std.specs.Prelude.{◌≤ℤ◌, int_lt, int_le}
 use Rattle.std.specs.List.{list_all}
 use Rattle.std.proofs.lemmas.Bool.{cases_Bool, false≢true, false_from_ne_true, and_parts, and_from, cond-true}
@@ -10,12 +10,12 @@ use Rattle.ec_axioms.specs.Calculus.{PlainEvent, intervals_of, holds_at, holds_t
 use Rattle.ec_axioms.specs.Changes.{is_history}
 use Rattle.ec_axioms.specs.Timeline.{Begin, before_all, begin_at, Interval, begins_at, covers, has_begin, is_after, is_followed, is_held_at, is_held_through, is_within_end}
 use Rattle.ec_axioms.proofs.HistoryLaws.{ThroughIsEachInstant-law}
-use Rattle.ec_axioms.proofs.Members.{IsMember, IsMember-from_contains, list_all-member, member-list_any}
+use Rattle.ec_axioms.proofs.Members.{IsMember, IsMember-from_contains, list_all-member, member-list_any, length-filter_fewer}
+use Rattle.ec_axioms.proofs.HoldingLaws.{is_after-from}
 use Rattle.ec_rows.specs.declared.span.End.{End}
 use Rattle.ec_rows.specs.declared.span.End.TheVariants.{At, Unended}
 use Rattle.ec_intervals.specs.Table.{plain_end}
 use Rattle.ec_intervals.specs.Steps.{begins_from}
-use Rattle.ec_lists.proofs.Filters.{length-filter_wider}
 use Rattle.ec_lists.proofs.Integers.{int_eq-is, int_le-is, int_le-from, int_le-same, int_lt-not_le, int_le-not_before, int_lt_le-trans, int_le_lt-trans, int_le-from_lt}
 use Rattle.ec_query.specs.Stretches.{IsEndOver, IsEndFrom}
 
@@ -25,27 +25,6 @@ use Rattle.ec_query.specs.Stretches.{IsEndOver, IsEndFrom}
 abbrev pub left_from : List Interval → Option ℤ → ℕ
 left_from intervals None = 0
 left_from intervals (Some x) = length (filter (λ interval. begins_from x interval.from) intervals)
-
--- a narrower test that a member fails lets fewer pass
-pub length-filter_less : {X : Type 0} (p q : X → Bool) (xs : List X) (x : X) → ((y : X) → q y ≡ true → p y ≡ true) → IsMember xs x → p x ≡ true → q x ≡ false
-    → length (filter q xs) < length (filter p xs)
-length-filter_less p q [] x wider member passes fails = absurd member
-length-filter_less {X} p q (y ∷ xs) x wider (inl same) passes fails =
-    let rest = length-filter_wider q p wider xs in
-    let first : p y ≡ true = ap p same ∙ passes in
-    let second : q y ≡ false = ap q same ∙ fails in
-    let P : Bool → Bool → Type 0 = λ a b. length (cond b (y ∷ filter q xs) (filter q xs)) < length (cond a (y ∷ filter p xs) (filter p xs)) in
-    subst (λ a. P a (q y)) (sym first) (subst (λ b. P true b) (sym second) (omega (arith, rest)))
-length-filter_less {X} p q (y ∷ xs) x wider (inr later) passes fails =
-    let rest = length-filter_less p q xs x wider later passes fails in
-    by_cases (p y) (q y) (wider y) rest
-  where
-    by_cases : (a b : Bool) → (b ≡ true → a ≡ true) → length (filter q xs) < length (filter p xs)
-        → length (cond b (y ∷ filter q xs) (filter q xs)) < length (cond a (y ∷ filter p xs) (filter p xs))
-    by_cases true true up rest = omega (arith, rest)
-    by_cases true false up rest = omega (arith, rest)
-    by_cases false false up rest = rest
-    by_cases false true up rest = absurd (false≢true (up refl))
 
 -- a begin at x is one from x on, and none from behind x on
 begins_from-at : (x : ℤ) (begin : Begin) → begins_at x begin ≡ true → begins_from x begin ≡ true
@@ -63,10 +42,10 @@ begins_from-earlier x y (begin_at s) before from = int_le-from_lt x s (int_lt_le
 -- fewer are left behind an interval that begins there
 pub left_from-less : (intervals : List Interval) (x : ℤ) (end : Option ℤ) → IsEndFrom intervals x end → left_from intervals end < left_from intervals (Some x)
 left_from-less intervals x None next =
-    let fewer = length-filter_less (λ (i : Interval). begins_from x i.from) (λ (i : Interval). false) intervals next.interval (λ i never. absurd (false≢true never))
+    let fewer = length-filter_fewer (λ (i : Interval). begins_from x i.from) (λ (i : Interval). false) intervals next.interval (λ i never. absurd (false≢true never))
     (IsMember-from_contains intervals next.interval next.member) (begins_from-at x next.interval.from next.begins) refl in omega (arith, fewer)
 left_from-less intervals x (Some y) next =
-    length-filter_less (λ (i : Interval). begins_from x i.from) (λ (i : Interval). begins_from y i.from) intervals next.interval
+    length-filter_fewer (λ (i : Interval). begins_from x i.from) (λ (i : Interval). begins_from y i.from) intervals next.interval
     (λ i from. begins_from-earlier x y i.from (next.after y refl) from)
     (IsMember-from_contains intervals next.interval next.member) (begins_from-at x next.interval.from next.begins)
     (not_begins_from x y next.interval.from (next.after y refl) next.begins)
@@ -77,10 +56,6 @@ left_from-less intervals x (Some y) next =
 pub record Reaches (intervals : List Interval) (a b : ℤ) (end : Option ℤ) : Type 0 where
   pub held : (t : ℤ) → a ≤ℤ t → t ≤ℤ b → is_within_end end t ≡ true → is_held_at intervals t ≡ true
   pub ended : (x : ℤ) → end ≡ Some x → (int_le a x ≡ true) × ((interval : Interval) × IsMember intervals interval × (interval.until ≡ Some x))
-
-is_after-later : (begin : Begin) (a t : ℤ) → is_after begin a ≡ true → int_le a t ≡ true → is_after begin t ≡ true
-is_after-later before_all a t after later = refl
-is_after-later (begin_at s) a t after later = int_lt_le-trans s a t after later
 
 is_after-begin : (begin : Begin) (x t : ℤ) → begins_at x begin ≡ true → int_lt x t ≡ true → is_after begin t ≡ true
 is_after-begin before_all x t at later = refl
@@ -96,7 +71,7 @@ Reaches-start intervals a b end over =
     let parts = and_parts (is_after over.interval.from a) (is_within_end over.interval.until a) over.covering in
     let member = IsMember-from_contains intervals over.interval over.member in
     record {
-      held = λ t from to within. held-by intervals over.interval t member (is_after-later over.interval.from a t parts.0 (int_le-from a t from)) (ap (λ e. is_within_end e t) over.until ∙ within);
+      held = λ t from to within. held-by intervals over.interval t member (is_after-from over.interval.from a t parts.0 (int_le-from a t from)) (ap (λ e. is_within_end e t) over.until ∙ within);
       ended = λ x is. (sym (ap (λ e. is_within_end e a) (over.until ∙ is)) ∙ parts.1, (over.interval, member, over.until ∙ is));
     }
 

@@ -5,7 +5,7 @@ use Rattle.std.specs.List.{list_all}
 use Rattle.std.specs.Ordering.{int_eq}
 use Rattle.std.proofs.lemmas.Bool.{and_parts}
 use Rattle.std.proofs.lemmas.Int.{ints}
-use Rattle.ec_lists.proofs.Filters.{filter-filter_wider}
+use Rattle.ec_lists.proofs.Filters.{filter-filter_wider, list_all-kept}
 use Rattle.ec_axioms.specs.Calculus.{PlainEvent}
 use Rattle.ec_axioms.specs.Changes.{comes_before, is_history}
 use Rattle.ec_axioms.specs.Plain.{events_at}
@@ -41,11 +41,6 @@ module _ {X : Type 0} (p : X → Bool) where
           let none = filter_none p xs (λ y member. pairs.0 y member is) in
           let all = filter_all (λ y. not (p y)) xs (λ y member. ap not (pairs.0 y member is)) in
           ap (λ (ys : List X). drop (length ys) (x ∷ xs)) none ∙ ap (λ ys. x ∷ ys) (sym all)
-
--- what a filter keeps passes
-list_all-kept : {X : Type 0} (p : X → Bool) (xs : List X) → list_all p (filter p xs) ≡ true
-list_all-kept p [] = refl
-list_all-kept p (x ∷ xs) = let rest = list_all-kept p xs in grind arith
 
 -- ---- the events of a history
 

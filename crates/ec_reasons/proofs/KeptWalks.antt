@@ -1,5 +1,5 @@
 -- A walk over the events that a store keeps at a time.
-use Rattle.std.proofs.Common.{◌≡◌, ℕ, zero, suc, ◌+◌, ◌<◌, ◌≤◌, ℤ, true, false, List, [], ◌∷◌, length, filter, drop, Option, Some, None, option_map, refl, sym, ap, ◌∙◌, arith}
+use Rattle.std.proofs.Common.{◌≡◌, ℕ, suc, ◌+◌, ◌<◌, ◌≤◌, ℤ, true, false, List, [], ◌∷◌, length, filter, drop, Option, Some, None, option_map, refl, sym, ap, ◌∙◌, arith}
 use Rattle.std.specs.Prelude.{int_lt, slice_get}
 use Rattle.std.specs.List.{list_all, drop-map}
 use Rattle.std.specs.Ordering.{int_eq}
@@ -8,6 +8,7 @@ use Rattle.std.proofs.lemmas.List.{drop_all, length-map}
 use Rattle.std.proofs.lemmas.Option.{same_Some, slice_get_within}
 use Rattle.ec_lists.proofs.Filters.{filter-map, length-filter_le}
 use Rattle.ec_lists.proofs.Fronts.{drop-slice_get}
+use Rattle.ec_lists.proofs.Places.{slice_get-none}
 use Rattle.ec_terms.specs.declared.ids.Slot.{Slot}
 use Rattle.ec_axioms.specs.declared.event.Event.{Event}
 use Rattle.ec_axioms.specs.Calculus.{PlainEvent}
@@ -81,12 +82,6 @@ module _ {T : Type 0} (rank : T → ℤ) (t : ℤ) (kept : List (Kept T)) (i : �
 
   pub walk-inside : i < length kept
   walk-inside = slice_get_within kept i k there
-
--- what is not found at a place lies behind the end
-slice_get-none : {X : Type 0} (xs : List X) (i : ℕ) → slice_get xs i ≡ None → length xs ≤ i
-slice_get-none [] i none = omega arith
-slice_get-none (x ∷ xs) zero none = absurd (let no_one = none in cc)
-slice_get-none (x ∷ xs) (suc i) none = let rest = slice_get-none xs i none in omega (arith, rest)
 
 -- the walk is at the end
 pub walk-end : {T : Type 0} (rank : T → ℤ) (t : ℤ) (kept : List (Kept T)) (i : ℕ) → slice_get kept i ≡ None → events_at t (history_of rank (drop i kept)) ≡ []

@@ -1,6 +1,5 @@
 -- The last begin of a property before a time: its last start, or that before all events.
-use Rattle.std.proofs.Common.{◌≡◌, ℤ, Bool, true, false, List, [], ◌∷◌, ◌++◌, map, filter, Option, Some, None, option_map, IsTrue, refl, sym, ap, ap₂, ◌∙◌, arith}
-use Rattle.std.proofs.lemmas.Bool.Decides.{nat_tests}
+use Rattle.std.proofs.Common.{◌≡◌, ℤ, Bool, true, false, List, [], ◌∷◌, ◌++◌, map, filter, Option, Some, None, option_map, IsTrue, refl, sym, ap, ap₂, ◌∙◌}
 use Rattle.std.specs.Prelude.{int_lt}
 use Rattle.std.specs.List.{last_or}
 use Rattle.std.specs.Option.{option_or}
@@ -16,6 +15,7 @@ use Rattle.ec_axioms.specs.Timeline.{Timeline, Begin, begin_at, begins_of, initi
 use Rattle.ec_axioms.proofs.HistoryMarks.{timeline_of-marks}
 use Rattle.ec_axioms.proofs.Members.{IsMember-from_filter}
 use Rattle.ec_axioms.proofs.TimelineLaws.{IsBegin-from_member, initiated_at}
+use Rattle.ec_axioms.proofs.MarkLaws.{is_marked-initiates}
 use Rattle.ec_reasons.proofs.Lasts.{last_or-append, last_or-map, last_or-member, last_or-or}
 
 -- ---- on a timeline
@@ -56,17 +56,13 @@ starts-initiated line t =
     ap (filter (is_start line)) (filter_comm (λ s. int_lt s t) line.initiated line.instants)
     ∙ filter-filter_wider (is_start line) line.initiated (instants_before line t) (λ s start. (and_parts (line.initiated s) _ start).0)
 
--- a mark that initiates has a count
-initiates_marked : (mark : PlainMark) → mark_initiates mark ≡ true → is_marked mark ≡ true
-initiates_marked mark initiates = grind (arith, nat_tests)
-
 -- the initiations of a property, by their instants
 pub initiated-instants : (theory : Theory) (events : List PlainEvent) (p : Ground)
     → instants_in (filter mark_initiates (marks_of theory events p)) ≡ filter (is_initiated theory events (is_current theory events) p) (instants_of events)
 unfolding marks_of mark_at timeline_of timeline_by
 initiated-instants theory events p =
     let mark : ℤ → PlainMark = mark_at theory events p in
-    ap instants_in (filter-filter_wider mark_initiates is_marked (map mark (instants_of events)) initiates_marked ∙ filter-map mark_initiates mark (instants_of events))
+    ap instants_in (filter-filter_wider mark_initiates is_marked (map mark (instants_of events)) is_marked-initiates ∙ filter-map mark_initiates mark (instants_of events))
     ∙ same_instants (filter (λ t. mark_initiates (mark t)) (instants_of events))
     ∙ ap (λ (line : Timeline). filter line.initiated (instants_of events)) (sym (timeline_of-marks theory events p))
   where

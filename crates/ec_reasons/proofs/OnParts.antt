@@ -2,6 +2,7 @@
 use Rattle.std.proofs.Common.{◌≡◌, ℕ, ◌==◌, ℤ, Bool, true, false, ◌&&◌, List, [], ◌∷◌, map, filter, find, Option, Some, None, option_map, is_some, refl, sym, ap, ap₂, ◌∙◌, ⊎_elim}
 use Rattle.std.proofs.lemmas.Bool.{cases_Bool, eqb-true, eq-eqb, false≢true}
 use Rattle.std.proofs.lemmas.Option.{same_Some}
+use Rattle.std.proofs.Math.Bool.{and-true}
 use Rattle.ec_lists.proofs.Options.{is_some-option_map}
 use Rattle.ec_terms.specs.declared.ids.PropId.{PropId}
 use Rattle.ec_terms.specs.declared.ground.Ground.{Ground}
@@ -85,11 +86,7 @@ module _ {T : Type 0} (rank : T → ℤ) (theory : Theory) (events : List PlainE
       ap (has_number head.0) is ∙ has_number-filter head (exclusive_at theory view.table id) (added_props view.neighbours.rows)
       ∙ ap₂ (λ a b. a && b) (ap₂ (both_exclusive theory) on.kept there)
       (on.stand.both.tables.added.added head ∙ sym (is_some-option_map (λ (k : KeptProp). k.term) (prop_at head.0 view.table)) ∙ ap is_some there)
-      ∙ and_all (are_exclusive theory p q)
-    where
-      and_all : (b : Bool) → (b && true) ≡ b
-      and_all true = refl
-      and_all false = refl
+      ∙ and-true (are_exclusive theory p q)
 
   pub on-times : times_in rank (marks_at id.0 view.initiations) ≡ filter (is_initiated theory events (is_current theory events) p) (instants_of events)
   on-times =

@@ -1,24 +1,25 @@
 -- The effects of an event, place by place with the entries that are kept of it.
-use Rattle.std.proofs.Common.{◌≡◌, ℕ, zero, suc, ◌+◌, ◌<◌, ◌≤◌, Bool, true, false, ◌&&◌, List, [], ◌∷◌, length, map, find, take, Option, Some, None, option_map, refl, sym, ap, subst, ◌∙◌, arith}
-use Rattle.std.specs.Prelude.{ℤ, slice_get, option_and_then}
+use Rattle.std.proofs.Common.{◌≡◌, ℕ, ◌+◌, ◌<◌, ◌≤◌, Bool, true, false, ◌&&◌, List, [], ◌∷◌, length, map, find, take, Option, Some, None, option_map, refl, sym, ap, subst, ◌∙◌, arith}
+use Rattle.std.specs.Prelude.{ℤ, slice_get}
 use Rattle.std.specs.List.{list_any}
 use Rattle.std.specs.Option.{option_map_or}
 use Rattle.std.proofs.lemmas.Bool.{or_from}
 use Rattle.std.proofs.lemmas.List.{length-map, take_all}
 use Rattle.std.proofs.lemmas.List.Folds.{list_any_more}
-use Rattle.std.proofs.lemmas.Option.{none-some, same_Some, slice_get_within, get_or_from_slice_get}
+use Rattle.std.proofs.lemmas.Option.{none-some, same_Some, slice_get-map, slice_get_within, get_or_from_slice_get}
+use Rattle.std.proofs.Math.Bool.{and_comm}
 use Rattle.ec_lists.proofs.Finds.{find_here, find-map, find-none}
 use Rattle.ec_terms.specs.declared.ids.Slot.{Slot}
-use Rattle.ec_terms.specs.declared.ground.Ground.{Ground}
 use Rattle.ec_terms.specs.declared.theory.Theory.{Theory}
-use Rattle.ec_terms.specs.Domain.{GroundEntry, GroundLiteral, entries_of}
+use Rattle.ec_terms.specs.Domain.{GroundEntry, entries_of}
 use Rattle.ec_axioms.specs.declared.event.Event.{Event}
 use Rattle.ec_axioms.specs.Calculus.{Effect, PlainCause, PlainEvent, cause_of, effects_of, is_active, is_current}
 use Rattle.ec_axioms.specs.Events.{event_of}
-use Rattle.ec_props.specs.Table.{KeptProp, term_at}
+use Rattle.ec_props.specs.Table.{KeptProp}
 use Rattle.ec_context.specs.declared.entry.Entry.{Entry}
-use Rattle.ec_context.specs.Entries.{each_of, shown_entries, shown_entry, shown_literals}
-use Rattle.ec_context.proofs.Shown.{length-shown}
+use Rattle.ec_context.specs.Entries.{shown_entries, shown_entry}
+use Rattle.ec_context.proofs.EachOf.{each_of-at}
+use Rattle.ec_context.proofs.Shown.{IsShownAs-entry, length-shown}
 use Rattle.ec_events.specs.Store.{Store, event_at}
 use Rattle.ec_numbered.specs.ByNumber.{kept_at}
 use Rattle.ec_entries.specs.declared.event_entries.EventEntries.{EventEntries}
@@ -26,26 +27,6 @@ use Rattle.ec_entries.specs.Dependents.{Entered}
 use Rattle.ec_parts.specs.Activity.{is_bit_set}
 use Rattle.ec_parts.specs.Caches.{AreEntriesOf, IsEntered, IsEnteredIn}
 use Rattle.ec_reasons.specs.Sought.{AreEffects, first_of_event, is_cause}
-
--- ---- one entry
-
--- what an entry has that a table shows
-pub record IsShownAs (table : List KeptProp) (entry : Entry) (shown : GroundEntry) : Type 0 where
-  pub head : term_at entry.head.0 table ≡ Some shown.head
-  pub rule : entry.rule ≡ shown.rule
-  pub kind : entry.kind ≡ shown.kind
-
-pub IsShownAs-entry : (table : List KeptProp) (entry : Entry) (shown : GroundEntry) → shown_entry table entry ≡ Some shown → IsShownAs table entry shown
-unfolding shown_entry
-IsShownAs-entry table entry shown is = of (term_at entry.head.0 table) (shown_literals table entry.literals) refl is
-  where
-    of : (head : Option Ground) (literals : Option (List GroundLiteral)) → term_at entry.head.0 table ≡ head
-        → option_and_then (λ h. option_map (λ ls. record { rule = entry.rule; kind = entry.kind; head = h; literals = ls }) literals) head ≡ Some shown → IsShownAs table entry shown
-    of None literals there both = absurd (none-some shown both)
-    of (Some h) None there both = absurd (none-some shown both)
-    of (Some h) (Some ls) there both =
-        let same : record { rule = entry.rule; kind = entry.kind; head = h; literals = ls } ≡ shown = cc in
-        record { head = there ∙ ap (λ (e : GroundEntry). Some e.head) same; rule = ap (λ (e : GroundEntry). e.rule) same; kind = ap (λ (e : GroundEntry). e.kind) same }
 
 -- ---- the effects of one event
 
@@ -55,32 +36,16 @@ pub record IsEffectAt (table : List KeptProp) (effects : List Effect) (k : ℕ) 
   pub there : slice_get effects k ≡ Some effect
   pub shown : shown_entry table entry ≡ Some effect.entry
 
-module _ (table : List KeptProp) where
-  shown_with : Option GroundEntry → Option (List GroundEntry) → Option (List GroundEntry)
-  shown_with o rest = option_and_then (λ a. option_map (λ others. a ∷ others) rest) o
-
-  pub effect-at : (entries : List Entry) (effects : List Effect) → shown_entries table entries ≡ Some (map (λ (effect : Effect). effect.entry) effects)
-      → (k : ℕ) (entry : Entry) → slice_get entries k ≡ Some entry → IsEffectAt table effects k entry
-  unfolding each_of shown_with
-  effect-at [] effects shown k entry there = absurd (none-some entry there)
-  effect-at (first ∷ entries) effects shown k entry there =
-      of effects (shown_entry table first) (shown_entries table entries) refl refl shown k there (λ es shown_rest n. effect-at entries es shown_rest n entry)
-    where
-      of : (effects : List Effect) (o : Option GroundEntry) (rest : Option (List GroundEntry)) → shown_entry table first ≡ o → shown_entries table entries ≡ rest
-          → shown_with o rest ≡ Some (map (λ (effect : Effect). effect.entry) effects) → (k : ℕ) → slice_get (first ∷ entries) k ≡ Some entry
-          → ((es : List Effect) → shown_entries table entries ≡ Some (map (λ (effect : Effect). effect.entry) es) → (n : ℕ) → slice_get entries n ≡ Some entry → IsEffectAt table es n entry)
-          → IsEffectAt table effects k entry
-      of effects None rest here others both k there later = absurd (none-some _ both)
-      of effects (Some g) None here others both k there later = absurd (none-some _ both)
-      of [] (Some g) (Some gs) here others both k there later = absurd (let same = same_Some (g ∷ gs) [] both in cc)
-      of (e ∷ es) (Some g) (Some gs) here others both zero there later =
-          let same : g ≡ e.entry = let all = same_Some (g ∷ gs) _ both in cc in
-          let own : first ≡ entry = same_Some first entry there in
-          record { effect = e; there = refl; shown = ap (shown_entry table) (sym own) ∙ here ∙ ap Some same }
-      of (e ∷ es) (Some g) (Some gs) here others both (suc k) there later =
-          let rest : gs ≡ map (λ (effect : Effect). effect.entry) es = let all = same_Some (g ∷ gs) _ both in cc in
-          let found = later es (others ∙ ap Some rest) k there in
-          record { effect = found.effect; there = found.there; shown = found.shown }
+pub effect-at : (table : List KeptProp) (entries : List Entry) (effects : List Effect) → shown_entries table entries ≡ Some (map (λ (effect : Effect). effect.entry) effects)
+    → (k : ℕ) (entry : Entry) → slice_get entries k ≡ Some entry → IsEffectAt table effects k entry
+effect-at table entries effects shown k entry there =
+    let found = each_of-at (shown_entry table) entries (map (λ (effect : Effect). effect.entry) effects) shown k entry there in
+    of (slice_get effects k) refl found.0 found.1 (sym (slice_get-map (λ (effect : Effect). effect.entry) effects k) ∙ found.2)
+  where
+    of : (o : Option Effect) → slice_get effects k ≡ o → (ground : GroundEntry) → shown_entry table entry ≡ Some ground → option_map (λ (effect : Effect). effect.entry) o ≡ Some ground
+        → IsEffectAt table effects k entry
+    of None there ground shown is = absurd (none-some ground is)
+    of (Some effect) there ground shown is = record { effect = effect; there = there; shown = shown ∙ sym is }
 
 module _ (theory : Theory) (events : List PlainEvent) (table : List KeptProp) (entries : List Entry) (active : ℕ) (effects : List Effect)
     (are : AreEffects theory events table entries active effects) (wanted : GroundEntry → Bool) where
@@ -99,10 +64,7 @@ module _ (theory : Theory) (events : List PlainEvent) (table : List KeptProp) (e
     cause-is =
         sym (asked_is at.effect.entry at.shown
         ∙ ap (λ b. b && wanted at.effect.entry) (are.bits k ∙ ap (λ o. option_map_or (is_active (is_current theory events)) o false) at.there)
-        ∙ turned (is_active (is_current theory events) at.effect) (wanted at.effect.entry))
-      where
-        turned : (a b : Bool) → (a && b) ≡ (b && a)
-        turned a b = grind arith
+        ∙ and_comm (is_active (is_current theory events) at.effect) (wanted at.effect.entry))
 
     -- the first that does what is sought and is active
     pub rule-found : asked ≡ true → Some entry.rule ≡ option_map (λ (effect : Effect). effect.entry.rule) (find (is_cause theory events wanted) effects)

@@ -5,8 +5,9 @@ use Rattle.std.proofs.lemmas.List.{take_all, take_more}
 use Rattle.ec_numbered.specs.PropSet.{has_number}
 use Rattle.ec_parts.specs.StandFor.{StandForBoth, view_of}
 use Rattle.ec_engine.specs.Idle.{StandForSome}
-use Rattle.ec_engine.proofs.Forgetting.{term_was, mentions_were, passed_more, keeps_live, keeps_live_or}
+use Rattle.ec_engine.proofs.Forgetting.{mentions_were, passed_more, keeps_live, keeps_live_or}
 use Rattle.ec_engine.proofs.idle.forget_idle.Goals as goal
+use Rattle.ec_engine.proofs.WalkSteps.{keeps_terms}
 
 pub forget_one-requires : goal.forget_one-requires
 forget_one-requires g c =
@@ -26,7 +27,7 @@ loop-p-preserved g c =
       passed = λ id listed is.
           passed_more after (take c.loop-p.p-index c.args.list.now) (get_or c.args.list.now c.loop-p.p-index none) (λ n was none. inv.passed n was (mentions_were c.loop-p.parts.props after c.forget_one.ensures.others n 0 none)) c.forget_one.ensures.gone id
           (sym (ap (has_number id) (take_more c.args.list.now c.loop-p.p-index none c.loop-p-test.true)) ∙ listed) is;
-      terms = λ id t is. inv.terms id t (term_was c.loop-p.parts.props after c.forget_one.ensures.others id t is);
+      terms = λ id t is. inv.terms id t (keeps_terms after c.loop-p.parts.props (λ q some. sym (c.forget_one.ensures.others q some)) id t is);
       theory = c.forget_one.ensures.theory ∙ inv.theory;
     }
 

@@ -2,12 +2,13 @@
 use Rattle.std.proofs.Common.{◌≡◌, ◌≤◌, Some, length, take, refl, sym, ap, subst, ◌∙◌, arith}
 use Rattle.std.specs.Prelude.{slice_get}
 use Rattle.std.proofs.lemmas.List.{take_all}
+use Rattle.ec_apply.proofs.MendedRows.{take_next}
 use Rattle.ec_events.specs.Store.{history_of}
 use Rattle.ec_parts.specs.declared.parts.Parts.{Parts}
 use Rattle.ec_parts.specs.StandFor.{StandForBoth, view_of}
 use Rattle.ec_engine.specs.declared.net.Net.{Net}
 use Rattle.ec_engine.specs.Undo.{MayRelease, Releases, untouched}
-use Rattle.ec_engine.proofs.Undoing.{halfway_at_end, is_touched-found, releasable_at, take_next, untouched-more, untouched-none}
+use Rattle.ec_engine.proofs.Undoing.{halfway_at_end, is_touched-found, releasable_at, untouched-more, untouched-none}
 use Rattle.ec_engine.proofs.undo.release_nets.Goals as goal
 
 pub loop-i-init : goal.loop-i-init

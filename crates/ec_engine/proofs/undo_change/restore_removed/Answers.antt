@@ -3,7 +3,9 @@ use Rattle.std.proofs.Common.{◌≡◌, ◌≤◌, ℕ, List, Some, length, dro
 use Rattle.std.specs.Prelude.{slice_get}
 use Rattle.std.proofs.lemmas.List.{drop_all, length-map}
 use Rattle.std.proofs.lemmas.Option.{slice_get-get_or}
+use Rattle.ec_lists.proofs.Places.{slice_get-map_at}
 use Rattle.ec_axioms.specs.Links.{most_mentions}
+use Rattle.ec_axioms.proofs.Members.{IsMember-slice_get}
 use Rattle.ec_events.specs.Store.{history_of}
 use Rattle.ec_parts.specs.declared.parts.Parts.{Parts}
 use Rattle.ec_parts.specs.StandFor.{StandForBoth, view_of}
@@ -11,7 +13,7 @@ use Rattle.ec_revise.specs.declared.change.Removal.{Removal}
 use Rattle.ec_engine.specs.Undo.{MayRestore, Restores, untouched}
 use Rattle.ec_engine.specs.UndoChange.{id_in, removals_by_id}
 use Rattle.ec_engine.proofs.Undoing.{few_back, put_back_next, untouched-none}
-use Rattle.ec_engine.proofs.UndoingChange.{member_at, removals_distinct, slice_get-value, slot_of-removal}
+use Rattle.ec_engine.proofs.UndoingChange.{removals_distinct, slot_of-removal}
 use Rattle.ec_engine.proofs.undo_change.restore_removed.Goals as goal
 
 pub restore_old-requires : goal.restore_old-requires
@@ -27,7 +29,7 @@ restore_old-requires g c =
     let removal = c.removal-item.result in
     let k = id_in events removal.slot in
     let there : slice_get removals i ≡ Some removal = slice_get-get_or removals i removal c.loop-removal-test.true ∙ ap Some (sym c.removal-item.is) in
-    let here : slice_get keyed i ≡ Some (k, removal) = slice_get-value (λ (r : Removal _). (id_in events r.slot, r)) removals i removal there in
+    let here : slice_get keyed i ≡ Some (k, removal) = slice_get-map_at (λ (r : Removal _). (id_in events r.slot, r)) removals i removal there in
     let apart = removals_distinct rank events c.len.ensures.history removals c.requires.times c.requires.order in
     let before = untouched (drop i keyed) hist in
     let both = subst (λ (p : Parts _ _ _ _). StandForBoth rank theory hist before (view_of p) c.loop-removal.tally) inv.rest inv.so_far in
@@ -37,7 +39,7 @@ restore_old-requires g c =
       id = k;
       restorable = record {
         both = both;
-        old = slot_of-removal rank events c.len.ensures.history removals c.requires.times removal (member_at removals i removal there);
+        old = slot_of-removal rank events c.len.ensures.history removals c.requires.times removal (IsMember-slice_get removals i removal there);
         few = few_back theory keyed i most_mentions hist _ (put_back_next keyed i k removal hist c.len.ensures.history apart here) c.requires.within.few_mentions;
       };
     })
@@ -55,7 +57,7 @@ loop-removal-preserved g c =
     let removal = c.removal-item.result in
     let k = id_in events removal.slot in
     let there : slice_get removals i ≡ Some removal = slice_get-get_or removals i removal c.loop-removal-test.true ∙ ap Some (sym c.removal-item.is) in
-    let here : slice_get keyed i ≡ Some (k, removal) = slice_get-value (λ (r : Removal _). (id_in events r.slot, r)) removals i removal there in
+    let here : slice_get keyed i ≡ Some (k, removal) = slice_get-map_at (λ (r : Removal _). (id_in events r.slot, r)) removals i removal there in
     let apart = removals_distinct rank events c.len.ensures.history removals c.requires.times c.requires.order in
     let before = untouched (drop i keyed) hist in
     let both = subst (λ (p : Parts _ _ _ _). StandForBoth rank theory hist before (view_of p) c.loop-removal.tally) inv.rest inv.so_far in
@@ -66,7 +68,7 @@ loop-removal-preserved g c =
           (back before k
           (record {
             both = both;
-            old = slot_of-removal rank events c.len.ensures.history removals c.requires.times removal (member_at removals i removal there);
+            old = slot_of-removal rank events c.len.ensures.history removals c.requires.times removal (IsMember-slice_get removals i removal there);
             few = few_back theory keyed i most_mentions hist _ next c.requires.within.few_mentions;
           }));
       terms = λ id. c.restore_old.ensures.terms id ∙ inv.terms id;

@@ -1,11 +1,12 @@
 -- Each number is the next of what is left.
 use Rattle.std.proofs.Common.{◌+◌, ◌∷◌, [], drop, get_or, ap, ◌∙◌, arith}
+use Rattle.std.proofs.lemmas.Option.{slice_get-get_or}
 use Rattle.ec_terms.specs.declared.ids.PropId.{PropId}
 use Rattle.ec_axioms.specs.Timeline.{is_held_at}
 use Rattle.ec_intervals.specs.Table.{members_at, plain_intervals}
 use Rattle.ec_query.specs.Holding.{held_numbers, number_text}
 use Rattle.ec_query.specs.Members.{members_text}
-use Rattle.ec_query.proofs.HoldingLemmas.{filter-next_place, slice_get-item}
+use Rattle.ec_query.proofs.HoldingLemmas.{filter-next_place}
 use Rattle.ec_query.proofs.WritingLemmas.{IsLeft-next, IsLeft-part, OnErr-anyway, members_text-append}
 use Rattle.ec_query.proofs.property_reply.write_run.Goals as goal
 
@@ -21,7 +22,7 @@ returns-in_err-write_one-clause-part g c =
     OnErr-anyway c.from_residual.result
     (IsLeft-part (members_text text here) (members_text text behind) c.loop-p.invariant
     (ap (members_text text) (filter-next_place (λ p. is_held_at (plain_intervals rank (members_at p.0 intervals)) t) c.args.run.now c.loop-p.p-index item
-    (slice_get-item c.args.run.now c.loop-p.p-index (record { 0 = 0 }) (omega arith)))
+    (slice_get-get_or c.args.run.now c.loop-p.p-index (record { 0 = 0 }) (omega arith)))
     ∙ members_text-append text here behind)
     c.in_err-write_one.ensures.part)
 
@@ -36,6 +37,6 @@ loop-p-preserved g c =
     let behind = held_numbers rank intervals t (drop (c.loop-p.p-index + 1) c.args.run.now) in
     IsLeft-next (members_text text here) (members_text text behind) c.loop-p.invariant
     (ap (members_text text) (filter-next_place (λ p. is_held_at (plain_intervals rank (members_at p.0 intervals)) t) c.args.run.now c.loop-p.p-index item
-    (slice_get-item c.args.run.now c.loop-p.p-index (record { 0 = 0 }) (omega arith)))
+    (slice_get-get_or c.args.run.now c.loop-p.p-index (record { 0 = 0 }) (omega arith)))
     ∙ members_text-append text here behind)
     c.in_ok-write_one.ensures.written c.write_one.ensures.counted

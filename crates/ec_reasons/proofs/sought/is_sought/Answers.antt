@@ -1,7 +1,7 @@
 -- What an entry does is told by its kind and its head.
 use Rattle.std.proofs.Common.{sym, ap, ◌∙◌}
 use Rattle.ec_reasons.specs.Sought.{is_sought}
-use Rattle.ec_reasons.proofs.ShownEffects.{IsShownAs-entry}
+use Rattle.ec_context.proofs.Shown.{IsShownAs-entry}
 use Rattle.ec_reasons.proofs.SoughtEntries.{initiates-breaking, initiates-initiating, initiates-terminating, terminates-breaking, terminates-initiating, terminates-terminating}
 use Rattle.ec_reasons.proofs.sought.is_sought.Goals as goal
 
