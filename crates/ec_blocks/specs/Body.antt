@@ -1,5 +1,5 @@
 -- What is seen of a list that is one `Vec` while it has few members, and a chain of blocks from then on.
-use Rattle.std.specs.Prelude.{ℕ, ◌+◌, ◌-◌, ◌≤◌, min, vec_len}
+use Rattle.std.specs.Prelude.{◌-◌, ◌≤◌, min, vec_len}
 use Rattle.std.specs.Vec.{vec_capacity}
 use Rattle.ec_blocks.specs.declared.blocks.Body.{Body}
 use Rattle.ec_blocks.specs.declared.blocks.Body.TheVariants.{Few, Many}
@@ -15,8 +15,3 @@ seen_of (Many chain) = record { items = joined chain.value.blocks; spare = room_
 abbrev pub IsBody : {X : Type 0} → Body X → Type 0
 IsBody (Few members) = vec_len members ≤ 64
 IsBody (Many chain) = Unit {0}
-
--- few members have a place for n more in their `Vec`
-abbrev pub HasPlace : {X : Type 0} → Body X → ℕ → Type 0
-HasPlace (Few members) n = vec_len members + n ≤ 64
-HasPlace (Many chain) n = Unit {0}

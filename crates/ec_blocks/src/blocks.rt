@@ -1,8 +1,8 @@
-ghost use Rattle.std.specs.Prelude.{◌≡◌, ◌+◌, ◌-◌, ◌<◌, ◌≤◌, ◌++◌, ◌∷◌, [], Bool, true, false, Some, OnOk, OnErr, IsTrue, ◌↔◌, length, take, drop, slice_get, slice_set, IfOk, IfSome, IfNone};
+ghost use Rattle.std.specs.Prelude.{◌≡◌, ◌+◌, ◌-◌, ◌<◌, ◌≤◌, ◌++◌, ◌∷◌, [], Bool, true, false, Some, OnOk, OnErr, IsTrue, ◌↔◌, length, take, drop, slice_get, slice_set, IfOk, IfSome, IfNone, min, vec_len};
+ghost use Rattle.std.specs.Vec.{vec_capacity};
 ghost use Rattle.std.specs.Fn.{ComputesKey};
 ghost use Rattle.std.specs.List.{insert, remove, splice};
 ghost use Rattle.std.specs.List.Sorted.{IsPartitionedBy, IsPartitionPoint};
-ghost use Rattle.ec_blocks.specs.Body.{seen_of, IsBody, HasPlace};
 ghost use Rattle.ec_blocks.specs.Chain.{joined, room_of};
 
 use crate::chain::{CAPACITY, Chain, insert_within};
@@ -217,15 +217,15 @@ impl<X: Copied + Drop> Blocks<X> {
         ensures spare { self.old.spare ≤ self.new.spare + 1 }
         ensures same_spare { OnErr result (self.old.spare ≤ self.new.spare) }
     {
-        match chain_for(&self.body, 1)? {
-            Some(mut chain) => {
-                chain.push(x)?;
-                self.body = Body::Many(chain);
-            }
-            None => match &mut self.body {
-                Body::Few(members) => members.push(x)?,
-                Body::Many(chain) => chain.push(x)?,
+        match &mut self.body {
+            Body::Few(members) => match chain_for(members, 1)? {
+                Some(mut chain) => {
+                    chain.push(x)?;
+                    self.body = Body::Many(chain);
+                }
+                None => members.push(x)?,
             },
+            Body::Many(chain) => chain.push(x)?,
         }
         Ok(())
     }
@@ -237,12 +237,12 @@ impl<X: Copied + Drop> Blocks<X> {
         ensures ok { OnOk result (n ≤ self.new.spare) }
         ensures spare { self.old.spare ≤ self.new.spare }
     {
-        match chain_for(&self.body, n)? {
-            Some(chain) => self.body = Body::Many(chain),
-            None => match &mut self.body {
-                Body::Few(members) => members.reserve(n)?,
-                Body::Many(chain) => chain.reserve(n)?,
+        match &mut self.body {
+            Body::Few(members) => match chain_for(members, n)? {
+                Some(chain) => self.body = Body::Many(chain),
+                None => members.reserve(n)?,
             },
+            Body::Many(chain) => chain.reserve(n)?,
         }
         Ok(())
     }
@@ -260,23 +260,21 @@ impl<X: Copied + Drop> Blocks<X> {
 }
 
 /// The chain to take the place of few members, if they and `n` more are too many for one `Vec`.
-fn chain_for<X: Copied + Drop>(body: &Body<X>, n: usize) -> Result<Option<Box<Chain<X>>>, NoMemory>
-    requires { IsBody body.now }
-    ensures members { IfOk result (λ found. IfSome found (λ chain. joined chain.value.blocks ≡ (seen_of body.now).items)) }
+fn chain_for<X: Copied + Drop>(
+    members: &Vec<X>,
+    n: usize,
+) -> Result<Option<Box<Chain<X>>>, NoMemory>
+    requires { vec_len members.now ≤ 64 }
+    ensures members { IfOk result (λ found. IfSome found (λ chain. joined chain.value.blocks ≡ members.now.items)) }
     ensures room { IfOk result (λ found. IfSome found (λ chain. n ≤ room_of chain.value.blocks chain.value.spares)) }
-    ensures spare { IfOk result (λ found. IfSome found (λ chain. (seen_of body.now).spare ≤ room_of chain.value.blocks chain.value.spares)) }
-    ensures none { IfOk result (λ found. IfNone found (HasPlace body.now n)) }
+    ensures spare { IfOk result (λ found. IfSome found (λ chain. min (vec_capacity members.now) 64 - vec_len members.now ≤ room_of chain.value.blocks chain.value.spares)) }
+    ensures none { IfOk result (λ found. IfNone found (vec_len members.now + n ≤ 64)) }
 {
-    match body {
-        Body::Few(members) => {
-            if n <= CAPACITY - members.len() {
-                return Ok(None);
-            }
-            let alloc = *members.allocator();
-            Ok(Some(Box::new(alloc, chain_of(alloc, members, n)?)?))
-        }
-        Body::Many(_) => Ok(None),
+    if n <= CAPACITY - members.len() {
+        return Ok(None);
     }
+    let alloc = *members.allocator();
+    Ok(Some(Box::new(alloc, chain_of(alloc, members, n)?)?))
 }
 
 /// A chain with copies of some members, and room for `n` more.

@@ -1,7 +1,6 @@
 -- What is owed, and the last block whole.
 use Rattle.std.proofs.Common.{◌-◌, length, ap, arith}
 use Rattle.std.specs.Vec.{vec_capacity}
-use Rattle.ec_blocks.specs.Chain.{block_at}
 use Rattle.ec_blocks.proofs.CountLemmas.{counted-same, owed-small, debt-counted}
 use Rattle.ec_blocks.proofs.chain.Chain.debt.Goals as goal
 

@@ -1,5 +1,5 @@
 -- A block that gets one more.
-use Rattle.std.proofs.Common.{◌+◌, length, ap, ◌∙◌, arith, sym}
+use Rattle.std.proofs.Common.{◌+◌, length, ap, ◌∙◌, arith}
 use Rattle.std.specs.List.{insert}
 use Rattle.std.specs.Vec.{vec_capacity}
 use Rattle.std.proofs.lemmas.List.Edits.{length-insert}

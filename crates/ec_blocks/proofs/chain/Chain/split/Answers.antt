@@ -1,5 +1,5 @@
 -- A full block becomes two.
-use Rattle.std.proofs.Common.{◌≡◌, ◌+◌, true, length, take, drop, map, sym, ap, ap₂, ◌∙◌, arith, refl, set, length-drop, ◌-◌}
+use Rattle.std.proofs.Common.{◌≡◌, ◌+◌, true, length, take, drop, map, sym, ap, ap₂, ◌∙◌, arith, refl, set, length-drop}
 use Rattle.std.specs.List.{insert, list_all}
 use Rattle.std.specs.Vec.{vec_capacity}
 use Rattle.std.proofs.lemmas.List.{length-map, length-take-le}
