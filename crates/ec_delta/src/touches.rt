@@ -3,9 +3,9 @@ ghost use Rattle.std.specs.Prelude.{◌≡◌, ◌+◌, ◌==◌, ℕ, [], Some,
 ghost use Rattle.ec_terms.specs.declared.ids.PropId.{PropId};
 ghost use Rattle.ec_delta.specs.Touched.{are_once, first_touched, touched_at, touched_with, widened};
 
+use ec_maps::SmallMap;
 use ec_moment::Moment;
 use ec_terms::{NoMemory, PropId};
-use indexmap::IndexMap;
 use std::alloc::Global;
 use std::marker::Model;
 
@@ -34,7 +34,7 @@ pub struct Touch<T> {
 /// Where marks change, for each property of which some do.
 #[derive(Drop)]
 pub struct Touches<T: Moment> {
-    rows: IndexMap<usize, Touched<T>>,
+    rows: SmallMap<usize, Touched<T>>,
 }
 
 impl<T: Moment> Model for Touches<T> {
@@ -43,7 +43,7 @@ impl<T: Moment> Model for Touches<T> {
 
     ghost Value = { List (ℕ × Touched T) };
 
-    ghost view = { λ touches. touches.rows.entries };
+    ghost view = { λ touches. touches.rows };
 }
 
 /// A count with one more, if so.
@@ -104,7 +104,7 @@ impl<T: Moment> Touches<T> {
         ensures { result ≡ [] }
     {
         Touches {
-            rows: IndexMap::new(alloc),
+            rows: SmallMap::new(alloc),
         }
     }
 
@@ -121,17 +121,15 @@ impl<T: Moment> Touches<T> {
         requires { i < length self.now }
         ensures { slice_get self.now i ≡ Some (result.0.0, result.1) }
     {
-        match self.rows.get_index(i) {
-            Some((n, touched)) => (PropId(*n), *touched),
-            None => unreachable!(),
-        }
+        let (n, touched) = self.rows.row(i);
+        (PropId(n), touched)
     }
 
     /// Where the marks of a property change. `None` exactly when none does.
     pub fn get(&self, p: PropId) -> Option<Touched<T>>
         ensures { result ≡ touched_at p.0 self.now }
     {
-        self.rows.get(&p.0).copied()
+        self.rows.get(p.0)
     }
 
     /// Notes that one more mark of a property changes, later than all before. `Err`: memory ran out, or a count is at its

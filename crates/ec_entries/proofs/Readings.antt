@@ -1,10 +1,11 @@
 -- What the searches of a list of dependents cut out: those after a time, and those at it.
-use Rattle.std.proofs.Common.{◌≡◌, ◌+◌, ◌-◌, ◌<◌, ◌≤◌, ℕ, ℤ, zero, suc, Bool, true, false, cond, List, [], ◌∷◌, length, take, drop, None, Some, refl, ap, subst, ◌∙◌, arith}
+use Rattle.std.proofs.Common.{◌≡◌, ◌+◌, ◌-◌, ◌<◌, ◌≤◌, ℕ, ℤ, zero, suc, Bool, true, false, cond, List, [], ◌∷◌, length, take, drop, None, Some, refl, sym, ap, subst, ◌∙◌, arith}
 use Rattle.std.specs.Prelude.{int_lt, int_le, slice_get}
 use Rattle.std.specs.List.{list_all}
 use Rattle.std.specs.Ordering.{int_eq, nat_cmp, ordering_then}
 use Rattle.std.proofs.lemmas.Bool.{and_from}
 use Rattle.std.proofs.lemmas.Int.{ints}
+use Rattle.std.proofs.lemmas.List.{take-take}
 use Rattle.ec_entries.specs.declared.event_entries.Dependent.{Dependent}
 use Rattle.ec_entries.specs.Dependents.{AreInOrder, dependent_before, dependents_after, dependents_at}
 use Rattle.ec_lists.proofs.Tests.{list_all-weaker}
@@ -55,6 +56,13 @@ slice_get-past_between (x ∷ xs) zero (suc j) (suc k) past = slice_get-past_bet
 slice_get-past_between (x ∷ xs) (suc i) zero k past = refl
 slice_get-past_between (x ∷ xs) (suc i) (suc j) k past = slice_get-past_between xs i j k (omega arith)
 
+-- the members from one place on, up to another
+drop-taken : {X : Type 0} (xs : List X) (i n : ℕ) → drop i (take (i + n) xs) ≡ take n (drop i xs)
+drop-taken xs zero n = ap (λ m. take m xs) (let e : zero + n ≡ n = omega arith in e)
+drop-taken [] (suc i) zero = ap (λ m. drop (suc i) (take m [])) (let e : suc i + zero ≡ suc i = omega arith in e)
+drop-taken [] (suc i) (suc n) = ap (λ m. drop (suc i) (take m [])) (let e : suc i + suc n ≡ suc (i + suc n) = omega arith in e)
+drop-taken (x ∷ xs) (suc i) n = ap (λ m. drop (suc i) (take m (x ∷ xs))) (let e : suc i + n ≡ suc (i + n) = omega arith in e) ∙ drop-taken xs i n
+
 module _ {T : Type 0} (rank : T → ℤ) (t : ℤ) where
   -- a member is before the time, or up to it
   abbrev pub earlier : Dependent T → Bool
@@ -91,6 +99,20 @@ module _ {T : Type 0} (rank : T → ℤ) (t : ℤ) where
   dependents_at-between (d ∷ ds) (suc i) (suc j) low high =
       ap (λ b. cond b (d ∷ dependents_at rank t ds) (dependents_at rank t ds)) (int_eq-from_lt (rank d.at) t (low.0 zero d (omega arith) (omega arith)))
       ∙ dependents_at-between ds i j (rest earlier d ds i low) (rest up_to d ds j high)
+
+  module _ (ds : List (Dependent T)) (i j : ℕ) (ordered : i ≤ j) (low : IsCut earlier ds i) (high : IsCut up_to ds j) where
+    -- those at a time are the first of those from it on
+    dependents_at-first : dependents_at rank t ds ≡ take (j - i) (drop i ds)
+    dependents_at-first =
+        dependents_at-between ds i j low high ∙ ap (λ m. drop i (take m ds)) (let e : j ≡ i + (j - i) = omega arith in e) ∙ drop-taken ds i (j - i)
+
+    -- so a run from there on that is long enough begins with them
+    pub dependents_at-run : (run : List (Dependent T)) → run ≡ take (length run) (drop i ds) → j - i ≤ length run → take (j - i) run ≡ dependents_at rank t ds
+    dependents_at-run run is within =
+        ap (take (j - i)) is ∙ take-take (j - i) (length run) (drop i ds) within ∙ sym dependents_at-first
+
+    pub dependents_at-none : j - i ≡ 0 → [] ≡ dependents_at rank t ds
+    dependents_at-none no_more = sym (dependents_at-first ∙ ap (λ n. take n (drop i ds)) no_more)
 
   -- no more are before a time than up to it
   pub earlier-up_to : (ds : List (Dependent T)) (i j : ℕ) → i ≤ length ds → IsCut earlier ds i → IsCut up_to ds j → i ≤ j

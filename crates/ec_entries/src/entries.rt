@@ -5,7 +5,7 @@ ghost use Rattle.ec_entries.specs.Dependents.{AreDependents, count_on, count_on_
 
 use crate::event_entries::{Dependent, EventEntries};
 use crate::noting::{Rows, drop_all, note_all};
-use crate::ordered::{nth_at, run_after};
+use crate::ordered::{nth_at, run_after, run_at};
 use crate::reserving::reserve_all;
 use ec_axioms::Steps;
 use ec_context::EntryList;
@@ -163,6 +163,18 @@ impl<T: Moment> Entries<T> {
     {
         let dependent = self.dependents_after(p, at).first()?;
         Some(dependent.at)
+    }
+
+    /// The dependents of a property at a time, by slot, then by place, if they lie together in memory. Otherwise `dependent`
+    /// gives them one by one.
+    pub fn dependents_at(&self, p: PropId, at: T) -> Option<&[Dependent<T>]>
+        ensures run { IfSome result (λ run. run.now ≡ dependents_at T.rank (T.rank at) (dependents_of p.0 self.now.rows)) }
+        ensures dependents { AreDependents T.rank p.0 self.now.slots (dependents_of p.0 self.now.rows) }
+    {
+        match self.rows.get(p) {
+            Some(row) => run_at(row, at),
+            None => Some(&[]),
+        }
     }
 
     /// The k-th dependent of a property at a time, from 0, by slot, then by place: its slot, and its place in the list

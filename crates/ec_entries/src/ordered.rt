@@ -1,5 +1,5 @@
 //! One list of dependents in order: one put in its place, one taken out, and the dependents of a time.
-ghost use Rattle.std.specs.Prelude.{◌≡◌, ◌+◌, ◌≤◌, ℕ, true, false, [], ◌∷◌, int_lt, int_le, length, take, slice_get, option_map, if◌then◌else◌};
+ghost use Rattle.std.specs.Prelude.{◌≡◌, ◌+◌, ◌≤◌, ℕ, true, false, [], ◌∷◌, IfSome, int_lt, int_le, length, take, slice_get, option_map, if◌then◌else◌};
 ghost use Rattle.std.specs.List.Sorted.{IsPartitionPoint};
 ghost use Rattle.ec_entries.specs.Dependents.{AreInOrder, dependent_before, dependent_cmp, dependents_after, dependents_at, from_place, is_from};
 
@@ -8,6 +8,9 @@ use ec_blocks::Blocks;
 use ec_moment::Moment;
 use ec_terms::Slot;
 use std::cmp::Ordering;
+
+/// In place of a place to look at first: none.
+const ANYWHERE: usize = usize::MAX;
 
 /// How two dependents stand to each other.
 fn compare<T: Moment>(a: &Dependent<T>, b: &Dependent<T>) -> Ordering
@@ -69,13 +72,14 @@ fn count_before<T: Moment>(list: &Blocks<Dependent<T>>, at: T) -> usize
     )
 }
 
-/// How many dependents are up to a time and at it.
-fn count_up_to<T: Moment>(list: &Blocks<Dependent<T>>, at: T) -> usize
+/// How many dependents are up to a time and at it. `near` is a place to look at first.
+fn count_up_to<T: Moment>(list: &Blocks<Dependent<T>>, at: T, near: usize) -> usize
     requires { AreInOrder T.rank list.now.items }
     ensures within { result ≤ length list.now.items }
     ensures cut { IsPartitionPoint (λ dependent. int_le (T.rank dependent.at) (T.rank at) ≡ true) (λ dependent. int_le (T.rank dependent.at) (T.rank at) ≡ false) list.now.items result }
 {
-    list.partition_point(
+    list.partition_near(
+        near,
         |dependent| -> bool
             ensures { result ≡ int_le (T.rank dependent.now.at) (T.rank at) }
         { dependent.at.order(&at).is_le() },
@@ -88,11 +92,30 @@ pub(crate) fn run_after<T: Moment>(list: &Blocks<Dependent<T>>, at: T) -> &[Depe
     ensures run { result.now ≡ take (length result.now) (dependents_after T.rank (T.rank at) list.now.items) }
     ensures none { result.now ≡ [] → dependents_after T.rank (T.rank at) list.now.items ≡ [] }
 {
-    let place = count_up_to(list, at);
+    let place = count_up_to(list, at, ANYWHERE);
     if place < list.len() {
         list.run(place)
     } else {
         &[]
+    }
+}
+
+/// The dependents at a time, if they lie together in memory.
+pub(crate) fn run_at<T: Moment>(list: &Blocks<Dependent<T>>, at: T) -> Option<&[Dependent<T>]>
+    requires { AreInOrder T.rank list.now.items }
+    ensures { IfSome result (λ run. run.now ≡ dependents_at T.rank (T.rank at) list.now.items) }
+{
+    let before = count_before(list, at);
+    let up_to = count_up_to(list, at, before);
+    let count = up_to - before;
+    if count == 0 {
+        return Some(&[]);
+    }
+    let run = list.run(before);
+    if count <= run.len() {
+        Some(&run[..count])
+    } else {
+        None
     }
 }
 
@@ -102,7 +125,7 @@ pub(crate) fn nth_at<T: Moment>(list: &Blocks<Dependent<T>>, at: T, k: usize) ->
     ensures { result ≡ option_map (λ dependent. (dependent.slot, dependent.place)) (slice_get (dependents_at T.rank (T.rank at) list.now.items) k) }
 {
     let before = count_before(list, at);
-    let up_to = count_up_to(list, at);
+    let up_to = count_up_to(list, at, before);
     if k < up_to - before {
         let dependent = list.get(before + k);
         Some((dependent.slot, dependent.place))

@@ -5,21 +5,22 @@ use Rattle.std.specs.List.{list_all, last_or, remove}
 use Rattle.std.specs.List.Sorted.{IsPartitionPoint}
 use Rattle.std.specs.Ordering.{int_eq}
 use Rattle.std.proofs.lemmas.Bool.{cases_Bool}
-use Rattle.std.proofs.lemmas.List.{nil_from_length}
+use Rattle.std.proofs.lemmas.List.{drop_all, nil_from_length}
 use Rattle.std.proofs.lemmas.Option.{slice_get_within, get_or_from_slice_get}
 use Rattle.std.proofs.lemmas.List.Elements.{filter_agree}
+use Rattle.ec_lists.proofs.Finds.{find-none}
 use Rattle.ec_lists.proofs.Filters.{filter-map, filter-none, filter-not_any, length-filter_le}
 use Rattle.ec_lists.proofs.Integers.{int_eq-neither, int_eq-not_lt, int_lt-behind, int_lt-not_after}
 use Rattle.ec_lists.proofs.Tests.{list_all-weaker, list_any-none}
 use Rattle.ec_axioms.specs.Marks.{PlainMark, last_mark_before}
 use Rattle.ec_rows.specs.declared.mark.Mark.{Mark}
 use Rattle.ec_rows.specs.Ordered.{is_ascending, by_time}
-use Rattle.ec_rows.specs.Marks.{IsMarkRow, mark_before, marks_before}
+use Rattle.ec_rows.specs.Marks.{IsMarkRow, mark_at, mark_before, marks_after, marks_before}
 use Rattle.ec_rows.specs.PlainMarks.{plain_mark, plain_marks}
-use Rattle.ec_rows.proofs.OrderedLemmas.{is_at, ascending-first, ascending-rest, filter-not_at}
-use Rattle.ec_rows.proofs.TimedLemmas.{IsPlace-by_time, IsFreeAt-end, IsFreeAt-other, has_member-free}
+use Rattle.ec_rows.proofs.OrderedLemmas.{is_at, ascending-first, ascending-rest, filter-not_at, find-at_cut}
+use Rattle.ec_rows.proofs.TimedLemmas.{IsPlace-by_time, IsFreeAt-end, IsFreeAt-other, before-not_at, drop-after_at, drop-after_free, has_member-free}
 use Rattle.ec_points.specs.Changes.{without_mark}
-use Rattle.ec_points.proofs.Lists.{IsPartitionPoint-from_take, last_or-take}
+use Rattle.ec_points.proofs.Lists.{IsPartitionPoint-from_take, last_or-take, slice_get-dropped}
 
 -- ---- the marks before a time stand in front
 
@@ -108,3 +109,44 @@ module _ {T : Type 0} (rank : T → ℤ) (t : ℤ) (marks : List (Mark T)) where
         filter-not_any (λ m. int_eq (rank m.at) t) marks
         (has_member-free rank time_of t marks i row.ascending cut
         (IsFreeAt-other rank time_of t marks i mark (sym (get_or_from_slice_get marks i mark mark read)) other))
+
+    -- ---- what stands at the place and behind it
+
+    -- the mark at t is found, and the first behind t follows it
+    pub mark_at-here : (mark : Mark T) → slice_get marks i ≡ Some mark → int_eq (rank mark.at) t ≡ true → Some mark ≡ mark_at rank t marks
+    mark_at-here mark read here =
+        sym (find-at_cut (λ (m : Mark T). int_lt (rank m.at) t) (λ m. int_eq (rank m.at) t) (λ m. before-not_at (rank m.at) t) marks i mark cut (slice_get_within marks i mark read)
+        (sym (get_or_from_slice_get marks i mark mark read)) here)
+
+    pub after-here : (mark : Mark T) → slice_get marks i ≡ Some mark → int_eq (rank mark.at) t ≡ true → slice_get marks (i + 1) ≡ slice_get (marks_after rank t marks) 0
+    after-here mark read here =
+        ap (slice_get marks) (let e : i + 1 ≡ i + 1 + 0 = omega arith in e)
+        ∙ sym (slice_get-dropped marks (i + 1) 0)
+        ∙ ap (λ ms. slice_get ms 0) (drop-after_at rank time_of t marks i mark row.ascending cut (slice_get_within marks i mark read) (sym (get_or_from_slice_get marks i mark mark read)) here)
+
+    -- where another mark stands there, none is at t, and that one is the first behind t
+    pub mark_at-other : (mark : Mark T) → slice_get marks i ≡ Some mark → int_eq (rank mark.at) t ≡ false → None ≡ mark_at rank t marks
+    mark_at-other mark read other =
+        sym (find-none (λ (m : Mark T). int_eq (rank m.at) t) marks
+        (has_member-free rank time_of t marks i row.ascending cut (IsFreeAt-other rank time_of t marks i mark (sym (get_or_from_slice_get marks i mark mark read)) other)))
+
+    pub after-other : (mark : Mark T) → slice_get marks i ≡ Some mark → int_eq (rank mark.at) t ≡ false → Some mark ≡ slice_get (marks_after rank t marks) 0
+    after-other mark read other =
+        sym read
+        ∙ ap (slice_get marks) (let e : i ≡ i + 0 = omega arith in e)
+        ∙ sym (slice_get-dropped marks i 0)
+        ∙ ap (λ ms. slice_get ms 0)
+        (drop-after_free rank time_of t marks i row.ascending cut (IsFreeAt-other rank time_of t marks i mark (sym (get_or_from_slice_get marks i mark mark read)) other))
+
+    -- where the row ends there, none is at t or behind
+    pub mark_at-end : length marks ≤ i → None ≡ mark_at rank t marks
+    mark_at-end end =
+        let within = length-filter_le (λ (m : Mark T). int_lt (rank m.at) t) marks in
+        sym (find-none (λ (m : Mark T). int_eq (rank m.at) t) marks
+        (has_member-free rank time_of t marks i row.ascending cut (IsFreeAt-end rank time_of t marks i (omega (arith, within, count)))))
+
+    pub after-end : length marks ≤ i → None ≡ slice_get (marks_after rank t marks) 0
+    after-end end =
+        let within = length-filter_le (λ (m : Mark T). int_lt (rank m.at) t) marks in
+        sym (ap (λ ms. slice_get ms 0)
+        (sym (drop-after_free rank time_of t marks i row.ascending cut (IsFreeAt-end rank time_of t marks i (omega (arith, within, count)))) ∙ drop_all i marks end))

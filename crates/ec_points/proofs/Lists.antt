@@ -1,5 +1,5 @@
 -- Facts on lists that rows and changes rest on.
-use Rattle.std.proofs.Common.{◌≡◌, ℕ, ◌≤◌, ◌<◌, zero, suc, Bool, true, false, List, [], ◌∷◌, length, map, filter, take, drop, get_or, Option, Some, ap, ◌∙◌, ⊎_elim, arith}
+use Rattle.std.proofs.Common.{◌≡◌, ℕ, ◌+◌, ◌-◌, ◌≤◌, ◌<◌, zero, suc, Bool, true, false, List, [], ◌∷◌, length, map, filter, take, drop, get_or, Option, Some, refl, sym, ap, ◌∙◌, ⊎_elim, arith}
 use Rattle.std.specs.Prelude.{slice_get}
 use Rattle.std.specs.List.{list_all, last_or}
 use Rattle.std.specs.List.Sorted.{IsPartitionPoint}
@@ -61,3 +61,34 @@ IsPartitionPoint-from_take {X} p (x ∷ xs) (suc i) within is =
     fails : IsPartitionPoint (λ y. p y ≡ true) (λ y. p y ≡ false) xs i → (k : ℕ) (d : X) → suc i ≤ k → k < length (x ∷ xs) → p (get_or (x ∷ xs) k d) ≡ false
     fails ih zero d low high = absurd (omega arith)
     fails ih (suc k) d low high = ih.1 k d (omega arith) (omega arith)
+
+-- ---- members of a run
+
+-- the members behind a place
+pub slice_get-dropped : {X : Type 0} (xs : List X) (j k : ℕ) → slice_get (drop j xs) k ≡ slice_get xs (j + k)
+slice_get-dropped xs zero k = ap (slice_get xs) (let e : k ≡ zero + k = omega arith in e)
+slice_get-dropped [] (suc j) k = refl
+slice_get-dropped (x ∷ xs) (suc j) k = slice_get-dropped xs j k ∙ ap (slice_get (x ∷ xs)) (let e : suc (j + k) ≡ suc j + k = omega arith in e)
+
+-- the first members
+slice_get-taken : {X : Type 0} (xs : List X) (n k : ℕ) → k < n → slice_get (take n xs) k ≡ slice_get xs k
+slice_get-taken xs zero k below = absurd (omega arith)
+slice_get-taken [] (suc n) k below = refl
+slice_get-taken (x ∷ xs) (suc n) zero below = refl
+slice_get-taken (x ∷ xs) (suc n) (suc k) below = slice_get-taken xs n k (omega arith)
+
+slice_get-read : {X : Type 0} (xs : List X) (k : ℕ) (d : X) → k < length xs → slice_get xs k ≡ Some (get_or xs k d)
+slice_get-read [] k d within = absurd (omega arith)
+slice_get-read (x ∷ xs) zero d within = refl
+slice_get-read (x ∷ xs) (suc k) d within = slice_get-read xs k d (omega arith)
+
+-- a member of a run is the one at its place
+pub slice_get-in_run : {X : Type 0} (xs run : List X) (from i : ℕ) (x : X) → run ≡ take (length run) (drop from xs) → from ≤ i → i - from < length run
+    → x ≡ get_or run (i - from) x → slice_get xs i ≡ Some x
+slice_get-in_run xs run from i x is behind within at =
+    ap (slice_get xs) (let e : i ≡ from + (i - from) = omega arith in e)
+    ∙ sym (slice_get-dropped xs from (i - from))
+    ∙ sym (slice_get-taken (drop from xs) (length run) (i - from) within)
+    ∙ sym (ap (λ ys. slice_get ys (i - from)) is)
+    ∙ slice_get-read run (i - from) x within
+    ∙ ap Some (sym at)

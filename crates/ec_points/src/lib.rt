@@ -6,6 +6,7 @@ mod clashes;
 mod laws;
 mod noted;
 mod points;
+mod reading;
 mod row;
 mod rows;
 #[cfg(test)]
@@ -18,3 +19,4 @@ pub use laws::{
     changes_are_made, currency_is_of_the_past, past_is_known_by_times, points_tell_currency,
 };
 pub use points::Points;
+pub use reading::Reading;

@@ -1,16 +1,17 @@
-ghost use Rattle.std.specs.Prelude.{◌≡◌, ◌≢◌, ℕ, ℤ, ◌+◌, ◌≤◌, ◌++◌, ◌∷◌, [], false, IsTrue, IfOk, IfSome, IfNone, OnOk, OnErr, Some, None, int_lt, option_map};
+ghost use Rattle.std.specs.Prelude.{◌≡◌, ◌≢◌, ℕ, ℤ, ◌+◌, ◌≤◌, ◌++◌, ◌∷◌, [], false, IsTrue, IfOk, IfSome, IfNone, OnOk, OnErr, Some, None, int_lt, option_map, slice_get};
 ghost use Rattle.ec_axioms.specs.Marks.{last_mark_before};
 ghost use Rattle.ec_numbered.specs.PropSet.{are_ascending, has_number};
 ghost use Rattle.ec_points.specs.Changes.{changed, count_of as changes_of, growth_of};
 ghost use Rattle.ec_points.specs.Clashes.{clashes_at, is_behind, is_clash, new_clashes, some_clash_at};
 ghost use Rattle.ec_points.specs.SeenRows.{IsGrown};
 ghost use Rattle.ec_points.specs.Table.{has_row, is_current_at, is_initial_at, marks_at, room_at, row_at, row_of};
-ghost use Rattle.ec_rows.specs.Marks.{are_before, is_counted, mark_at};
+ghost use Rattle.ec_rows.specs.Marks.{IsMarkRow, are_before, is_counted, mark_at, marks_after};
 ghost use Rattle.ec_rows.specs.PlainMarks.{plain_mark, plain_marks};
 
 use crate::change::MarkChange;
 use crate::clashes::Clashes;
 use crate::noted::{forget, note_changes};
+use crate::reading::{Reading, read_row};
 use crate::row::last_mark;
 use crate::rows::{change_rows, clear_in, empty_rows, push_in, reserve_in};
 use ec_axioms::Current;
@@ -97,6 +98,25 @@ impl<T: Moment, M: MarkRow<T>> Points<T, M> {
         ensures { result ≡ mark_at T.rank (T.rank at) (marks_at p.0 self.now) }
     {
         self.row(p)?.mark_at(at)
+    }
+
+    /// What the marks of a property say at a time, by one search. `near` is a place in its row to look at first; it does not
+    /// change the answer.
+    pub fn read(&self, p: PropId, at: T, near: usize) -> Reading<T>
+        ensures mark { result.mark ≡ mark_at T.rank (T.rank at) (marks_at p.0 self.now) }
+        ensures current { result.is_current ≡ is_current_at T.rank self.now p.0 (T.rank at) }
+        ensures next { result.next ≡ slice_get (marks_after T.rank (T.rank at) (marks_at p.0 self.now)) 0 }
+        ensures row { IsMarkRow T.rank (marks_at p.0 self.now) }
+    {
+        let initial = self.initial(p);
+        match self.row(p) {
+            Some(row) => read_row(row, at, near, initial),
+            None => Reading {
+                mark: None,
+                is_current: initial,
+                next: None,
+            },
+        }
     }
 
     /// The next time, behind one or the first of all, at which some property has a mark that both initiates and

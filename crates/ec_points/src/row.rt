@@ -23,7 +23,7 @@ pub(crate) fn last_mark<T: Moment, M: MarkRow<T>>(row: &M, at: T) -> Option<Mark
 }
 
 /// Whether a mark is at a time.
-fn is_at<T: Moment>(mark: Mark<T>, at: T) -> bool
+pub(crate) fn is_at<T: Moment>(mark: Mark<T>, at: T) -> bool
     ensures { result ≡ int_eq (T.rank mark.at) (T.rank at) }
 {
     mark.at.order(&at).is_eq()

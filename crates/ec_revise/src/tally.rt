@@ -11,8 +11,8 @@ ghost use Rattle.ec_revise.specs.TurnCounts.{CountsEach, CountsTurn, IsTallyAt, 
 use crate::settled::{Counts, Tallied};
 use crate::turn::Turn;
 use ec_exclusive::Neighbours;
+use ec_maps::SmallMap;
 use ec_terms::{Kind, NoMemory, PropId};
-use indexmap::IndexMap;
 use std::alloc::Global;
 use std::marker::Model;
 
@@ -27,7 +27,7 @@ pub enum Part {
 /// What is tallied of the turns at one instant, for each property that they count for.
 #[derive(Drop)]
 pub struct Tally {
-    rows: IndexMap<usize, Tallied>,
+    rows: SmallMap<usize, Tallied>,
 }
 
 impl Model for Tally {
@@ -36,7 +36,7 @@ impl Model for Tally {
 
     ghost Value = { List (ℕ × Tallied) };
 
-    ghost view = { λ tally. tally.rows.entries };
+    ghost view = { λ tally. tally.rows };
 }
 
 /// The counts with one count one more.
@@ -92,7 +92,7 @@ impl Tally {
         ensures { result ≡ [] }
     {
         Tally {
-            rows: IndexMap::new(alloc),
+            rows: SmallMap::new(alloc),
         }
     }
 
@@ -100,8 +100,8 @@ impl Tally {
     pub fn get(&self, p: PropId) -> Tallied
         ensures { result ≡ tallied_at p self.now }
     {
-        match self.rows.get(&p.0) {
-            Some(tallied) => *tallied,
+        match self.rows.get(p.0) {
+            Some(tallied) => tallied,
             None => Tallied {
                 up: Counts {
                     inits: 0,
@@ -129,7 +129,7 @@ impl Tally {
     pub fn is_empty(&self) -> bool
         ensures { IsTrue result ↔ (self.now ≡ []) }
     {
-        self.rows.is_empty()
+        self.rows.len() == 0
     }
 
     /// The property at a place of the tally, and what is tallied of it.
@@ -137,10 +137,15 @@ impl Tally {
         requires { i < length self.now }
         ensures { slice_get self.now i ≡ Some (result.0.0, result.1) }
     {
-        match self.rows.get_index(i) {
-            Some((n, tallied)) => (PropId(*n), *tallied),
-            None => unreachable!(),
-        }
+        let (n, tallied) = self.rows.row(i);
+        (PropId(n), tallied)
+    }
+
+    /// Takes all properties out. Their room is kept.
+    pub fn clear(&mut self)
+        ensures { self.new ≡ [] }
+    {
+        self.rows.clear();
     }
 
     /// Takes a property into the tally, with nothing more counted. `Err`: memory ran out.

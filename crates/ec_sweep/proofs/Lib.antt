@@ -39,6 +39,8 @@ pub mod HitEffects
 pub mod HitEntries
 pub mod HitLemmas
 pub mod HitTurns
+pub mod NotedHits
+pub mod Oks
 pub mod NowActive
 pub mod SameTurns
 pub mod TimedRuns

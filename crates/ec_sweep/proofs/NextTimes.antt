@@ -16,8 +16,9 @@ use Rattle.ec_entries.specs.Dependents.{AreDependents, dependent_at, dependents_
 use Rattle.ec_rows.specs.declared.mark.Mark.{Mark}
 use Rattle.ec_rows.specs.Marks.{IsMarkRow, has_mark, mark_before, marks_after}
 use Rattle.ec_rows.specs.Ordered.{is_ascending}
-use Rattle.ec_rows.proofs.OrderedLemmas.{ascending-first}
-use Rattle.ec_sweep.specs.Settling.{IsReadAt, Slots}
+use Rattle.ec_points.specs.Table.{PointTable, marks_at}
+use Rattle.ec_rows.proofs.OrderedLemmas.{ascending-first, is_ascending-filter}
+use Rattle.ec_sweep.specs.Settling.{IsNextMark, IsReadAt, Slots}
 
 -- where the earlier of two is nothing, both are
 pub earlier-none : {T : Type 0} (first second result : Option T) → IfNone result ((first ≡ None) × (second ≡ None)) → result ≡ None → (first ≡ None) × (second ≡ None)
@@ -47,21 +48,21 @@ module _ {T : Type 0} (rank : T → ℤ) (t : ℤ) where
       )
 
   -- where no mark is behind t, none is at any later time
-  pub no_mark-after : (marks : List (Mark T)) → marks_after rank t marks ≡ [] → (u : ℤ) → t <ℤ u → IsTrue (has_mark rank u marks) → ⊥
+  no_mark-after : (marks : List (Mark T)) → marks_after rank t marks ≡ [] → (u : ℤ) → t <ℤ u → IsTrue (has_mark rank u marks) → ⊥
   no_mark-after marks none u later has = let found = mark-after marks u later has in subst (λ ms. IsMember ms found.0) none found.1
 
-  module _ (marks : List (Mark T)) (i : ℕ) (mark : Mark T) (row : IsMarkRow rank marks) (cut : marks_after rank t marks ≡ drop i marks) (there : slice_get marks i ≡ Some mark) where
-    front : marks_after rank t marks ≡ mark ∷ drop (suc i) marks
-    front = cut ∙ drop-slice_get marks i mark there
+  module _ (marks : List (Mark T)) (mark : Mark T) (row : IsMarkRow rank marks) (first : slice_get (marks_after rank t marks) 0 ≡ Some mark) where
+    front : marks_after rank t marks ≡ mark ∷ drop 1 (marks_after rank t marks)
+    front = drop-slice_get (marks_after rank t marks) 0 mark first
 
     -- the first mark behind t is behind it, and is a mark
-    pub first_mark-is : (t <ℤ rank mark.at) × IsTrue (has_mark rank (rank mark.at) marks)
+    first_mark-is : (t <ℤ rank mark.at) × IsTrue (has_mark rank (rank mark.at) marks)
     first_mark-is =
         let member = IsMember-from_filter (λ (m : Mark T). int_lt t (rank m.at)) marks mark (subst (λ ms. IsMember ms mark) (sym front) (inl refl)) in
         (int_lt-is t (rank mark.at) member.1, member-list_any (λ (m : Mark T). int_eq (rank m.at) (rank mark.at)) marks mark member.0 (int_eq-same (rank mark.at)))
 
     -- and no other is earlier
-    pub first_mark-least : (u : ℤ) → t <ℤ u → IsTrue (has_mark rank u marks) → rank mark.at ≤ℤ u
+    first_mark-least : (u : ℤ) → t <ℤ u → IsTrue (has_mark rank u marks) → rank mark.at ≤ℤ u
     first_mark-least u later has =
         let found = mark-after marks u later has in
         let time = found.2 in
@@ -70,11 +71,31 @@ module _ {T : Type 0} (rank : T → ℤ) (t : ℤ) where
         (λ behind.
         let before =
         int_lt-is (rank mark.at) (rank found.0.at)
-        (list_all-member (mark_before rank mark) (drop (suc i) marks) found.0
-        (ascending-first (mark_before rank) mark (drop (suc i) marks)
-        (subst (λ ms. is_ascending (mark_before rank) ms ≡ true) (drop-slice_get marks i mark there) (is_ascending-drop (mark_before rank) i marks row.ascending))) behind) in
+        (list_all-member (mark_before rank mark) (drop 1 (marks_after rank t marks)) found.0
+        (ascending-first (mark_before rank) mark (drop 1 (marks_after rank t marks))
+        (subst (λ ms. is_ascending (mark_before rank) ms ≡ true) front (is_ascending-filter (mark_before rank) (λ (m : Mark T). int_lt t (rank m.at)) marks row.ascending))) behind) in
         omega (arith, ints))
         (subst (λ ms. IsMember ms found.0) front found.1)
+
+  -- the first of the marks behind t is at the next time
+  pub IsNextMark-first : (points : PointTable T) (n : ℕ) → IsMarkRow rank (marks_at n points) → (first : Option (Mark T)) (next : Option T)
+      → first ≡ slice_get (marks_after rank t (marks_at n points)) 0 → next ≡ option_map (λ m. m.at) first → IsNextMark rank points n t next
+  IsNextMark-first points n row None None is time = record {
+    some = tt;
+    least = λ u later has. absurd (no_mark-after (marks_at n points) (none-first (marks_after rank t (marks_at n points)) (sym is)) u later has);
+  }
+    where
+      none-first : (ms : List (Mark T)) → slice_get ms 0 ≡ None → ms ≡ []
+      none-first [] none = refl
+      none-first (m ∷ ms) none = absurd (none-some m (sym none))
+  IsNextMark-first points n row None (Some at) is time = absurd (none-some at (sym time))
+  IsNextMark-first points n row (Some mark) None is time = absurd (none-some mark.at time)
+  IsNextMark-first points n row (Some mark) (Some at) is time =
+      let same : at ≡ mark.at = cc in
+      record {
+        some = subst (λ (s : T). (t <ℤ rank s) × IsTrue (has_mark rank (rank s) (marks_at n points))) (sym same) (first_mark-is (marks_at n points) mark row (sym is));
+        least = λ u later has. subst (λ (s : T). rank s ≤ℤ u) (sym same) (first_mark-least (marks_at n points) mark row (sym is) u later has);
+      }
 
   -- ---- entries that read
 

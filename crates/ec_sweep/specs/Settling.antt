@@ -1,6 +1,6 @@
 -- What is noted where one property is settled at an instant: its new mark, its currency behind the instant, and when it is due
 -- again. All goes by the number of the property here.
-use Rattle.std.specs.Prelude.{◌≡◌, ◌⊎◌, ℕ, ◌==◌, Bool, not, ◌&&◌, nat_lt, if◌then◌else◌, List, [], ◌∷◌, ◌++◌, ℤ, ◌<ℤ◌, ◌≤ℤ◌, filter, Option, Some, None, unwrap_or, is_some, IsTrue}
+use Rattle.std.specs.Prelude.{◌≡◌, ◌⊎◌, ℕ, ◌==◌, Bool, not, ◌&&◌, nat_lt, if◌then◌else◌, List, [], ◌∷◌, ◌++◌, ℤ, ◌<ℤ◌, ◌≤ℤ◌, filter, Option, Some, None, unwrap_or, is_some, IsTrue, IfSome, IsSomeAnd}
 use Rattle.std.specs.Option.{option_map_or}
 use Rattle.ec_terms.specs.declared.ids.PropId.{PropId}
 use Rattle.ec_agenda.specs.Due.{Due, has_due}
@@ -36,6 +36,11 @@ mark_or_zeros at mark = record {
   terms = option_map_or (λ m. m.terms) mark 0;
   clashes = option_map_or (λ m. m.clashes) mark 0;
 }
+
+-- The time of the first mark of the property of a number behind t, if it has one there.
+pub record IsNextMark {T : Type 0} (rank : T → ℤ) (points : PointTable T) (n : ℕ) (t : ℤ) (next : Option T) : Type 0 where
+  pub some : IfSome next (λ time. (t <ℤ rank time) × IsTrue (has_mark rank (rank time) (marks_at n points)))
+  pub least : (u : ℤ) → t <ℤ u → IsTrue (has_mark rank u (marks_at n points)) → IsSomeAnd next (λ time. rank time ≤ℤ u)
 
 -- the old mark of the property of a number at a time
 abbrev pub old_mark : {T : Type 0} → (T → ℤ) → PointTable T → T → ℕ → Mark T

@@ -3,11 +3,11 @@ ghost use Rattle.std.specs.Prelude.{◌≡◌, ◌==◌, ℕ, [], OnOk, OnErr, i
 ghost use Rattle.ec_sweep.specs.State.{dirty_at, is_current_over};
 
 use ec_axioms::Current;
+use ec_maps::SmallMap;
 use ec_moment::Moment;
 use ec_points::Points;
 use ec_rows::MarkRow;
 use ec_terms::{NoMemory, PropId};
-use indexmap::IndexMap;
 use std::alloc::Global;
 use std::marker::Model;
 
@@ -15,7 +15,7 @@ use std::marker::Model;
 /// the new one.
 #[derive(Drop)]
 pub struct Dirty {
-    rows: IndexMap<usize, bool>,
+    rows: SmallMap<usize, bool>,
 }
 
 impl Model for Dirty {
@@ -23,7 +23,7 @@ impl Model for Dirty {
 
     ghost Value = { List (ℕ × Bool) };
 
-    ghost view = { λ dirty. dirty.rows.entries };
+    ghost view = { λ dirty. dirty.rows };
 }
 
 impl Dirty {
@@ -32,7 +32,7 @@ impl Dirty {
         ensures { result ≡ [] }
     {
         Dirty {
-            rows: IndexMap::new(alloc),
+            rows: SmallMap::new(alloc),
         }
     }
 
@@ -40,7 +40,7 @@ impl Dirty {
     pub fn get(&self, p: PropId) -> Option<bool>
         ensures { result ≡ dirty_at p.0 self.now }
     {
-        self.rows.get(&p.0).copied()
+        self.rows.get(p.0)
     }
 
     /// Makes a property dirty with its currency in the new list, or clean. `Err`: memory ran out, and all is as it was.
@@ -53,7 +53,7 @@ impl Dirty {
                 self.rows.insert(p.0, new)?;
             }
             None => {
-                let _ = self.rows.swap_remove(&p.0);
+                self.rows.remove(p.0);
             }
         }
         Ok(())

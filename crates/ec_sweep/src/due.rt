@@ -3,10 +3,10 @@ ghost use Rattle.std.specs.Prelude.{◌≡◌, ◌≤ℤ◌, ℕ, ℤ, false, If
 ghost use Rattle.ec_agenda.specs.Due.{has_due};
 ghost use Rattle.ec_sweep.specs.Visiting.{AreDueAt, IsAgendaBehind};
 
+use crate::scratch::Scratch;
 use ec_agenda::Agenda;
 use ec_moment::Moment;
 use ec_terms::{NoMemory, PropId};
-use std::alloc::Global;
 
 /// Whether a time comes before another.
 fn is_before<T: Moment>(at: T, other: T) -> bool
@@ -30,7 +30,7 @@ fn is_first_by<T: Moment>(agenda: &Agenda<T>, at: T) -> bool
 /// Takes out of the agenda what is due at the first of its times, which is given. `Err`: memory ran out, and what was taken out
 /// is of no further use.
 pub(crate) fn take_due<T: Moment>(
-    alloc: Global,
+    scratch: &mut Scratch,
     agenda: &mut Agenda<T>,
     at: T,
 ) -> Result<Vec<PropId>, NoMemory>
@@ -38,7 +38,7 @@ pub(crate) fn take_due<T: Moment>(
     ensures due { IfOk result (λ due. AreDueAt T.rank agenda.old (T.rank at) due.items) }
     ensures behind { IfOk result (λ due. IsAgendaBehind T.rank agenda.old (T.rank at) agenda.new) }
 {
-    let mut due = Vec::new(alloc);
+    let mut due = scratch.take_due();
     while is_first_by(agenda, at) {
         if let Some((_, p)) = agenda.pop() {
             due.push(p)?;

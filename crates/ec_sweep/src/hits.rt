@@ -1,15 +1,17 @@
 //! Which entries of the events that stay are looked at: those that read a property whose currency may differ.
 ghost use Rattle.std.specs.Prelude.{◌≡◌, ◌<◌, ◌&&◌, ◌||◌, ℕ, [], not, length, slice_get, Some, IfOk, OnOk};
-ghost use Rattle.std.specs.List.{IsDistinct};
+ghost use Rattle.std.specs.List.{IsDistinct, list_any};
+ghost use Rattle.ec_entries.specs.Dependents.{is_from};
 ghost use Rattle.ec_revise.specs.Change.{has_slot};
 ghost use Rattle.ec_sweep.specs.Hits.{AreHits, depends_at, has_hit, is_hit, same_hit};
 
 use crate::dirty::Dirty;
-use ec_entries::Entries;
+use crate::scratch::Scratch;
+use ec_entries::{Dependent, Entries};
+use ec_maps::SmallMap;
 use ec_moment::Moment;
 use ec_revise::Removal;
 use ec_terms::{NoMemory, PropId, Slot};
-use indexmap::IndexSet;
 use std::alloc::Global;
 use std::marker::Model;
 
@@ -23,26 +25,34 @@ pub(crate) struct Hit {
 /// The entries to look at, each once.
 #[derive(Drop)]
 pub(crate) struct Hits {
-    items: IndexSet<Hit>,
+    items: SmallMap<Hit, ()>,
 }
 
 impl Model for Hits {
     ghost use Rattle.std.specs.Prelude.{List};
+    ghost use Rattle.std.specs.Map.{keys_of};
     ghost use Rattle.ec_sweep.specs.declared.hits.Hit.{Hit};
 
     ghost Value = { List Hit };
 
-    ghost view = { λ hits. hits.items.keys };
+    ghost view = { λ hits. keys_of hits.items };
 }
 
 impl Hits {
     /// None. It takes no memory.
-    fn new(alloc: Global) -> Hits
+    pub(crate) fn new(alloc: Global) -> Hits
         ensures { result ≡ [] }
     {
         Hits {
-            items: IndexSet::new(alloc),
+            items: SmallMap::new(alloc),
         }
+    }
+
+    /// Takes all out. Their room is kept.
+    pub(crate) fn clear(&mut self)
+        ensures { self.new ≡ [] }
+    {
+        self.items.clear();
     }
 
     /// How many there are.
@@ -57,10 +67,7 @@ impl Hits {
         requires { i < length self.now }
         ensures { slice_get self.now i ≡ Some result }
     {
-        match self.items.get_index(i) {
-            Some(hit) => *hit,
-            None => unreachable!(),
-        }
+        self.items.row(i).0
     }
 
     /// Takes one in, unless it is there. `Err`: memory ran out.
@@ -68,7 +75,8 @@ impl Hits {
         ensures noted { OnOk result ((slot place : ℕ) → has_hit slot place self.new ≡ (is_hit slot place hit || has_hit slot place self.old)) }
         ensures once { OnOk result (IsDistinct same_hit self.new) }
     {
-        self.items.insert(hit)?;
+        self.items.insert(hit, ())?;
+        let _ = self.items.len(); // no hit stands there twice
         Ok(())
     }
 }
@@ -80,8 +88,28 @@ fn is_removed<T: Moment>(removals: &[Removal<T>], slot: Slot) -> bool
     removals.iter().any(|removal| removal.slot.0 == slot.0)
 }
 
-/// Takes in the dependents of a property at a time, but for those of events that are to be taken out.
-fn gather<T: Moment>(
+/// Takes in some dependents, but for those of events that are to be taken out.
+fn gather_run<T: Moment>(
+    run: &[Dependent<T>],
+    removals: &[Removal<T>],
+    hits: &mut Hits,
+) -> Result<(), NoMemory>
+    ensures hits { OnOk result ((slot place : ℕ) → has_hit slot place hits.new ≡ (has_hit slot place hits.old || (not (has_slot (record { 0 = slot }) removals.now) && list_any (is_from slot place) run.now))) }
+    ensures once { IsDistinct same_hit hits.old → OnOk result (IsDistinct same_hit hits.new) }
+{
+    for dependent in run {
+        if !is_removed(removals, dependent.slot) {
+            hits.note(Hit {
+                slot: dependent.slot,
+                place: dependent.place,
+            })?;
+        }
+    }
+    Ok(())
+}
+
+/// Takes in the dependents of a property at a time one by one, but for those of events that are to be taken out.
+fn gather_each<T: Moment>(
     entries: &Entries<T>,
     p: PropId,
     at: T,
@@ -102,9 +130,26 @@ fn gather<T: Moment>(
     Err(NoMemory)
 }
 
+/// Takes in the dependents of a property at a time, but for those of events that are to be taken out.
+fn gather<T: Moment>(
+    entries: &Entries<T>,
+    p: PropId,
+    at: T,
+    removals: &[Removal<T>],
+    hits: &mut Hits,
+) -> Result<(), NoMemory>
+    ensures hits { OnOk result ((slot place : ℕ) → has_hit slot place hits.new ≡ (has_hit slot place hits.old || (not (has_slot (record { 0 = slot }) removals.now) && depends_at T.rank entries.now.slots (T.rank at) slot place p.0))) }
+    ensures once { IsDistinct same_hit hits.old → OnOk result (IsDistinct same_hit hits.new) }
+{
+    match entries.dependents_at(p, at) {
+        Some(run) => gather_run(run, removals, hits),
+        None => gather_each(entries, p, at, removals, hits),
+    }
+}
+
 /// The entries to look at in a visit: those that read a property which is dirty and due, of events that stay.
 pub(crate) fn hits_at<T: Moment>(
-    alloc: Global,
+    scratch: &mut Scratch,
     entries: &Entries<T>,
     dirty: &Dirty,
     due: &[PropId],
@@ -113,7 +158,7 @@ pub(crate) fn hits_at<T: Moment>(
 ) -> Result<Hits, NoMemory>
     ensures { IfOk result (λ hits. AreHits T.rank entries.now.slots (T.rank at) dirty.now due.now removals.now hits) }
 {
-    let mut hits = Hits::new(alloc);
+    let mut hits = scratch.take_hits();
     for p in due {
         if dirty.get(*p).is_some() {
             gather(entries, *p, at, removals, &mut hits)?;

@@ -13,6 +13,7 @@ mod planning;
 mod progress;
 mod rooms;
 mod runs;
+mod scratch;
 mod settle_all;
 mod settle_one;
 mod settle_rows;

@@ -13,6 +13,7 @@ use crate::dirty::{Dirty, Overlay};
 use crate::looking::{AtInstant, look_by_number};
 use crate::progress::Progress;
 use crate::runs::{between, count_added, count_removals};
+use crate::scratch::Scratch;
 use ec_axioms::Steps;
 use ec_delta::Looked;
 use ec_moment::Moment;
@@ -20,14 +21,13 @@ use ec_parts::Parts;
 use ec_revise::{Change, Turn};
 use ec_rows::{MarkRow, SpanRow, TimeRow};
 use ec_terms::{NoMemory, PropId};
-use std::alloc::Global;
 use std::sync::ledger::Ledger;
 
 /// Looks at the entries of one instant: evaluates those of the kept events that read a dirty property which is due, and those
 /// of the added events, and notes which are active in the new list. It tells what turned. `Err`: memory ran out, and what was
 /// noted is of no further use.
 pub(crate) fn look<T: Moment, M: MarkRow<T>, I: SpanRow<T>, X: TimeRow<T>, L: Ledger>(
-    alloc: Global,
+    scratch: &mut Scratch,
     parts: &Parts<T, M, I, X>,
     change: &Change<T>,
     dirty: &Dirty,
@@ -60,7 +60,7 @@ pub(crate) fn look<T: Moment, M: MarkRow<T>, I: SpanRow<T>, X: TimeRow<T>, L: Le
         dirty,
     };
     let turns = look_by_number(
-        alloc,
+        scratch,
         &parts.entries,
         at,
         &here,

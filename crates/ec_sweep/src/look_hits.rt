@@ -7,6 +7,7 @@ ghost use Rattle.ec_sweep.specs.Acting.{FlipsHits, WordsHit, entry_at, turn_at};
 ghost use Rattle.ec_sweep.specs.Words.{flip_of};
 
 use crate::hits::{Hit, Hits};
+use crate::scratch::Scratch;
 use crate::words::{Words, has_bit};
 use ec_axioms::{Current, Steps};
 use ec_context::evaluate;
@@ -15,7 +16,6 @@ use ec_entries::Entries;
 use ec_moment::Moment;
 use ec_revise::Turn;
 use ec_terms::{NoMemory, Sequence};
-use std::alloc::Global;
 use std::sync::ledger::Ledger;
 
 /// Looks at one entry: notes whether it is active now, and its turn, if it was not so.
@@ -100,7 +100,7 @@ fn count(looked: &mut Looked, seen: usize, turns: &[Turn]) -> Result<(), NoMemor
 
 /// Looks at the entries that read a property which is dirty and due, and tells what turned of them.
 pub(crate) fn look_at_hits<T: Moment, C: Current<T>, L: Ledger>(
-    alloc: Global,
+    scratch: &mut Scratch,
     entries: &Entries<T>,
     hits: &Hits,
     at: T,
@@ -118,10 +118,11 @@ pub(crate) fn look_at_hits<T: Moment, C: Current<T>, L: Ledger>(
     ensures steps { OnOk result (steps.new ≡ steps.old + 2 * length hits.now) }
     ensures most { steps.new ≤ steps.old + 2 * length hits.now }
 {
-    let mut words = Words::new(alloc);
-    let mut turns = Vec::new(alloc);
+    let mut words = scratch.take_words();
+    let mut turns = scratch.take_turns();
     look_at_each(entries, hits, at, current, &mut words, &mut turns, steps)?;
     push_flips(&words, &mut looked.flips)?;
+    scratch.words = words;
     count(looked, hits.len(), turns.as_slice())?;
     Ok(turns)
 }

@@ -2,12 +2,11 @@
 ghost use Rattle.std.specs.Prelude.{◌≡◌, ◌⊎◌, ◌<ℤ◌, ◌≤ℤ◌, ℤ, None, IsTrue, IfNone, IfSome, IsSomeAnd};
 ghost use Rattle.ec_points.specs.Table.{marks_at};
 ghost use Rattle.ec_rows.specs.Marks.{has_mark};
-ghost use Rattle.ec_sweep.specs.Settling.{BearsAt, IsReadAt};
+ghost use Rattle.ec_sweep.specs.Settling.{BearsAt, IsNextMark, IsReadAt};
 
 use ec_entries::Entries;
 use ec_moment::Moment;
 use ec_parts::Parts;
-use ec_points::Points;
 use ec_rows::{MarkRow, SpanRow, TimeRow};
 use ec_terms::PropId;
 
@@ -36,16 +35,6 @@ pub(crate) fn earlier<T: Moment>(first: Option<T>, second: Option<T>) -> Option<
     }
 }
 
-/// The time of the first mark of a property behind a time.
-fn next_mark<T: Moment, M: MarkRow<T>>(points: &Points<T, M>, p: PropId, at: T) -> Option<T>
-    ensures some { IfSome result (λ next. (T.rank at <ℤ T.rank next) × IsTrue (has_mark T.rank (T.rank next) (marks_at p.0 points.now))) }
-    ensures least { (u : ℤ) → T.rank at <ℤ u → IsTrue (has_mark T.rank u (marks_at p.0 points.now)) → IsSomeAnd result (λ next. T.rank next ≤ℤ u) }
-{
-    let row = points.row(p)?;
-    let place = row.next_after(at)?;
-    Some(row.get(place).at)
-}
-
 /// The time of the first entry behind a time that reads a property.
 fn next_entry<T: Moment>(entries: &Entries<T>, p: PropId, at: T) -> Option<T>
     ensures some { IfSome result (λ next. (T.rank at <ℤ T.rank next) × IsReadAt T.rank entries.now.slots p.0 (T.rank next)) }
@@ -54,17 +43,17 @@ fn next_entry<T: Moment>(entries: &Entries<T>, p: PropId, at: T) -> Option<T>
     entries.next_dependent_after(p, at)
 }
 
-/// The next time behind one at which anything bears on a property. `None` exactly when nothing does.
+/// The next time behind one at which anything bears on a property, where the time of its next mark is known. `None` exactly when
+/// nothing does.
 pub(crate) fn next_time<T: Moment, M: MarkRow<T>, I: SpanRow<T>, X: TimeRow<T>>(
     parts: &Parts<T, M, I, X>,
     p: PropId,
     at: T,
+    next_mark: Option<T>,
 ) -> Option<T>
+    requires { IsNextMark T.rank parts.now.points p.0 (T.rank at) next_mark }
     ensures some { IfSome result (λ next. (T.rank at <ℤ T.rank next) × BearsAt T.rank parts.now.points parts.now.entries.slots p.0 (T.rank next)) }
     ensures least { (u : ℤ) → T.rank at <ℤ u → BearsAt T.rank parts.now.points parts.now.entries.slots p.0 u → IsSomeAnd result (λ next. T.rank next ≤ℤ u) }
 {
-    earlier(
-        next_mark(&parts.points, p, at),
-        next_entry(&parts.entries, p, at),
-    )
+    earlier(next_mark, next_entry(&parts.entries, p, at))
 }

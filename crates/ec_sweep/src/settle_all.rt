@@ -10,6 +10,7 @@ ghost use Rattle.ec_parts.specs.StandFor.{view_of};
 ghost use Rattle.ec_sweep.specs.Visiting.{CanSettle, CanSettleAt, HasSettled, settled_by};
 
 use crate::dirty::Dirty;
+use crate::scratch::Scratch;
 use crate::settle_rows::{settle_rows, tally_of};
 use ec_agenda::Agenda;
 use ec_delta::Planned;
@@ -18,13 +19,12 @@ use ec_parts::Parts;
 use ec_revise::Turn;
 use ec_rows::{MarkRow, SpanRow, TimeRow};
 use ec_terms::{NoMemory, PropId};
-use std::alloc::Global;
 
 /// Settles the properties that are due at an instant, and those for which something that turned there counts: plans the new
 /// mark of each, and keeps whether it is dirty behind the instant and when it is due again. `Err`: memory ran out, and what was
 /// planned is of no further use.
 pub(crate) fn settle_all<T: Moment, M: MarkRow<T>, I: SpanRow<T>, X: TimeRow<T>>(
-    alloc: Global,
+    scratch: &mut Scratch,
     parts: &Parts<T, M, I, X>,
     turns: &[Turn],
     due: &[PropId],
@@ -41,6 +41,8 @@ pub(crate) fn settle_all<T: Moment, M: MarkRow<T>, I: SpanRow<T>, X: TimeRow<T>>
 {
     let _ = parts.props.len();
     let _ = parts.store.len();
-    let tally = tally_of(alloc, &parts.neighbours, turns, due)?;
-    settle_rows(parts, &tally, at, dirty, agenda, planned)
+    let tally = tally_of(scratch, &parts.neighbours, turns, due)?;
+    let settled = settle_rows(parts, &tally, at, dirty, agenda, planned);
+    scratch.tally = tally;
+    settled
 }

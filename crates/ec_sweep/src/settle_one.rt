@@ -1,15 +1,14 @@
 //! The settling of one property at an instant.
-ghost use Rattle.std.specs.Prelude.{◌≡◌, ◌==◌, ◌<ℤ◌, ℕ, ℤ, false, OnOk};
+ghost use Rattle.std.specs.Prelude.{◌≡◌, ◌==◌, ◌<ℤ◌, ℕ, ℤ, false, OnOk, option_map, unwrap_or};
 ghost use Rattle.ec_points.specs.Changes.{has_change};
 ghost use Rattle.ec_rows.specs.Marks.{is_counted};
 ghost use Rattle.ec_revise.specs.Tallied.{HasRoomFor};
 ghost use Rattle.ec_sweep.specs.State.{dirty_at};
-ghost use Rattle.ec_sweep.specs.Settling.{AddsDue, BearsAt, IsDueWithin, LeavesNumber, PlansMark, SettlesNumber, currencies_at, old_mark, starts_of, touch_of};
+ghost use Rattle.ec_sweep.specs.Settling.{AddsDue, BearsAt, IsDueWithin, IsNextMark, LeavesNumber, PlansMark, SettlesNumber, currencies_at, mark_or_zeros, old_mark, starts_of, touch_of};
 
 use crate::dirty::Dirty;
 use crate::next_time::next_time;
 use ec_agenda::Agenda;
-use ec_axioms::Current;
 use ec_delta::{Planned, Touch};
 use ec_moment::Moment;
 use ec_parts::Parts;
@@ -18,11 +17,23 @@ use ec_revise::{Currencies, Settled, Tallied, settle};
 use ec_rows::{Mark, MarkRow, SpanRow, TimeRow};
 use ec_terms::{NoMemory, PropId};
 
-/// The old mark of a property at a time: three zeros, if it has none.
-fn old_mark<T: Moment, M: MarkRow<T>>(points: &Points<T, M>, p: PropId, at: T) -> Mark<T>
-    ensures { result ≡ old_mark T.rank points.now at p.0 }
+/// In place of a place to look at first: none.
+const ANYWHERE: usize = usize::MAX;
+
+/// What the old list has of a property at a time: its mark there, three zeros if it has none; its currencies there; and the time
+/// of its next mark.
+#[derive(Clone, Copy)]
+struct Old<T> {
+    mark: Mark<T>,
+    current: Currencies,
+    next: Option<T>,
+}
+
+/// The mark at a time: three zeros, if there is none.
+fn mark_or_zeros<T: Moment>(mark: Option<Mark<T>>, at: T) -> Mark<T>
+    ensures { result ≡ mark_or_zeros at mark }
 {
-    match points.mark_at(p, at) {
+    match mark {
         Some(mark) => Mark {
             at,
             inits: mark.inits,
@@ -38,19 +49,42 @@ fn old_mark<T: Moment, M: MarkRow<T>>(points: &Points<T, M>, p: PropId, at: T) -
     }
 }
 
-/// Whether a property is current at a time, in the old list and in the new one.
-fn currencies<T: Moment, M: MarkRow<T>>(
+/// Whether a property is current in the old list, and whether it is in the new one.
+fn currencies(dirty: &Dirty, p: PropId, in_old: bool) -> Currencies
+    ensures { result ≡ record { in_old = in_old; in_new = unwrap_or (dirty_at p.0 dirty.now) in_old } }
+{
+    Currencies {
+        in_old,
+        in_new: dirty.get(p).unwrap_or(in_old),
+    }
+}
+
+/// The time of a mark, if there is one.
+fn time_of<T: Moment>(mark: Option<Mark<T>>) -> Option<T>
+    ensures { result ≡ option_map (λ m. m.at) mark }
+{
+    match mark {
+        Some(mark) => Some(mark.at),
+        None => None,
+    }
+}
+
+/// Reads what the old list has of a property at a time, by one search.
+fn read_old<T: Moment, M: MarkRow<T>>(
     points: &Points<T, M>,
     dirty: &Dirty,
     p: PropId,
     at: T,
-) -> Currencies
-    ensures { result ≡ currencies_at T.rank points.now at p.0 (dirty_at p.0 dirty.now) }
+) -> Old<T>
+    ensures mark { result.mark ≡ old_mark T.rank points.now at p.0 }
+    ensures current { result.current ≡ currencies_at T.rank points.now at p.0 (dirty_at p.0 dirty.now) }
+    ensures next { IsNextMark T.rank points.now p.0 (T.rank at) result.next }
 {
-    let in_old = points.current(p, at);
-    Currencies {
-        in_old,
-        in_new: dirty.get(p).unwrap_or(in_old),
+    let here = points.read(p, at, ANYWHERE);
+    Old {
+        mark: mark_or_zeros(here.mark, at),
+        current: currencies(dirty, p, here.is_current),
+        next: time_of(here.next),
     }
 }
 
@@ -103,24 +137,29 @@ fn plan_mark<T: Moment>(
     if !settled.is_changed {
         return Ok(());
     }
-    planned.marks.push(p, settled.mark, 0)?;
+    planned.marks.push(p, settled.mark, ANYWHERE)?;
     if old.inits != settled.mark.inits {
-        planned.initiations.push(p, starts_of(&settled.mark), 0)?;
+        planned
+            .initiations
+            .push(p, starts_of(&settled.mark), ANYWHERE)?;
     }
     planned.touched.note(p, &touch_of(old, settled))
 }
 
-/// Makes a property due at the next time at which anything bears on it. `Err`: memory ran out.
+/// Makes a property due at the next time at which anything bears on it, where the time of its next mark is known. `Err`: memory
+/// ran out.
 fn make_due<T: Moment, M: MarkRow<T>, I: SpanRow<T>, X: TimeRow<T>>(
     parts: &Parts<T, M, I, X>,
     p: PropId,
     at: T,
+    next_mark: Option<T>,
     agenda: &mut Agenda<T>,
 ) -> Result<(), NoMemory>
+    requires { IsNextMark T.rank parts.now.points p.0 (T.rank at) next_mark }
     ensures adds { OnOk result (AddsDue T.rank parts.now.points parts.now.entries.slots (T.rank at) (λ n. p.0 == n) agenda.old agenda.new) }
     ensures due { OnOk result ((u : ℤ) → T.rank at <ℤ u → BearsAt T.rank parts.now.points parts.now.entries.slots p.0 u → IsDueWithin T.rank agenda.new p.0 (T.rank at) u) }
 {
-    if let Some(next) = next_time(parts, p, at) {
+    if let Some(next) = next_time(parts, p, at, next_mark) {
         agenda.add(next, p)?;
     }
     Ok(())
@@ -145,13 +184,12 @@ pub(crate) fn settle_one<T: Moment, M: MarkRow<T>, I: SpanRow<T>, X: TimeRow<T>>
         (record { dirty = dirty.old; agenda = agenda.old; planned = planned.old }) (record { dirty = dirty.new; agenda = agenda.new; planned = planned.new })) }
     ensures dues { OnOk result (AddsDue T.rank parts.now.points parts.now.entries.slots (T.rank at) (λ n. p.0 == n) agenda.old agenda.new) }
 {
-    let old = old_mark(&parts.points, p, at);
-    let current = currencies(&parts.points, dirty, p, at);
-    let settled = settle(&old, tallied, current);
-    plan_mark(planned, p, &old, &settled)?;
+    let old = read_old(&parts.points, dirty, p, at);
+    let settled = settle(&old.mark, tallied, old.current);
+    plan_mark(planned, p, &old.mark, &settled)?;
     dirty.set(p, settled.dirty)?;
     if settled.dirty.is_some() {
-        make_due(parts, p, at, agenda)?;
+        make_due(parts, p, at, old.next, agenda)?;
     }
     Ok(())
 }

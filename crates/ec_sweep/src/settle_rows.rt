@@ -9,6 +9,7 @@ ghost use Rattle.ec_revise.specs.TurnCounts.{IsTallyAt, counts_at, row_at, talli
 ghost use Rattle.ec_sweep.specs.Settling.{HaveRoom, SettlesRows};
 
 use crate::dirty::Dirty;
+use crate::scratch::Scratch;
 use crate::settle_one::settle_one;
 use ec_agenda::Agenda;
 use ec_delta::Planned;
@@ -18,11 +19,10 @@ use ec_parts::Parts;
 use ec_revise::{Tally, Turn};
 use ec_rows::{MarkRow, SpanRow, TimeRow};
 use ec_terms::{NoMemory, PropId};
-use std::alloc::Global;
 
 /// What turned, tallied for each property that it counts for, and nothing for the others that are due. `Err`: memory ran out.
 pub(crate) fn tally_of(
-    alloc: Global,
+    scratch: &mut Scratch,
     neighbours: &Neighbours,
     turns: &[Turn],
     due: &[PropId],
@@ -32,7 +32,7 @@ pub(crate) fn tally_of(
     ensures tallied { IfOk result (λ tally. (p : PropId) → IsTallyAt neighbours.now.rows turns.now p (tallied_at p tally)) }
     ensures rows { IfOk result (λ tally. (p : PropId) → is_some (row_at p.0 tally) ≡ (has_number p.0 due.now || list_any (counts_at neighbours.now.rows p) turns.now)) }
 {
-    let mut tally = Tally::new(alloc);
+    let mut tally = scratch.take_tally();
     tally.count_turns(turns, neighbours)?;
     for p in due {
         tally.note(*p)?;

@@ -14,6 +14,7 @@ use crate::due::take_due;
 use crate::look::look;
 use crate::next_time::earlier;
 use crate::progress::Progress;
+use crate::scratch::Scratch;
 use crate::settle_all::settle_all;
 use ec_agenda::Agenda;
 use ec_axioms::Steps;
@@ -76,7 +77,7 @@ impl<T: Moment> Sweep<T> {
     /// the sweep is of no further use.
     fn visit<M: MarkRow<T>, I: SpanRow<T>, X: TimeRow<T>, L: Ledger>(
         &mut self,
-        alloc: Global,
+        scratch: &mut Scratch,
         parts: &Parts<T, M, I, X>,
         change: &Change<T>,
         at: T,
@@ -93,9 +94,9 @@ impl<T: Moment> Sweep<T> {
         ensures steps { OnOk result (steps.new + steps_for change.now self.old.looked self.old.progress ≤ steps.old + steps_for change.now self.new.looked self.new.progress) }
     {
         let _ = (parts.props.len(), parts.store.len());
-        let due = take_due(alloc, &mut self.agenda, at)?;
+        let due = take_due(scratch, &mut self.agenda, at)?;
         let turns = look(
-            alloc,
+            scratch,
             parts,
             change,
             &self.dirty,
@@ -106,7 +107,7 @@ impl<T: Moment> Sweep<T> {
             steps,
         )?;
         settle_all(
-            alloc,
+            scratch,
             parts,
             &turns,
             &due,
@@ -115,6 +116,8 @@ impl<T: Moment> Sweep<T> {
             &mut self.agenda,
             &mut self.planned,
         )?;
+        scratch.due = due;
+        scratch.turns = turns;
         self.last = Some(at);
         Ok(())
     }
@@ -158,8 +161,9 @@ pub(crate) fn sweep_over<T: Moment, M: MarkRow<T>, I: SpanRow<T>, X: TimeRow<T>,
 {
     let _ = (parts.props.len(), parts.store.len());
     let mut sweep = Sweep::new(alloc);
+    let mut scratch = Scratch::new(alloc);
     while let Some(at) = sweep.next_visit(change) {
-        sweep.visit(alloc, parts, change, at, steps)?;
+        sweep.visit(&mut scratch, parts, change, at, steps)?;
     }
     Ok(sweep)
 }

@@ -5,8 +5,8 @@ ghost use Rattle.ec_delta.specs.Looked.{are_apart};
 ghost use Rattle.ec_sweep.specs.Words.{flip_of, word_at};
 
 use ec_delta::Flip;
+use ec_maps::SmallMap;
 use ec_terms::{NoMemory, Sequence, Slot};
-use indexmap::IndexMap;
 use std::alloc::Global;
 use std::marker::Model;
 
@@ -29,7 +29,7 @@ pub(crate) fn with_bit(word: u64, k: usize, on: bool) -> u64
 /// New words of slots.
 #[derive(Drop)]
 pub(crate) struct Words {
-    rows: IndexMap<usize, u64>,
+    rows: SmallMap<usize, u64>,
 }
 
 impl Model for Words {
@@ -37,7 +37,7 @@ impl Model for Words {
 
     ghost Value = { List (ℕ × ℕ) };
 
-    ghost view = { λ words. words.rows.entries };
+    ghost view = { λ words. words.rows };
 }
 
 impl Words {
@@ -46,8 +46,15 @@ impl Words {
         ensures { result ≡ [] }
     {
         Words {
-            rows: IndexMap::new(alloc),
+            rows: SmallMap::new(alloc),
         }
+    }
+
+    /// Takes all words out. Their room is kept.
+    pub(crate) fn clear(&mut self)
+        ensures { self.new ≡ [] }
+    {
+        self.rows.clear();
     }
 
     /// Says whether the entry at a place of a slot is active, where `before` is the word of the slot without a new one.
@@ -63,7 +70,7 @@ impl Words {
         ensures here { OnOk result ((k : ℕ) → is_bit_set (unwrap_or (word_at slot.0 self.new) before) k ≡ (if place == k then is_active else is_bit_set (unwrap_or (word_at slot.0 self.old) before) k)) }
         ensures others { OnOk result ((n : ℕ) → slot.0 ≢ n → word_at n self.new ≡ word_at n self.old) }
     {
-        let word = self.rows.get(&slot.0).copied().unwrap_or(before);
+        let word = self.rows.get(slot.0).unwrap_or(before);
         if has_bit(word, place) != is_active {
             self.rows.insert(slot.0, with_bit(word, place, is_active))?;
         }
@@ -83,12 +90,10 @@ impl Words {
         requires { i < length self.now }
         ensures { slice_get (map flip_of self.now) i ≡ Some result }
     {
-        match self.rows.get_index(i) {
-            Some((slot, word)) => Flip {
-                slot: Slot(*slot),
-                active: *word,
-            },
-            None => unreachable!(),
+        let (slot, active) = self.rows.row(i);
+        Flip {
+            slot: Slot(slot),
+            active,
         }
     }
 }

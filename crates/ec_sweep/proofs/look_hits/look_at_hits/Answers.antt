@@ -5,6 +5,6 @@ use Rattle.ec_sweep.proofs.look_hits.look_at_hits.Goals as goal
 
 pub returns-clause-flips : goal.returns-clause-flips
 returns-clause-flips g c =
-    FlipsHits-from_words (g.C.Current.is_current c.args.current.now) (g.T.Moment.rank c.args.at) c.args.entries.now.slots c.args.hits.now c.new-words.result c.look_at_each.new.words
-    c.args.looked.now.flips c.count.new.looked.flips c.new-words.ensures c.in_ok-look_at_each.ensures.words c.in_ok-push_flips.ensures.apart
+    FlipsHits-from_words (g.C.Current.is_current c.args.current.now) (g.T.Moment.rank c.args.at) c.args.entries.now.slots c.args.hits.now c.take_words-words.result c.look_at_each.new.words
+    c.args.looked.now.flips c.count.new.looked.flips c.take_words-words.ensures c.in_ok-look_at_each.ensures.words c.in_ok-push_flips.ensures.apart
     (c.in_ok-count.ensures.flips ∙ c.in_ok-push_flips.ensures.flips)

@@ -5,16 +5,16 @@ use Rattle.ec_sweep.proofs.next_time.next_time.Goals as goal
 
 pub returns-clause-some : goal.returns-clause-some
 returns-clause-some g c =
-    earlier-one c.next_mark.result c.next_entry.result c.earlier.result _ _ _ (λ next there. (there.0, inl there.1)) (λ next there. (there.0, inr there.1)) c.earlier.ensures.either
-    c.next_mark.ensures.some c.next_entry.ensures.some
+    earlier-one c.args.next_mark c.next_entry.result c.earlier.result _ _ _ (λ next there. (there.0, inl there.1)) (λ next there. (there.0, inr there.1)) c.earlier.ensures.either
+    c.requires.some c.next_entry.ensures.some
 
 pub returns-clause-least : goal.returns-clause-least
 returns-clause-least g c = λ u later bears.
     ⊎_elim
     (λ has.
-    earlier-by g.T.Moment.rank (g.T.Moment.rank c.args.at) c.next_mark.result c.earlier.result u (λ none. (earlier-none c.next_mark.result c.next_entry.result c.earlier.result c.earlier.ensures.none none).0)
-    c.earlier.ensures.first (c.next_mark.ensures.least u later has))
+    earlier-by g.T.Moment.rank (g.T.Moment.rank c.args.at) c.args.next_mark c.earlier.result u (λ none. (earlier-none c.args.next_mark c.next_entry.result c.earlier.result c.earlier.ensures.none none).0)
+    c.earlier.ensures.first (c.requires.least u later has))
     (λ read.
-    earlier-by g.T.Moment.rank (g.T.Moment.rank c.args.at) c.next_entry.result c.earlier.result u (λ none. (earlier-none c.next_mark.result c.next_entry.result c.earlier.result c.earlier.ensures.none none).1)
+    earlier-by g.T.Moment.rank (g.T.Moment.rank c.args.at) c.next_entry.result c.earlier.result u (λ none. (earlier-none c.args.next_mark c.next_entry.result c.earlier.result c.earlier.ensures.none none).1)
     c.earlier.ensures.second (c.next_entry.ensures.least u later read))
     bears

@@ -1,17 +1,12 @@
 -- What is settled by numbers is settled by terms.
 use Rattle.std.proofs.Common.{◌*◌, ◌≤◌, length, arith}
-use Rattle.std.specs.Prelude.{Result, Ok, Err, OnOk}
 use Rattle.ec_axioms.specs.declared.limits.TheConstants.{MOST_MENTIONS}
 use Rattle.ec_events.specs.Store.{history_of}
 use Rattle.ec_parts.specs.StandFor.{view_of}
+use Rattle.ec_sweep.proofs.Oks.{then_ok}
 use Rattle.ec_sweep.proofs.SettledTerms.{has_settled, room}
 use Rattle.ec_sweep.proofs.TurnedTerms.{AreShown-added, length-turns_few}
 use Rattle.ec_sweep.proofs.settle_all.settle_all.Goals as goal
-
--- what follows from what holds where a result is Ok holds there too
-then_ok : {A E : Type 0} {P Q : Type 0} (r : Result A E) → (P → Q) → OnOk r P → OnOk r Q
-then_ok (Ok x) leads holds = leads holds
-then_ok (Err e) leads holds = holds
 
 pub tally_of-requires-clause-few : goal.tally_of-requires-clause-few
 tally_of-requires-clause-few g c =
@@ -25,18 +20,18 @@ pub tally_of-requires-clause-added : goal.tally_of-requires-clause-added
 tally_of-requires-clause-added g c =
     AreShown-added c.args.parts.now.props c.args.parts.now.neighbours.rows c.args.turns.now c.requires.plains c.requires.can.turned
 
-pub settle_rows-requires-clause-room : goal.settle_rows-requires-clause-room
-settle_rows-requires-clause-room g c =
+pub settle_rows-settled-requires-clause-room : goal.settle_rows-settled-requires-clause-room
+settle_rows-settled-requires-clause-room g c =
     room g.T.Moment.rank c.args.parts.now.checked c.requires.new (view_of c.args.parts.now) c.requires.tally c.requires.change c.requires.r c.args.at
     c.args.dirty.now c.requires.agenda c.args.agenda.now c.args.due.now c.args.turns.now c.requires.plains c.requires.looked c.args.planned.now c.requires.active
     c.requires.can c.len.ensures.order c.len.ensures.numbers c.len-2.ensures.slots c.in_ok-tally.tally c.in_ok-tally.ensures.tallied c.in_ok-tally.ensures.rows
 
 pub returns : goal.returns
 returns g c =
-    then_ok c.settle_rows.result
+    then_ok c.settle_rows-settled.result
     (λ settles. λ new tally change r before plains looked active can.
     has_settled g.T.Moment.rank c.args.parts.now.checked new (view_of c.args.parts.now) tally change r c.args.at
     c.args.dirty.now before c.args.agenda.now c.args.due.now c.args.turns.now plains looked c.args.planned.now active
     can c.len.ensures.order c.len.ensures.numbers c.len-2.ensures.slots c.in_ok-tally.tally c.in_ok-tally.ensures.tallied c.in_ok-tally.ensures.rows
-    (record { dirty = c.settle_rows.new.dirty; agenda = c.settle_rows.new.agenda; planned = c.settle_rows.new.planned }) settles)
-    c.settle_rows.ensures
+    (record { dirty = c.settle_rows-settled.new.dirty; agenda = c.settle_rows-settled.new.agenda; planned = c.settle_rows-settled.new.planned }) settles)
+    c.settle_rows-settled.ensures

@@ -7,20 +7,20 @@ use Rattle.ec_sweep.proofs.settle_one.settle_one.Goals as goal
 pub returns-in_ok-make_due-clause-settles : goal.returns-in_ok-make_due-clause-settles
 returns-in_ok-make_due-clause-settles g c =
     SettlesNumber-from g.T.Moment.rank c.args.parts.now.points c.args.parts.now.entries.slots c.args.at c.args.p c.args.tallied.now
-    c.old_mark-old.result c.currencies-current.result c.settle-settled.result
+    c.read_old-old.result.mark c.read_old-old.result.current c.settle-settled.result
     (record { dirty = c.args.dirty.now; agenda = c.args.agenda.now; planned = c.args.planned.now })
     (record { dirty = c.set.new.self; agenda = c.make_due.new.agenda; planned = c.plan_mark.new.planned })
-    c.old_mark-old.ensures c.currencies-current.ensures
+    c.read_old-old.ensures.mark c.read_old-old.ensures.current
     (record { mark_is = c.settle-settled.ensures.mark; changed = c.settle-settled.ensures.changed; dirty = c.settle-settled.ensures.dirty; matters = c.settle-settled.ensures.matters })
     c.in_ok-plan_mark.ensures c.in_ok-set.ensures.ok (λ u dirty later bears. c.in_ok-make_due.ensures.due u later bears)
 
 pub returns-else-is_some-clause-settles : goal.returns-else-is_some-clause-settles
 returns-else-is_some-clause-settles g c =
     SettlesNumber-from g.T.Moment.rank c.args.parts.now.points c.args.parts.now.entries.slots c.args.at c.args.p c.args.tallied.now
-    c.old_mark-old.result c.currencies-current.result c.settle-settled.result
+    c.read_old-old.result.mark c.read_old-old.result.current c.settle-settled.result
     (record { dirty = c.args.dirty.now; agenda = c.args.agenda.now; planned = c.args.planned.now })
     (record { dirty = c.set.new.self; agenda = c.args.agenda.now; planned = c.plan_mark.new.planned })
-    c.old_mark-old.ensures c.currencies-current.ensures
+    c.read_old-old.ensures.mark c.read_old-old.ensures.current
     (record { mark_is = c.settle-settled.ensures.mark; changed = c.settle-settled.ensures.changed; dirty = c.settle-settled.ensures.dirty; matters = c.settle-settled.ensures.matters })
     c.in_ok-plan_mark.ensures c.in_ok-set.ensures.ok
     (λ u dirty later bears. absurd (false≢true (sym (sym c.is_some.ensures ∙ c.if-is_some.false) ∙ dirty)))

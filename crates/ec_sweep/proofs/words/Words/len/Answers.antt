@@ -6,4 +6,4 @@ use Rattle.ec_sweep.proofs.WordRows.{are_apart-words}
 use Rattle.ec_sweep.proofs.words.Words.len.Goals as goal
 
 pub returns-clause-apart : goal.returns-clause-apart
-returns-clause-apart c = subst (λ rows. IsTrue (are_apart (map flip_of rows))) c.self.view_is (are_apart-words c.self.inside.rows.entries c.len.ensures.unique)
+returns-clause-apart c = subst (λ rows. IsTrue (are_apart (map flip_of rows))) c.self.view_is (are_apart-words c.self.inside.rows c.len.ensures.once)

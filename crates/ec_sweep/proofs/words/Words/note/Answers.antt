@@ -7,6 +7,6 @@ use Rattle.ec_sweep.proofs.words.Words.note.Goals as goal
 
 pub returns-in_ok-insert-clause-others : goal.returns-in_ok-insert-clause-others
 returns-in_ok-insert-clause-others c = λ n apart.
-    word_at-other c.args.slot.0 n c.with_bit.result c.args.self.now c.insert.new.self.entries
-    (subst (λ rows. word_at n c.insert.new.self.entries ≡ cond (c.args.slot.0 == n) (Some c.with_bit.result) (word_at n rows)) c.self.view_is (c.in_ok-insert.ensures.updates.0 n))
+    word_at-other c.args.slot.0 n c.with_bit.result c.args.self.now c.insert.new.self
+    (subst (λ rows. word_at n c.insert.new.self ≡ cond (c.args.slot.0 == n) (Some c.with_bit.result) (word_at n rows)) c.self.view_is (c.in_ok-insert.ensures.ok n))
     apart

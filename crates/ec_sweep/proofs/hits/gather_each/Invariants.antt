@@ -4,7 +4,7 @@ use Rattle.std.specs.List.{IsDistinct, list_any}
 use Rattle.ec_entries.specs.Dependents.{dependents_at, dependents_of, is_from}
 use Rattle.ec_revise.specs.Change.{has_slot}
 use Rattle.ec_sweep.specs.Hits.{has_hit, same_hit}
-use Rattle.ec_sweep.proofs.hits.gather.Given as goal
+use Rattle.ec_sweep.proofs.hits.gather_each.Given as goal
 
 abbrev pub invariant-loop-k : goal.invariant-loop-k
 invariant-loop-k g l = record {
