@@ -1,6 +1,7 @@
 -- A walk that is carried out: what it asks of the plan of its change, and what is left where memory runs out.
 use Rattle.std.proofs.Common.{◌≡◌, ℕ, ℤ, Bool, List, sym, subst}
 use Rattle.std.specs.Prelude.{Result}
+use Rattle.ec_terms.specs.declared.ids.PropId.{PropId}
 use Rattle.ec_terms.specs.declared.no_memory.NoMemory.{NoMemory}
 use Rattle.ec_terms.specs.declared.theory.Theory.{Theory}
 use Rattle.ec_axioms.specs.declared.event.Seen.{Seen}
@@ -15,7 +16,7 @@ use Rattle.ec_sweep.specs.State.{IsUnderway}
 use Rattle.ec_delta.specs.Ready.{IsReady}
 use Rattle.ec_delta.specs.declared.delta.Delta.{Delta}
 use Rattle.ec_engine.specs.declared.walk.Walk.{Walk}
-use Rattle.ec_engine.specs.CarriedOut.{IsCarriedOut}
+use Rattle.ec_engine.specs.CarriedOut.{IsCarriedOut, LeadsTo}
 use Rattle.ec_engine.specs.Limits.{IsWithinLimits}
 use Rattle.ec_engine.specs.Walk.{AreLiveOrListed, HasWalkedTo}
 
@@ -25,6 +26,20 @@ pub IsUnderway-walked : {T : Type 0} (rank : T → ℤ) (theory : Theory) (view 
     → IsChange rank theory view.table view.store.events soon change → IsUnderway rank theory soon view tally change
 IsUnderway-walked rank theory view tally walk soon change walked within is =
     record { both = walked.both; change_is = is; few_old = within.few_mentions; few_new = walked.within.few_mentions }
+
+-- and so it does with the properties that the walk lists
+pub LeadsTo-walked : {T : Type 0} (rank : T → ℤ) (theory : Theory) (view : View T) (tally : Tally) (walk : Walk T) (soon : List PlainEvent) (change : Change T) (fresh dying : List PropId)
+    → HasWalkedTo rank theory view.store.events soon view tally walk → IsWithinLimits theory (history_of rank view.store.events)
+    → IsChange rank theory view.table view.store.events soon change → fresh ≡ walk.fresh.items → dying ≡ walk.dying.items → LeadsTo rank theory view tally change fresh dying soon
+LeadsTo-walked rank theory view tally walk soon change fresh dying walked within is freshs dyings =
+    subst (λ ids. LeadsTo rank theory view tally change ids dying soon) (sym freshs)
+    (subst (λ ids. LeadsTo rank theory view tally change walk.fresh.items ids soon) (sym dyings)
+    (record {
+      underway = IsUnderway-walked rank theory view tally walk soon change walked within is;
+      within = walked.within;
+      fresh_listed = walked.fresh;
+      idle_listed = walked.idle;
+    }))
 
 -- what was planned stands in parts that show the same events
 pub planned-stands : {T : Type 0} (rank : T → ℤ) (later : Theory) (events stored : List (Kept T)) (view : View T) (new : List PlainEvent) (tally : Tally)

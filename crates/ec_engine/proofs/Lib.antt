@@ -13,3 +13,4 @@ pub mod UndoingChange
 pub mod WorkDone
 pub mod Carried
 pub mod Built
+pub mod Arrivals

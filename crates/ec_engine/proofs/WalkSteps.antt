@@ -56,7 +56,7 @@ use Rattle.ec_engine.proofs.FoundEvents.{event_with-put, event_with-taken, found
 -- ---- what is listed
 
 -- what was live or listed is so in a later table, of another list
-listed-more : (theory : Theory) (events later : List PlainEvent) (before after : List KeptProp) (listed now_listed : ℕ → Bool)
+pub listed-more : (theory : Theory) (events later : List PlainEvent) (before after : List KeptProp) (listed now_listed : ℕ → Bool)
     → ((id : ℕ) (p : Ground) → term_at id after ≡ Some p → (term_at id before ≡ Some p) ⊎ (now_listed id ≡ true))
     → ((id : ℕ) (p : Ground) → term_at id after ≡ Some p → is_live theory events p ≡ true → (is_live theory later p || now_listed id) ≡ true)
     → ((id : ℕ) → listed id ≡ true → now_listed id ≡ true)
@@ -81,7 +81,7 @@ is_live-without theory e events p history found live =
     regroup i own rest all is live = grind arith
 
 -- and one more
-is_live-with : (theory : Theory) (e : PlainEvent) (events : List PlainEvent) (p : Ground) → is_live theory events p ≡ true → is_live theory (with_event e events) p ≡ true
+pub is_live-with : (theory : Theory) (e : PlainEvent) (events : List PlainEvent) (p : Ground) → is_live theory events p ≡ true → is_live theory (with_event e events) p ≡ true
 unfolding is_live
 is_live-with theory e events p live =
     regroup (is_initial theory p) _ _ _
@@ -120,7 +120,7 @@ IsWithinLimits-without theory e events history found within =
     record { few_events = omega arith; few_mentions = omega arith; few_links = omega arith }
 
 -- what a limit let in is within it
-few-let_in : (theory : Theory) (events after : List PlainEvent) → with_few_mentions theory events ≡ Ok after → (length (mentions_of theory events) ≤ most_mentions) × (link_count theory events ≤ most_links)
+pub few-let_in : (theory : Theory) (events after : List PlainEvent) → with_few_mentions theory events ≡ Ok after → (length (mentions_of theory events) ≤ most_mentions) × (link_count theory events ≤ most_links)
 unfolding with_few_mentions
 few-let_in theory events after is = by_tests (nat_lt most_mentions (length (mentions_of theory events))) (nat_lt most_links (link_count theory events)) refl refl is
   where

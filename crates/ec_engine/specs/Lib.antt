@@ -6,6 +6,7 @@ pub mod Walk
 pub mod Through
 pub mod Idle
 pub mod Undo
+pub mod Arriving
 pub mod Attempt
 pub mod NetChange
 pub mod UndoChange

@@ -8,7 +8,7 @@ ghost use Rattle.ec_parts.specs.declared.tally.Tally.{Tally as PartsTally};
 ghost use Rattle.ec_parts.specs.StandFor.{StandFor, StandForBoth, view_of};
 ghost use Rattle.ec_sweep.specs.Planning.{LeadsSomewhere};
 ghost use Rattle.ec_sweep.specs.State.{IsUnderway};
-ghost use Rattle.ec_engine.specs.CarriedOut.{IsCarriedOut, IsMade, StandAsBefore};
+ghost use Rattle.ec_engine.specs.CarriedOut.{IsCarriedOut, IsMade, Leads, LeadsTo, StandAsBefore};
 ghost use Rattle.ec_engine.specs.Idle.{StandForSome};
 ghost use Rattle.ec_engine.specs.Limits.{IsWithinLimits};
 ghost use Rattle.ec_engine.specs.Revise.{steps_between};
@@ -26,7 +26,7 @@ use ec_parts::{Parts, Tally};
 use ec_revise::Change;
 use ec_rows::{MarkRow, SpanRow, TimeRow};
 use ec_sweep::plan;
-use ec_terms::NoMemory;
+use ec_terms::{NoMemory, PropId};
 use std::alloc::Global;
 use std::sync::ledger::Ledger;
 
@@ -55,19 +55,52 @@ fn make_change<T: Moment, M: MarkRow<T>, I: SpanRow<T>, X: TimeRow<T>, L: Ledger
     }
 }
 
-/// Forgets what a walk listed and nothing mentions now. It takes no memory.
+/// Forgets what is listed and nothing mentions now. It takes no memory.
 fn forget_listed<T: Moment, M: MarkRow<T>, I: SpanRow<T>, X: TimeRow<T>>(
     parts: &mut Parts<T, M, I, X>,
-    walk: &Walk<T>,
+    fresh: &[PropId],
+    dying: &[PropId],
 )
     requires { StandForSome T.rank parts.old.checked (view_of parts.old) }
     ensures stands { (events : List PlainEvent) (tally : PartsTally) → StandForBoth T.rank parts.old.checked events events (view_of parts.old) tally →
-        AreLiveOrListed parts.old.checked events parts.old.props (λ id. has_number id walk.now.fresh.items || has_number id walk.now.dying.items) →
+        AreLiveOrListed parts.old.checked events parts.old.props (λ id. has_number id fresh.now || has_number id dying.now) →
         StandFor T.rank parts.old.checked events (view_of parts.new) tally }
     ensures theory { parts.new.checked ≡ parts.old.checked }
 {
-    forget_idle(parts, walk.fresh.as_slice());
-    forget_idle(parts, walk.dying.as_slice());
+    forget_idle(parts, fresh);
+    forget_idle(parts, dying);
+}
+
+/// Carries out a change: the caches become those of the list that it leads to, and the parts keep only what is live in it.
+/// Counts what changed. `fresh` are the properties that were not kept before, `dying` those that may be live no longer. `Err`:
+/// memory ran out; the parts stand for the list of the store, and the tables have gone back to it.
+pub(crate) fn carry_change<T: Moment, M: MarkRow<T>, I: SpanRow<T>, X: TimeRow<T>, L: Ledger>(
+    alloc: Global,
+    parts: &mut Parts<T, M, I, X>,
+    tally: &mut Tally,
+    change: Change<T>,
+    fresh: &[PropId],
+    dying: &[PropId],
+    steps: &mut Steps<L>,
+) -> Result<Seen, NoMemory>
+    requires leads { Leads T.rank parts.old.checked (view_of parts.old) tally.old change fresh.now dying.now }
+    requires within { IsWithinLimits parts.old.checked (history_of T.rank parts.old.store.events) }
+    ensures carried { (soon : List PlainEvent) → LeadsTo T.rank parts.old.checked (view_of parts.old) tally.old change fresh.now dying.now soon →
+        IsCarriedOut T.rank parts.old.checked (history_of T.rank parts.old.store.events) soon (view_of parts.new) tally.new result }
+    ensures theory { parts.new.checked ≡ parts.old.checked }
+    ensures steps { (soon : List PlainEvent) → LeadsTo T.rank parts.old.checked (view_of parts.old) tally.old change fresh.now dying.now soon →
+        steps.new ≤ steps.old + steps_between parts.old.checked (history_of T.rank parts.old.store.events) soon }
+{
+    match make_change(alloc, parts, change, steps) {
+        Ok(seen) => {
+            forget_listed(parts, fresh, dying);
+            Ok(seen)
+        }
+        Err(change) => {
+            undo_change(parts, tally, &change, fresh, steps);
+            Err(NoMemory)
+        }
+    }
 }
 
 /// Carries out a walk: the caches become those of the list that it came to, and the parts keep only what is live in it. Counts
@@ -92,14 +125,13 @@ pub(crate) fn carry_out<T: Moment, M: MarkRow<T>, I: SpanRow<T>, X: TimeRow<T>, 
         undo(parts, tally, &walk, steps);
         return Err(NoMemory);
     };
-    match make_change(alloc, parts, change, steps) {
-        Ok(seen) => {
-            forget_listed(parts, &walk);
-            Ok(seen)
-        }
-        Err(change) => {
-            undo_change(parts, tally, &change, walk.fresh.as_slice(), steps);
-            Err(NoMemory)
-        }
-    }
+    carry_change(
+        alloc,
+        parts,
+        tally,
+        change,
+        walk.fresh.as_slice(),
+        walk.dying.as_slice(),
+        steps,
+    )
 }

@@ -1,6 +1,7 @@
 //! The engine.
-ghost use Rattle.std.specs.Prelude.{◌≡◌, ◌+◌, ◌≤◌, ◌<◌, ◌^◌, [], IfOk, length, map};
-ghost use Rattle.ec_axioms.specs.Changes.{entry_count};
+ghost use Rattle.std.specs.Prelude.{◌≡◌, ◌+◌, ◌≤◌, ◌<◌, ◌^◌, [], ◌∷◌, IsTrue, IfOk, length, map};
+ghost use Rattle.ec_terms.specs.Term.{ground_of, names_are_names};
+ghost use Rattle.ec_axioms.specs.Changes.{asserting, entry_count};
 ghost use Rattle.ec_axioms.specs.Events.{event_of, plain_update};
 ghost use Rattle.ec_parts.specs.StandFor.{view_of};
 ghost use Rattle.ec_engine.specs.Build.{HaveOwnIds, history_from};
@@ -8,9 +9,10 @@ ghost use Rattle.ec_engine.specs.Limits.{IsWithinLimits};
 ghost use Rattle.ec_engine.specs.Revise.{IsRevised, most_steps};
 ghost use Rattle.ec_engine.specs.Standing.{IsStanding};
 
+use crate::arriving::arrive;
 use crate::attempt::attempt;
 use crate::building::fill;
-use crate::carrying::carry_out;
+use crate::carrying::{carry_change, carry_out};
 use crate::refusal::Refusal;
 use ec_axioms::{Event, Seen, Steps, Update};
 use ec_check::Checked;
@@ -18,7 +20,7 @@ use ec_context::Rules;
 use ec_moment::Moment;
 use ec_parts::{Parts, Tally, new_parts};
 use ec_rows::{MarkRow, SpanRow, TimeRow};
-use ec_terms::NoMemory;
+use ec_terms::{GroundRef, Name, NoMemory};
 use std::alloc::Global;
 use std::marker::Model;
 use std::sync::ledger::Ledger;
@@ -111,6 +113,40 @@ impl<T: Moment, M: MarkRow<T>, I: SpanRow<T>, X: TimeRow<T>> Engine<T, M, I, X> 
             Err(refusal) => return Err(refusal),
         };
         let Ok(seen) = carry_out(self.alloc, &mut self.parts, &mut self.tally, walk, steps) else {
+            return Err(Refusal::Memory);
+        };
+        Ok(seen)
+    }
+
+    /// Asserts one event, as a batch of this update would. `Err`: it is refused, or memory ran out; then the list is as it was.
+    /// What refuses it for its identity or for the number of events takes no memory and is always told.
+    pub fn assert<L: Ledger>(
+        &mut self,
+        id: Name,
+        at: T,
+        event: &GroundRef<'_>,
+        steps: &mut Steps<L>,
+    ) -> Result<Seen, Refusal>
+        requires named { IsTrue (names_are_names (ground_of event.now)) }
+        ensures revised { IsRevised self.old.theory self.old.events (asserting (record { id = id; rank = T.rank at; term = ground_of event.now }) ∷ []) result self.new.events }
+        ensures theory { self.new.theory ≡ self.old.theory }
+        ensures steps { steps.new ≤ steps.old + most_steps self.old.theory self.old.events (asserting (record { id = id; rank = T.rank at; term = ground_of event.now }) ∷ []) }
+    {
+        let arrived = arrive(self.alloc, &mut self.parts, &mut self.tally, id, at, event);
+        let arrival = match arrived {
+            Ok(arrival) => arrival,
+            Err(refusal) => return Err(refusal),
+        };
+        let carried = carry_change(
+            self.alloc,
+            &mut self.parts,
+            &mut self.tally,
+            arrival.change,
+            arrival.fresh.as_slice(),
+            &[],
+            steps,
+        );
+        let Ok(seen) = carried else {
             return Err(Refusal::Memory);
         };
         Ok(seen)

@@ -1,6 +1,7 @@
 //! The engine: a list of events under a theory, changed by batches of updates.
 #![tactic(auto)]
 
+mod arriving;
 mod attempt;
 mod building;
 mod carrying;

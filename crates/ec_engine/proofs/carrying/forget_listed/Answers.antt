@@ -1,8 +1,7 @@
 -- First the new properties, then those that may have died.
-use Rattle.std.proofs.Common.{◌||◌, refl, sym, subst}
+use Rattle.std.proofs.Common.{refl, sym, subst}
 use Rattle.ec_numbered.specs.PropSet.{has_number}
 use Rattle.ec_parts.specs.StandFor.{StandFor, StandForBoth, view_of}
-use Rattle.ec_engine.specs.Walk.{AreLiveOrListed}
 use Rattle.ec_engine.proofs.Carried.{AreLiveOrListed-moved}
 use Rattle.ec_engine.proofs.carrying.forget_listed.Goals as goal
 
@@ -19,10 +18,8 @@ returns-clause-stands g c events tally stand listed =
     let rank = g.T.Moment.rank in
     let theory = c.args.parts.now.checked in
     let mid = c.forget_idle.new.parts in
-    let dying = c.args.walk.now.dying.items in
     let first = c.forget_idle.ensures.unlisted events tally stand in
-    let left = first.1 (λ id. has_number id dying) (subst (λ ids. AreLiveOrListed theory events c.args.parts.now.props (λ id. has_number id ids || has_number id dying)) (sym c.as_slice.ensures.value) listed) in
+    let left = first.1 (λ id. has_number id c.args.dying.now) listed in
     let last = c.forget_idle-2.ensures.stands events tally (subst (λ t. StandForBoth rank t events events (view_of mid) tally) (sym c.forget_idle.ensures.theory) first.0)
-    (AreLiveOrListed-moved theory mid.checked events mid.props mid.props _ c.forget_idle.ensures.theory refl
-    (subst (λ ids. AreLiveOrListed theory events mid.props (λ id. has_number id ids)) (sym c.as_slice-2.ensures.value) left)) in
+    (AreLiveOrListed-moved theory mid.checked events mid.props mid.props _ c.forget_idle.ensures.theory refl left) in
     subst (λ t. StandFor rank t events (view_of c.forget_idle-2.new.parts) tally) c.forget_idle.ensures.theory last
