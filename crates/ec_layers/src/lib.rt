@@ -1,0 +1,12 @@
+//! The calls of the layers below the server, each used as the layers above use it.
+#![tactic(auto)]
+
+#[cfg(test)]
+mod moment;
+#[cfg(test)]
+mod reading;
+pub mod tables;
+#[cfg(test)]
+mod terms;
+#[cfg(test)]
+mod theory;
