@@ -2,9 +2,13 @@
 #![tactic(auto)]
 
 #[cfg(test)]
+mod lines;
+#[cfg(test)]
 mod moment;
 #[cfg(test)]
 mod reading;
+#[cfg(test)]
+mod steps;
 pub mod tables;
 #[cfg(test)]
 mod terms;
