@@ -13,8 +13,6 @@ mod plain;
 #[cfg(test)]
 mod plain_tests;
 mod steps;
-#[cfg(test)]
-mod tests;
 pub mod worked_replies;
 pub mod worked_rows;
 

@@ -10,8 +10,6 @@ mod line;
 mod line_reading;
 mod line_words;
 mod reply_text;
-#[cfg(test)]
-mod tests;
 
 pub use answer::{Answer, write_answer, write_front};
 pub use command::{Command, Parsed};

@@ -6,8 +6,6 @@ mod limits;
 mod moment;
 mod moment_text;
 mod number;
-#[cfg(test)]
-mod tests;
 mod tick;
 
 pub use laws::{number_edges_law, number_text_law, read_back};

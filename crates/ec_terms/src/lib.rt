@@ -16,14 +16,10 @@ mod no_memory;
 mod order_laws;
 mod pattern;
 mod reading;
-#[cfg(test)]
-mod reading_tests;
 mod sequence;
 mod spelling;
 mod term_order;
 mod term_text;
-#[cfg(test)]
-mod tests;
 mod theory;
 
 pub use binding::Binding;

@@ -9,8 +9,6 @@ mod laws;
 mod pattern;
 mod reader;
 mod sign;
-#[cfg(test)]
-mod tests;
 mod text;
 mod variables;
 

@@ -1,7 +1,7 @@
 //! What no contract says of the types of events and steps.
 ghost use Rattle.std.specs.Prelude.{◌≡◌, ◌+◌, ◌<◌};
 
-use crate::steps::Steps;
+use ec_axioms::Steps;
 use std::marker::Brand;
 use std::sync::ledger::{Blank, Ledger};
 

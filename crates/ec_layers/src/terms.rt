@@ -3,9 +3,14 @@
 ghost use Rattle.std.specs.Prelude.{◌≡◌};
 ghost use Rattle.std.specs.List.{list_all};
 ghost use Rattle.ec_terms.specs.Binding.{is_ready_place, is_ready_test, is_small_place, values_of};
+ghost use Rattle.ec_terms.specs.Spelling.{is_name};
 ghost use Rattle.ec_terms.specs.Term.{arg_of, is_argument};
 
-use crate::*;
+use ec_terms::{
+    Arg, ArgRef, ArgRefs, Binding, GroundRef, Kind, Literals, MOST_ARGS, MOST_VARIABLES, Name,
+    NoMemory, PatArg, PatArgs, Pattern, PropId, Rule, Sequence, Slot, Test, TestOp, Tests, fill,
+    matches, order, read_ground, tests_hold, text,
+};
 use std::alloc::Global;
 use std::cmp::Ordering;
 use std::process::Abort;
@@ -70,13 +75,20 @@ fn are_named(args: &[ArgRef<'_>]) -> bool
     args.iter().all(is_named_arg)
 }
 
-#[tactic(auto, unfolding(crate::specs::Term::is_argument))]
+/// Whether bytes are a name.
+fn is_name(bytes: &[u8]) -> bool
+    ensures { result ≡ is_name bytes.now }
+{
+    Name::from_bytes(bytes).is_some()
+}
+
+#[tactic(auto, unfolding(ec_terms::specs::Term::is_argument))]
 fn is_named_arg(arg: &ArgRef<'_>) -> bool
     ensures { result ≡ is_argument (arg_of arg.now) }
 {
     match arg {
         ArgRef::Int(_) => true,
-        ArgRef::Word(bytes) => spelling::is_name(*bytes),
+        ArgRef::Word(bytes) => is_name(bytes),
     }
 }
 
@@ -84,7 +96,7 @@ fn is_named_arg(arg: &ArgRef<'_>) -> bool
 fn matched<'a>(rt: &impl Abort, pattern: &Pattern, term: &GroundRef<'a>) -> Option<Binding<'a>> {
     assert!(rt; pattern.args.len() <= MOST_ARGS);
     assert!(rt; are_small(pattern.args.as_slice()));
-    assert!(rt; spelling::is_name(term.name));
+    assert!(rt; is_name(term.name));
     assert!(rt; are_named(term.args.as_slice()));
     matches(pattern, term)
 }
@@ -137,7 +149,7 @@ fn a_repeated_variable_has_one_value(rt: HostRuntime) -> Result<(), Fail> {
 }
 
 #[test]
-#[tactic(auto, unfolding(crate::specs::Term::is_argument))]
+#[tactic(auto, unfolding(ec_terms::specs::Term::is_argument))]
 fn a_filled_pattern_has_each_value_at_its_place(rt: HostRuntime) -> Result<(), Fail> {
     let mut binding = Binding::new();
     binding.set(0, ArgRef::Int(4));

@@ -3,7 +3,7 @@ use Rattle.std.specs.Prelude.{pos, negsuc, refl}
 use Rattle.ec_terms.specs.declared.ground.Arg.TheVariants.{Int}
 use Rattle.ec_terms.specs.Binding.{with_value}
 use Rattle.ec_terms.specs.Matching.{Values}
-use Rattle.ec_terms.proofs.tests.a_filled_pattern_has_each_value_at_its_place.Goals as goal
+use Rattle.ec_layers.proofs.terms.a_filled_pattern_has_each_value_at_its_place.Goals as goal
 
 pub fill-requires-clause-bound : goal.fill-requires-clause-bound
 fill-requires-clause-bound g c =

@@ -1,33 +1,38 @@
-use crate::{Moment, MomentText, Tick, read_back, read_number};
+use crate::tables::row_of;
+use ec_moment::{Moment, MomentText, Tick, read_back, read_number};
 use std::cmp::Ordering;
 
-/// Spellings and what they spell.
-const SPELLINGS: [(&[u8], Option<i64>); 18] = [
-    (b"9223372036854775807", Some(i64::MAX)),
-    (b"9223372036854775808", None),
-    (b"-9223372036854775808", Some(i64::MIN)),
-    (b"-9223372036854775809", None),
-    (b"00000000000000000007", Some(7)),
-    (b"-00000000000000000007", Some(-7)),
-    (b"000000000000000000000", None),
-    (b"18446744073709551616", None),
-    (b"-0", Some(0)),
-    (b"-", None),
-    (b"--1", None),
-    (b"", None),
-    (b"+5", None),
-    (b" 5", None),
-    (b"5 ", None),
-    (b"1a", None),
-    (b"5-", None),
-    (b"42", Some(42)),
-];
+/// Spellings and the number that each spells, if it spells one.
+const SPELLINGS: &str = "
+9223372036854775807 => 9223372036854775807
+9223372036854775808 => none
+-9223372036854775808 => -9223372036854775808
+-9223372036854775809 => none
+00000000000000000007 => 7
+-00000000000000000007 => -7
+000000000000000000000 => none
+18446744073709551616 => none
+-0 => 0
+- => none
+--1 => none
+ => none
++5 => none
+ 5 => none
+5  => none
+1a => none
+5- => none
+42 => 42
+";
 
 #[test]
 fn reads_each_spelling(rt: HostRuntime) {
-    for (bytes, number) in SPELLINGS {
-        assert!(rt; read_number(bytes) == number);
-        assert!(rt; Tick::read(bytes) == number.map(Tick));
+    for line in SPELLINGS.lines() {
+        let Some((spelt, number)) = row_of(line) else {
+            continue;
+        };
+        let number = number.parse::<i64>().ok();
+        assert!(rt; read_number(spelt.as_bytes()) == number, "{line}");
+        assert!(rt; Tick::read(spelt.as_bytes()) == number.map(Tick), "{line}");
     }
 }
 

@@ -1,9 +1,11 @@
+//! The feed, the commands and the answers of lines.
 ghost use Rattle.std.specs.Prelude.{◌≡◌, false};
 
-use crate::{
+use crate::tables::row_of;
+use ec_axioms::Seen;
+use ec_lines::{
     Answer, Command, Cut, Feed, LONGEST_LINE, Line, Parsed, read_command, write_answer, write_front,
 };
-use ec_axioms::Seen;
 use ec_moment::Tick;
 use ec_outside::{Failed, MemSink};
 use ec_terms::{Name, NoMemory};
@@ -122,96 +124,108 @@ fn a_line_of_4096_bytes_is_not_long(rt: HostRuntime) {
 }
 
 /// Lines with their session and their command.
-const COMMANDS: [(&[u8], Option<u8>, &[u8]); 58] = [
-    (b"", None, b"silent"),
-    (b" \t ", None, b"silent"),
-    (b"% holds p 1", None, b"silent"),
-    (b" %", None, b"silent"),
-    (b"assert e 1 plug(a)", None, b"assert"),
-    (b"\tassert\te \t1  plug(a) ", None, b"assert"),
-    (b"assert if -007 not(if,7)", None, b"assert"),
-    (b"retract e", None, b"retract"),
-    (b"begin", None, b"begin"),
-    (b"commit", None, b"commit"),
-    (b"abort", None, b"abort"),
-    (b"holds p 1", None, b"holds"),
-    (b"through p 5 1", None, b"through"),
-    (b"intervals p(1,b)", None, b"intervals"),
-    (b"broken p", None, b"broken"),
-    (b"at 9223372036854775807", None, b"at"),
-    (b"clashes", None, b"clashes"),
-    (b"events", None, b"events"),
-    (b"why p 1", None, b"why"),
-    (b"last", None, b"last"),
-    (b"quit", None, b"quit"),
-    (b"@0 quit", Some(0), b"quit"),
-    (b"@07 last", Some(7), b"last"),
-    (b"@00 last", Some(0), b"last"),
-    (b"  @63\tlast", Some(63), b"last"),
-    (b"@64 last", None, b"bad"),
-    (b"@99 last", None, b"bad"),
-    (b"@ last", None, b"bad"),
-    (b"@a last", None, b"bad"),
-    (b"@1a last", None, b"bad"),
-    (b"@007 last", None, b"bad"),
-    (b"@-1 last", None, b"bad"),
-    (b"@1", Some(1), b"bad"),
-    (b"@3 ", Some(3), b"bad"),
-    (b"@1 % note", Some(1), b"bad"),
-    (b"@1 @2 last", Some(1), b"bad"),
-    (b"last %", None, b"bad"),
-    (b"last last", None, b"bad"),
-    (b"LAST", None, b"bad"),
-    (b"lasts", None, b"bad"),
-    (b"las", None, b"bad"),
-    (b"holds", None, b"bad"),
-    (b"holds p", None, b"bad"),
-    (b"holds 1 p", None, b"bad"),
-    (b"holds p 1 2", None, b"bad"),
-    (b"holds p(a, b) 1", None, b"bad"),
-    (b"holds p() 1", None, b"bad"),
-    (b"holds P 1", None, b"bad"),
-    (b"holds p +1", None, b"bad"),
-    (b"holds p(1,2,3,4,5,6,7,8,9) 1", None, b"bad"),
-    (b"through p 1", None, b"bad"),
-    (b"at 9223372036854775808", None, b"bad"),
-    (b"assert e 1 plug(a)x", None, b"bad"),
-    (b"assert e(a) 1 plug", None, b"bad"),
-    (b"last\r", None, b"bad"),
-    (b"last\x00", None, b"bad"),
-    (b"last\x0b", None, b"bad"),
-    (b"\xa0last", None, b"bad"),
-];
+const COMMANDS: &str = "
+ => silent
+ \t  => silent
+% holds p 1 => silent
+ % => silent
+assert e 1 plug(a) => assert
+\tassert\te \t1  plug(a)  => assert
+assert if -007 not(if,7) => assert
+retract e => retract
+begin => begin
+commit => commit
+abort => abort
+holds p 1 => holds
+through p 5 1 => through
+intervals p(1,b) => intervals
+broken p => broken
+at 9223372036854775807 => at
+clashes => clashes
+events => events
+why p 1 => why
+last => last
+quit => quit
+@0 quit => @0 quit
+@07 last => @7 last
+@00 last => @0 last
+  @63\tlast => @63 last
+@64 last => bad
+@99 last => bad
+@ last => bad
+@a last => bad
+@1a last => bad
+@007 last => bad
+@-1 last => bad
+@1 => @1 bad
+@3  => @3 bad
+@1 % note => @1 bad
+@1 @2 last => @1 bad
+last % => bad
+last last => bad
+LAST => bad
+lasts => bad
+las => bad
+holds => bad
+holds p => bad
+holds 1 p => bad
+holds p 1 2 => bad
+holds p(a, b) 1 => bad
+holds p() 1 => bad
+holds P 1 => bad
+holds p +1 => bad
+holds p(1,2,3,4,5,6,7,8,9) 1 => bad
+through p 1 => bad
+at 9223372036854775808 => bad
+assert e 1 plug(a)x => bad
+assert e(a) 1 plug => bad
+last\r => bad
+last\0 => bad
+last\x0b => bad
+";
 
 /// The name of a command.
-fn name_of(command: &Command<'_, Tick>) -> &'static [u8] {
+fn name_of(command: &Command<'_, Tick>) -> &'static str {
     match command {
-        Command::Silent => b"silent",
-        Command::Bad => b"bad",
-        Command::Assert { .. } => b"assert",
-        Command::Retract { .. } => b"retract",
-        Command::Begin => b"begin",
-        Command::Commit => b"commit",
-        Command::Abort => b"abort",
-        Command::Holds { .. } => b"holds",
-        Command::Through { .. } => b"through",
-        Command::Intervals { .. } => b"intervals",
-        Command::Broken { .. } => b"broken",
-        Command::At { .. } => b"at",
-        Command::Clashes => b"clashes",
-        Command::Events => b"events",
-        Command::Why { .. } => b"why",
-        Command::Last => b"last",
-        Command::Quit => b"quit",
+        Command::Silent => "silent",
+        Command::Bad => "bad",
+        Command::Assert { .. } => "assert",
+        Command::Retract { .. } => "retract",
+        Command::Begin => "begin",
+        Command::Commit => "commit",
+        Command::Abort => "abort",
+        Command::Holds { .. } => "holds",
+        Command::Through { .. } => "through",
+        Command::Intervals { .. } => "intervals",
+        Command::Broken { .. } => "broken",
+        Command::At { .. } => "at",
+        Command::Clashes => "clashes",
+        Command::Events => "events",
+        Command::Why { .. } => "why",
+        Command::Last => "last",
+        Command::Quit => "quit",
     }
+}
+
+/// Whether a line has the session and the command of a text such as `@7 last`.
+fn has_command(line: &[u8], wanted: &str) -> bool {
+    let parsed: Parsed<'_, Tick> = read_command(line);
+    let (session, name) = match wanted.split_once(' ') {
+        Some((front, name)) => (front.trim_start_matches('@').parse::<u8>().ok(), name),
+        None => (None, wanted),
+    };
+    parsed.session == session && name_of(&parsed.command) == name
 }
 
 #[test]
 fn each_line_has_its_command(rt: HostRuntime) {
-    for (line, session, name) in COMMANDS {
-        let parsed: Parsed<'_, Tick> = read_command(line);
-        assert!(rt; parsed.session == session && name_of(&parsed.command) == name);
+    for row in COMMANDS.lines() {
+        if let Some((line, wanted)) = row_of(row) {
+            assert!(rt; has_command(line.as_bytes(), wanted), "{row}");
+        }
     }
+    // a byte that no text has
+    assert!(rt; has_command(b"\xa0last", "bad"));
 }
 
 #[test]

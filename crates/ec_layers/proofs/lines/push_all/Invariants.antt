@@ -1,5 +1,5 @@
 use Rattle.std.proofs.Common.{◌≡◌, false, length}
-use Rattle.ec_lines.proofs.tests.push_all.Given as goal
+use Rattle.ec_layers.proofs.lines.push_all.Given as goal
 
 abbrev pub invariant-loop-rest : goal.invariant-loop-rest
 invariant-loop-rest l = l.feed.is_ready ≡ false

@@ -4,7 +4,7 @@ use Rattle.std.proofs.lemmas.List.Folds.{list_all-map}
 use Rattle.ec_terms.specs.declared.ground.ArgRef.{ArgRef}
 use Rattle.ec_terms.specs.Spelling.{is_name}
 use Rattle.ec_terms.specs.Term.{arg_of, is_argument, names_are_names}
-use Rattle.ec_terms.proofs.tests.matched.Goals as goal
+use Rattle.ec_layers.proofs.terms.matched.Goals as goal
 use Rattle.std.proofs.lemmas.Bool.{and_from}
 
 pub matches-requires-clause-named : goal.matches-requires-clause-named

@@ -1,0 +1,45 @@
+//! Tables of rows that are written as one text, which costs a proof nothing, however many rows it has.
+use ec_terms::NoMemory;
+use std::alloc::Global;
+
+/// What stands before and behind the arrow `=>` of a row. An empty line and a heading, which begins with `#`, are no rows.
+/// A row without an arrow has nothing behind it.
+pub fn row_of(line: &str) -> Option<(&str, &str)> {
+    if line.is_empty() || line.starts_with('#') {
+        return None;
+    }
+    match line.split_once(" =>") {
+        Some((before, behind)) => Some((before, behind.trim())),
+        None => Some((line, "")),
+    }
+}
+
+/// Adds a text, in which `|` stands for a line end.
+fn add(bytes: &mut Vec<u8>, text: &str) -> Result<(), NoMemory> {
+    for byte in text.bytes() {
+        bytes.push(if byte == b'|' { b'\n' } else { byte })?;
+    }
+    Ok(())
+}
+
+/// The bytes that a text of a table stands for: `|` is a line end, and `{12 text}` is the text twelve times.
+pub fn bytes_of(alloc: Global, text: &str) -> Result<Vec<u8>, NoMemory> {
+    let mut bytes = Vec::new(alloc);
+    for (place, piece) in text.split(['{', '}']).enumerate() {
+        let (count, repeated) = piece.split_once(' ').unwrap_or(("1", piece));
+        let count = if place % 2 == 0 {
+            None
+        } else {
+            count.parse::<u32>().ok()
+        };
+        match count {
+            Some(count) => {
+                for _ in 0..count {
+                    add(&mut bytes, repeated)?;
+                }
+            }
+            None => add(&mut bytes, piece)?,
+        }
+    }
+    Ok(bytes)
+}
