@@ -10,7 +10,7 @@ use Rattle.ec_rows.specs.declared.span.End.{End}
 use Rattle.ec_rows.specs.declared.span.End.TheVariants.{At, Unended}
 use Rattle.ec_rows.specs.declared.span.Span.{Span}
 use Rattle.ec_rows.proofs.OrderedLemmas.{ascending-first}
-use Rattle.ec_rows.proofs.SpanLemmas.{by_time-from_row, IsSpanRow-nil}
+use Rattle.ec_rows.proofs.SpanLemmas.{by_time-from_row}
 use Rattle.ec_numbered.specs.ByNumber.{kept_at}
 use Rattle.ec_axioms.specs.Timeline.{is_held_at}
 use Rattle.ec_intervals.specs.Reach.{AreKept, IsReachOf, IsReachOfSpans, PlacedReaches, is_outside, reach_between}

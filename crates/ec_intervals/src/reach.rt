@@ -69,7 +69,11 @@ fn earlier<T: Moment>(one: T, other: T) -> T
     ensures one { T.rank result ≤ℤ T.rank one }
     ensures other { T.rank result ≤ℤ T.rank other }
 {
-    if one.order(&other).is_le() { one } else { other }
+    if one.order(&other).is_le() {
+        one
+    } else {
+        other
+    }
 }
 
 /// The later of two times.
@@ -77,7 +81,11 @@ fn later<T: Moment>(one: T, other: T) -> T
     ensures one { T.rank one ≤ℤ T.rank result }
     ensures other { T.rank other ≤ℤ T.rank result }
 {
-    if one.order(&other).is_le() { other } else { one }
+    if one.order(&other).is_le() {
+        other
+    } else {
+        one
+    }
 }
 
 /// A reach that has all of two others.

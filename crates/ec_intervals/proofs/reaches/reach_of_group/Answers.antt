@@ -1,5 +1,4 @@
 -- Each number of the group comes in turn.
-use Rattle.std.proofs.Common.{sym, ◌∙◌}
 use Rattle.std.specs.Prelude.{option_copied}
 use Rattle.ec_intervals.proofs.NearLemmas.{in_group, reach-next}
 use Rattle.ec_intervals.proofs.reaches.reach_of_group.Goals as goal
