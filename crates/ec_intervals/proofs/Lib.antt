@@ -16,3 +16,4 @@ mod ChangedMark
 mod Growth
 mod Inert
 mod ReachLemmas
+mod NearLemmas

@@ -10,10 +10,10 @@ use Rattle.ec_rows.specs.declared.span.End.{End}
 use Rattle.ec_rows.specs.declared.span.End.TheVariants.{At, Unended}
 use Rattle.ec_rows.specs.declared.span.Span.{Span}
 use Rattle.ec_rows.proofs.OrderedLemmas.{ascending-first}
-use Rattle.ec_rows.proofs.SpanLemmas.{by_time-from_row, IsSpanRow-nil}
+use Rattle.ec_rows.proofs.SpanLemmas.{by_time-from_row}
 use Rattle.ec_numbered.specs.ByNumber.{kept_at}
 use Rattle.ec_axioms.specs.Timeline.{is_held_at}
-use Rattle.ec_intervals.specs.Reach.{AreKept, IsReachOf, IsReachOfSpans, is_outside, reach_between}
+use Rattle.ec_intervals.specs.Reach.{AreKept, IsReachOf, IsReachOfSpans, PlacedReaches, is_outside, reach_between}
 use Rattle.ec_intervals.specs.Table.{AreFew, IntervalRow, IsGrown, front_in, front_members, members_in, plain_intervals, span_interval, spans_in}
 use Rattle.ec_intervals.specs.declared.reach.Reach.{Reach}
 use Rattle.ec_intervals.proofs.Covering.{held-none}
@@ -105,57 +105,48 @@ module _ {T : Type 0} (rank : T → ℤ) where
       ap₂ (λ front spans. is_held_at (plain_intervals rank (front_members front ++ map span_interval spans)) t) no_front no_spans
 
   -- where one row is written with its reach, all have theirs
-  pub AreKept-written : (reaches new_reaches : List (Option (Reach T))) (now new : List (Option (IntervalRow T))) (p : ℕ) → AreKept rank reaches now → AreFew new →
-      ((n : ℕ) → n ≢ p → kept_at n new ≡ kept_at n now) → ((n : ℕ) → n ≢ p → kept_at n new_reaches ≡ kept_at n reaches) → length reaches ≤ length new_reaches →
-      p < length new_reaches → IsReachOf rank (kept_at p new_reaches) (members_in (kept_at p new)) → AreKept rank new_reaches new
+  pub AreKept-written : (reaches new_reaches : PlacedReaches T) (now new : List (Option (IntervalRow T))) (p : ℕ) → AreKept rank reaches now → AreFew new →
+      ((n : ℕ) → n ≢ p → kept_at n new ≡ kept_at n now) → ((n : ℕ) → n ≢ p → kept_at n new_reaches.items ≡ kept_at n reaches.items) → reaches.places ≤ new_reaches.places →
+      p < new_reaches.places → IsReachOf rank (kept_at p new_reaches.items) (members_in (kept_at p new)) → AreKept rank new_reaches new
   AreKept-written reaches new_reaches now new p kept few rows same places here reach = record {
     few = few;
     reached = λ n.
-        ⊎_elim (λ e. subst (λ k. IsReachOf rank (kept_at k new_reaches) (members_in (kept_at k new))) (sym (equal p n e)) reach)
-        (λ e. subst (λ row. IsReachOf rank (kept_at n new_reaches) (members_in row)) (sym (rows n (eqb-apart p n e)))
+        ⊎_elim (λ e. subst (λ k. IsReachOf rank (kept_at k new_reaches.items) (members_in (kept_at k new))) (sym (equal p n e)) reach)
+        (λ e. subst (λ row. IsReachOf rank (kept_at n new_reaches.items) (members_in row)) (sym (rows n (eqb-apart p n e)))
         (subst (λ other. IsReachOf rank other (members_in (kept_at n now))) (sym (same n (eqb-apart p n e))) (kept.reached n)))
         (cases_Bool (p == n));
     placed = λ n there.
-        ⊎_elim (λ e. subst (λ k. k < length new_reaches) (sym (equal p n e)) here)
-        (λ e. let within : n < length reaches = kept.placed n (subst (λ row. IsTrue (is_some row)) (rows n (eqb-apart p n e)) there) in omega (arith, within, places))
+        ⊎_elim (λ e. subst (λ k. k < new_reaches.places) (sym (equal p n e)) here)
+        (λ e. let within : n < reaches.places = kept.placed n (subst (λ row. IsTrue (is_some row)) (rows n (eqb-apart p n e)) there) in omega (arith, within, places))
         (cases_Bool (p == n));
   }
 
-  -- places alone change nothing
-  pub AreKept-placed : (reaches new_reaches : List (Option (Reach T))) (rows : List (Option (IntervalRow T))) → AreKept rank reaches rows →
-      ((n : ℕ) → kept_at n new_reaches ≡ kept_at n reaches) → length reaches ≤ length new_reaches → AreKept rank new_reaches rows
-  AreKept-placed reaches new_reaches rows kept same places = record {
-    few = kept.few;
-    reached = λ n. subst (λ reach. IsReachOf rank reach (members_in (kept_at n rows))) (sym (same n)) (kept.reached n);
-    placed = λ n there. let within : n < length reaches = kept.placed n there in omega (arith, within, places);
-  }
-
-module _ {T I : Type 0} (spans : I → List (Span T)) (spare : I → ℕ) (rank : T → ℤ) (reaches new_reaches : List (Option (Reach T))) (now : List (Option (KeptRow T I))) (n : ℕ) (kept : AreKept rank reaches (rows_seen spans spare now)) where
+module _ {T I : Type 0} (spans : I → List (Span T)) (spare : I → ℕ) (rank : T → ℤ) (reaches new_reaches : PlacedReaches T) (now : List (Option (KeptRow T I))) (n : ℕ) (kept : AreKept rank reaches (rows_seen spans spare now)) where
   -- the others are seen as they were
   others_seen : (new : List (Option (KeptRow T I))) → ((m : ℕ) → m ≢ n → kept_at m new ≡ kept_at m now) → (m : ℕ) → m ≢ n → kept_at m (rows_seen spans spare new) ≡ kept_at m (rows_seen spans spare now)
   others_seen new others m other = kept_at-seen spans spare new m ∙ ap (option_map (seen spans spare)) (others m other) ∙ sym (kept_at-seen spans spare now m)
 
   -- a row that grows has its reach still
-  pub AreKept-grown : (new : List (Option (KeptRow T I))) → ((m : ℕ) → kept_at m new_reaches ≡ kept_at m reaches) → length reaches ≤ length new_reaches → n < length new_reaches →
+  pub AreKept-grown : (new : List (Option (KeptRow T I))) → ((m : ℕ) → kept_at m new_reaches.items ≡ kept_at m reaches.items) → reaches.places ≤ new_reaches.places → n < new_reaches.places →
       ((m : ℕ) → m ≢ n → kept_at m new ≡ kept_at m now) → IsGrown (seen_at spans spare n now) (seen_at spans spare n new) → AreKept rank new_reaches (rows_seen spans spare new)
   AreKept-grown new same places here others grown =
       AreKept-written rank reaches new_reaches (rows_seen spans spare now) (rows_seen spans spare new) n kept (AreFew-grown spans spare now new n kept.few others grown)
       (others_seen new others) (λ m other. same m) places here
       (subst (λ reach. IsReachOf rank reach (members_in (kept_at n (rows_seen spans spare new)))) (sym (same n))
-      (subst (IsReachOf rank (kept_at n reaches))
+      (subst (IsReachOf rank (kept_at n reaches.items))
       (ap members_in (kept_at-seen spans spare now n) ∙ sym (members_in-grown (seen_at spans spare n now) (seen_at spans spare n new) grown) ∙ sym (ap members_in (kept_at-seen spans spare new n)))
       (kept.reached n)))
 
   module _ (old new : KeptRow T I) (found : Some old ≡ kept_at n now) where
     -- a row has a place for its reach
-    pub has_place : n < length reaches
+    pub has_place : n < reaches.places
     has_place = kept.placed n (ap is_some (kept_at-found spans spare now n old found))
 
     -- a row that is written with its reach
-    pub AreKept-rewritten : (reach : Option (Reach T)) → AreFew (rows_seen spans spare (slice_set now n (Some new))) → kept_at n new_reaches ≡ reach → ((m : ℕ) → m ≢ n → kept_at m new_reaches ≡ kept_at m reaches) →
-        length new_reaches ≡ length reaches → IsReachOf rank reach (members_in (Some (seen spans spare new))) → AreKept rank new_reaches (rows_seen spans spare (slice_set now n (Some new)))
+    pub AreKept-rewritten : (reach : Option (Reach T)) → AreFew (rows_seen spans spare (slice_set now n (Some new))) → kept_at n new_reaches.items ≡ reach → ((m : ℕ) → m ≢ n → kept_at m new_reaches.items ≡ kept_at m reaches.items) →
+        new_reaches.places ≡ reaches.places → IsReachOf rank reach (members_in (Some (seen spans spare new))) → AreKept rank new_reaches (rows_seen spans spare (slice_set now n (Some new)))
     AreKept-rewritten reach few here others places reached =
         AreKept-written rank reaches new_reaches (rows_seen spans spare now) (rows_seen spans spare (slice_set now n (Some new))) n kept few
         (others_seen (slice_set now n (Some new)) (λ m other. kept_at-set_other now n m (Some new) other)) others (omega (arith, places)) (let place = has_place in omega (arith, place, places))
-        (subst (λ row. IsReachOf rank (kept_at n new_reaches) (members_in row)) (sym (kept_at-found spans spare (slice_set now n (Some new)) n new (sym (kept_at-set now n old new found))))
+        (subst (λ row. IsReachOf rank (kept_at n new_reaches.items) (members_in row)) (sym (kept_at-found spans spare (slice_set now n (Some new)) n new (sym (kept_at-set now n old new found))))
         (subst (λ other. IsReachOf rank other (members_in (Some (seen spans spare new)))) (sym here) reached))

@@ -7,3 +7,4 @@ pub mod Broken
 pub mod Laws
 pub mod ChangedRows
 pub mod Reach
+pub mod Near

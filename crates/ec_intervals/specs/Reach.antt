@@ -1,5 +1,5 @@
 -- The reach of a row of intervals: which times lie outside it, so that the row need not be read.
-use Rattle.std.specs.Prelude.{◌≡◌, ◌<◌, Bool, true, false, ◌||◌, ℕ, ℤ, int_lt, int_le, List, length, Option, Some, None, is_some, IsTrue}
+use Rattle.std.specs.Prelude.{◌≡◌, ◌<◌, Bool, true, false, ◌||◌, ℕ, ℤ, int_lt, int_le, List, Option, Some, None, is_some, IsTrue}
 use Rattle.std.specs.List.{list_any}
 use Rattle.ec_axioms.specs.Timeline.{is_held_at}
 use Rattle.ec_numbered.specs.ByNumber.{kept_at}
@@ -32,9 +32,18 @@ IsReachOfSpans rank reach spans = (t : ℤ) → is_outside rank reach t ≡ true
 abbrev pub IsReachOf : {T : Type 0} → (T → ℤ) → Option (Reach T) → List (Interval T) → Type 0
 IsReachOf rank reach intervals = (t : ℤ) → is_outside rank reach t ≡ true → is_held_at (plain_intervals rank intervals) t ≡ false
 
+-- a reach has another: what lies outside it lies outside the other
+abbrev pub HasReach : {T : Type 0} → (T → ℤ) → Option (Reach T) → Option (Reach T) → Type 0
+HasReach rank reach other = (t : ℤ) → is_outside rank reach t ≡ true → is_outside rank other t ≡ true
+
+-- reaches by number, and how many numbers have a place for one
+pub record PlacedReaches (T : Type 0) : Type 0 where
+  pub items : List (Option (Reach T))
+  pub places : ℕ
+
 -- Rows by number with their reaches: the intervals of each row are few and have the reach that is kept under its number,
--- and each number that has a row has a place for a reach.
-pub record AreKept {T : Type 0} (rank : T → ℤ) (reaches : List (Option (Reach T))) (rows : List (Option (IntervalRow T))) : Type 0 where
+-- and each number that has a row is one of those that have a place for a reach.
+pub record AreKept {T : Type 0} (rank : T → ℤ) (reaches : PlacedReaches T) (rows : List (Option (IntervalRow T))) : Type 0 where
   pub few : AreFew rows
-  pub reached : (n : ℕ) → IsReachOf rank (kept_at n reaches) (members_in (kept_at n rows))
-  pub placed : (n : ℕ) → IsTrue (is_some (kept_at n rows)) → n < length reaches
+  pub reached : (n : ℕ) → IsReachOf rank (kept_at n reaches.items) (members_in (kept_at n rows))
+  pub placed : (n : ℕ) → IsTrue (is_some (kept_at n rows)) → n < reaches.places

@@ -1,13 +1,16 @@
 ghost use Rattle.std.specs.Prelude.{◌≡◌, ◌≢◌, ◌↔◌, ℕ, ◌+◌, ◌-◌, ◌<◌, ◌≤◌, ◌≤ℤ◌, [], IsTrue, IfSome, IfNone, OnErr, OnOk, Some, None, length, slice_get};
 ghost use Rattle.ec_axioms.specs.Marks.{spans_of};
 ghost use Rattle.ec_axioms.specs.Timeline.{is_held_at};
+ghost use Rattle.ec_intervals.specs.Near.{IsNear};
 ghost use Rattle.ec_intervals.specs.OldMarks.{AreOfOldMarks};
 ghost use Rattle.ec_intervals.specs.Table.{IsGrown, front_at, has_row, members_at, plain_intervals, room_at, row_at, spans_at};
 ghost use Rattle.ec_rows.specs.PlainMarks.{plain_marks};
 
 use crate::draft::Draft;
 use crate::interval::Interval;
-use crate::reach::{Reach, is_outside, reach_of, set_reach};
+use crate::near::Near;
+use crate::reach::{is_outside, reach_of};
+use crate::reaches::Reaches;
 use crate::row::{KeptRow, clear_row, count_members, member_of, row_covers};
 use crate::rows::prepare_row;
 use crate::write::{rebuild_row, splice_row};
@@ -27,7 +30,7 @@ use std::marker::Model;
 #[derive(Drop)]
 pub struct Intervals<T: Moment, I: SpanRow<T>> {
     rows: ByNumber<KeptRow<T, I>>,
-    reaches: ByNumber<Reach<T>>,
+    reaches: Reaches<T>,
     draft: Draft<T>,
     alloc: Global,
 }
@@ -52,7 +55,7 @@ impl<T: Moment, I: SpanRow<T>> Intervals<T, I> {
     {
         Intervals {
             rows: ByNumber::new(alloc),
-            reaches: ByNumber::new(alloc),
+            reaches: Reaches::new(alloc),
             draft: Draft::new(alloc),
             alloc,
         }
@@ -112,6 +115,13 @@ impl<T: Moment, I: SpanRow<T>> Intervals<T, I> {
         }
     }
 
+    /// Which properties may hold at a time, told for groups of them. It reads no row, and takes no memory.
+    pub fn near(&self, at: T) -> Near
+        ensures { IsNear T.rank (T.rank at) self.now result }
+    {
+        self.reaches.near(at)
+    }
+
     /// Gives a property a row, if it has none, and makes room: in its row for this many further spans, and in the buffer
     /// for what so many marks spell. `Err`: memory ran out; then no row is new, and rooms alone may be larger.
     pub fn prepare(&mut self, p: PropId, spans: usize, marks: usize) -> Result<(), NoMemory>
@@ -146,7 +156,7 @@ impl<T: Moment, I: SpanRow<T>> Intervals<T, I> {
     {
         if let Some(kept) = self.rows.get_mut(p) {
             rebuild_row(kept, &mut self.draft, row, strong, initial);
-            set_reach(&mut self.reaches, p, reach_of(kept));
+            self.reaches.set(p, reach_of(kept));
         }
     }
 
@@ -179,7 +189,7 @@ impl<T: Moment, I: SpanRow<T>> Intervals<T, I> {
         match self.rows.get_mut(p) {
             Some(kept) => {
                 let differs = splice_row(kept, &mut self.draft, row, strong, initial, from, until);
-                set_reach(&mut self.reaches, p, reach_of(kept));
+                self.reaches.set(p, reach_of(kept));
                 differs
             }
             None => false,
@@ -199,6 +209,6 @@ impl<T: Moment, I: SpanRow<T>> Intervals<T, I> {
             return;
         };
         clear_row(kept);
-        set_reach(&mut self.reaches, p, None);
+        self.reaches.set(p, None);
     }
 }

@@ -6,7 +6,9 @@ mod draft;
 mod interval;
 mod intervals;
 mod laws;
+mod near;
 mod reach;
+mod reaches;
 mod row;
 mod rows;
 mod steps;
@@ -22,3 +24,4 @@ pub use laws::{
     growth_is_bounded_law, inert_marks_spell_nothing_law, marks_are_read_in_parts_law,
     open_begins_are_told_by_one_mark_law, spans_are_few_law,
 };
+pub use near::Near;

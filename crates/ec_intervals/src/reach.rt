@@ -1,15 +1,12 @@
 //! The reach of a row of intervals: the times between which it holds, from its first begin up to its last end.
-ghost use Rattle.std.specs.Prelude.{◌≡◌, ◌≢◌, ℕ, ◌<◌, Some, length, option_copied};
-ghost use Rattle.ec_intervals.specs.Reach.{IsReachOf, IsReachOfSpans, is_outside, reach_between};
+ghost use Rattle.std.specs.Prelude.{◌≡◌, ◌≤ℤ◌, Some, option_copied};
+ghost use Rattle.ec_intervals.specs.Reach.{HasReach, IsReachOf, IsReachOfSpans, is_outside, reach_between};
 ghost use Rattle.ec_intervals.specs.RowViews.{seen};
 ghost use Rattle.ec_intervals.specs.Table.{members_in};
-ghost use Rattle.ec_numbered.specs.ByNumber.{kept_at};
 
 use crate::row::KeptRow;
 use ec_moment::Moment;
-use ec_numbered::ByNumber;
 use ec_rows::{End, SpanRow};
-use ec_terms::PropId;
 
 /// The times at which a row of intervals may hold. A row without intervals has no reach.
 #[derive(Clone, Copy)]
@@ -67,21 +64,55 @@ pub(crate) fn is_outside<T: Moment>(reach: Option<&Reach<T>>, at: T) -> bool
     }
 }
 
-/// Sets the reach that is kept under a number. It takes no memory.
-pub(crate) fn set_reach<T: Moment>(
-    reaches: &mut ByNumber<Reach<T>>,
-    p: PropId,
-    reach: Option<Reach<T>>,
-)
-    requires { p.0 < length reaches.old }
-    ensures here { kept_at p.0 reaches.new ≡ reach }
-    ensures others { (n : ℕ) → n ≢ p.0 → kept_at n reaches.new ≡ kept_at n reaches.old }
-    ensures places { length reaches.new ≡ length reaches.old }
+/// The earlier of two times.
+fn earlier<T: Moment>(one: T, other: T) -> T
+    ensures one { T.rank result ≤ℤ T.rank one }
+    ensures other { T.rank result ≤ℤ T.rank other }
 {
-    match reach {
-        Some(reach) => reaches.set(p, reach),
-        None => {
-            let _ = reaches.take(p);
-        }
+    if one.order(&other).is_le() {
+        one
+    } else {
+        other
+    }
+}
+
+/// The later of two times.
+fn later<T: Moment>(one: T, other: T) -> T
+    ensures one { T.rank one ≤ℤ T.rank result }
+    ensures other { T.rank other ≤ℤ T.rank result }
+{
+    if one.order(&other).is_le() {
+        other
+    } else {
+        one
+    }
+}
+
+/// A reach that has all of two others.
+fn joined<T: Moment>(one: Reach<T>, other: Reach<T>) -> Reach<T>
+    ensures one { HasReach T.rank (Some result) (Some one) }
+    ensures other { HasReach T.rank (Some result) (Some other) }
+{
+    match (one, other) {
+        (Reach::Within(a, b), Reach::Within(c, d)) => Reach::Within(earlier(a, c), later(b, d)),
+        (Reach::Within(a, _), Reach::After(c)) => Reach::After(earlier(a, c)),
+        (Reach::After(a), Reach::Within(c, _)) => Reach::After(earlier(a, c)),
+        (Reach::After(a), Reach::After(c)) => Reach::After(earlier(a, c)),
+        _ => Reach::Any,
+    }
+}
+
+/// A reach that has all of two others, where there are such.
+pub(crate) fn all_joined<T: Moment>(
+    one: Option<Reach<T>>,
+    other: Option<&Reach<T>>,
+) -> Option<Reach<T>>
+    ensures one { HasReach T.rank result one }
+    ensures other { HasReach T.rank result (option_copied other.entry) }
+{
+    match (one, other) {
+        (Some(one), Some(other)) => Some(joined(one, *other)),
+        (None, Some(other)) => Some(*other),
+        _ => one,
     }
 }

@@ -1,11 +1,15 @@
 //! Which properties hold at a time, listed on the stack as far as there is room.
 ghost use Rattle.std.specs.Prelude.{◌≡◌, ◌+◌, ◌<◌, ◌≤◌, ◌^◌, ◌∷◌, [], ◌++◌, ◌↔◌, List, IsSome, IfSome, length, map};
 ghost use Rattle.ec_terms.specs.declared.ids.PropId.{PropId};
+ghost use Rattle.ec_axioms.specs.Timeline.{is_held_at};
+ghost use Rattle.ec_intervals.specs.Near.{IsNear};
+ghost use Rattle.ec_intervals.specs.Table.{members_at, plain_intervals};
 ghost use Rattle.ec_props.specs.Table.{number_of};
 ghost use Rattle.ec_query.specs.Holding.{held_numbers};
 ghost use Rattle.ec_query.specs.Listed.{Lists};
 
 use crate::held::Held;
+use ec_intervals::{Intervals, Near};
 use ec_moment::Moment;
 use ec_rows::SpanRow;
 use ec_terms::PropId;
@@ -73,19 +77,37 @@ impl HeldList {
     }
 }
 
+/// Whether a property holds at a time, told by its group where that is left out.
+fn holds_near<T: Moment, I: SpanRow<T>>(
+    intervals: &Intervals<T, I>,
+    near: &Near,
+    p: PropId,
+    at: T,
+) -> bool
+    requires { IsNear T.rank (T.rank at) intervals.now near.now }
+    ensures { result ≡ is_held_at (plain_intervals T.rank (members_at p.0 intervals.now)) (T.rank at) }
+{
+    if !near.has(p) {
+        return false;
+    }
+    intervals.covers(p, at)
+}
+
 /// Lists those of some properties that hold at a time.
 fn list_run<T: Moment, I: SpanRow<T>>(
     held: &Held<'_, T, I>,
+    near: &Near,
     run: &[PropId],
     at: T,
     list: &mut HeldList,
 )
-    requires { list.old.count + length run.now < 2 ^ 64 }
+    requires near { IsNear T.rank (T.rank at) held.now.intervals.now near.now }
+    requires count { list.old.count + length run.now < 2 ^ 64 }
     ensures listed { (ps : List PropId) → Lists list.old ps → Lists list.new (ps ++ held_numbers T.rank held.now.intervals.now (T.rank at) run.now) }
     ensures within { list.new.count ≤ list.old.count + length run.now }
 {
     for p in run {
-        if held.intervals.covers(*p, at) {
+        if holds_near(held.intervals, near, *p, at) {
             list.push(*p);
         }
     }
@@ -95,11 +117,12 @@ fn list_run<T: Moment, I: SpanRow<T>>(
 pub(crate) fn list_held<T: Moment, I: SpanRow<T>>(held: &Held<'_, T, I>, at: T) -> HeldList
     ensures { Lists result (held_numbers T.rank held.now.intervals.now (T.rank at) (map number_of held.now.props.now)) }
 {
+    let near = held.intervals.near(at);
     let mut list = HeldList::new();
     let mut i = 0;
     while i < held.props.len() {
         let run = held.props.run_in_order(i);
-        list_run(held, run, at, &mut list);
+        list_run(held, &near, run, at, &mut list);
         i += run.len();
     }
     list

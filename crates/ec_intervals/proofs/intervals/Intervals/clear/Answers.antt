@@ -9,12 +9,12 @@ use Rattle.ec_intervals.proofs.intervals.Intervals.clear.Goals as goal
 
 pub invariant_of-self-2 : goal.invariant_of-self-2
 invariant_of-self-2 g c =
-    AreKept-rewritten g.I.SpanRow.spans g.I.SpanRow.spare g.T.Moment.rank c.self.inside.reaches c.set_reach.new.reaches c.self.inside.rows c.args.p.0 c.self.invariant c.in-Some.kept.now c.clear_row.new.kept c.in-Some.ensures.kept None
+    AreKept-rewritten g.I.SpanRow.spans g.I.SpanRow.spare g.T.Moment.rank c.self.inside.reaches c.set.new.self c.self.inside.rows c.args.p.0 c.self.invariant c.in-Some.kept.now c.clear_row.new.kept c.in-Some.ensures.kept None
     (AreFew-emptied g.I.SpanRow.spans g.I.SpanRow.spare c.self.inside.rows c.args.self.now (ap (λ t. t.rows) c.self.view_is) c.args.p.0 c.in-Some.kept.now c.clear_row.new.kept c.in-Some.ensures.kept c.self.invariant.few c.clear_row.ensures.front c.clear_row.ensures.spans)
-    c.set_reach.ensures.here c.set_reach.ensures.others c.set_reach.ensures.places (IsReachOf-emptied g.T.Moment.rank (Some (seen g.I.SpanRow.spans g.I.SpanRow.spare c.clear_row.new.kept)) None c.clear_row.ensures.front c.clear_row.ensures.spans)
+    c.set.ensures.here c.set.ensures.others c.set.ensures.places (IsReachOf-emptied g.T.Moment.rank (Some (seen g.I.SpanRow.spans g.I.SpanRow.spare c.clear_row.new.kept)) None c.clear_row.ensures.front c.clear_row.ensures.spans)
 
-pub set_reach-requires : goal.set_reach-requires
-set_reach-requires g c =
+pub set-requires : goal.set-requires
+set-requires g c =
     has_place g.I.SpanRow.spans g.I.SpanRow.spare g.T.Moment.rank c.self.inside.reaches c.self.inside.reaches c.self.inside.rows c.args.p.0 c.self.invariant c.in-Some.kept.now c.clear_row.new.kept c.in-Some.ensures.kept
 
 pub returns-clause-front : goal.returns-clause-front

@@ -3,7 +3,7 @@ use Rattle.std.proofs.Common.{◌≤◌, IsTrue, is_some, OnOk, sym, ap, subst, 
 use Rattle.ec_numbered.specs.ByNumber.{kept_at}
 use Rattle.ec_intervals.specs.Table.{room_in}
 use Rattle.ec_intervals.proofs.KeptRows.{kept_at-seen, is_some-seen, row_at-same, IsGrown-table}
-use Rattle.ec_intervals.proofs.ReachLemmas.{AreKept-grown, AreKept-placed}
+use Rattle.ec_intervals.proofs.ReachLemmas.{AreKept-grown}
 use Rattle.ec_intervals.proofs.intervals.Intervals.prepare.Goals as goal
 
 pub invariant_of-self-2 : goal.invariant_of-self-2

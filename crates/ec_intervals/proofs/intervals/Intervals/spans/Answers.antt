@@ -1,5 +1,5 @@
 -- The row that is found is that of the table.
-use Rattle.std.proofs.Common.{sym, ap, ◌∙◌}
+use Rattle.std.proofs.Common.{ap}
 use Rattle.ec_intervals.specs.Table.{room_in}
 use Rattle.ec_intervals.proofs.KeptRows.{row_at-kept}
 use Rattle.ec_intervals.proofs.intervals.Intervals.spans.Goals as goal

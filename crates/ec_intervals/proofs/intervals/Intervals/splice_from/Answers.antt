@@ -7,14 +7,14 @@ use Rattle.ec_intervals.proofs.intervals.Intervals.splice_from.Goals as goal
 
 pub invariant_of-self : goal.invariant_of-self
 invariant_of-self g c =
-    AreKept-rewritten g.I.SpanRow.spans g.I.SpanRow.spare g.T.Moment.rank c.self.inside.reaches c.set_reach.new.reaches c.self.inside.rows c.args.p.0 c.self.invariant c.in-Some.kept.now c.splice_row-differs.new.kept c.in-Some.ensures.kept c.reach_of.result
+    AreKept-rewritten g.I.SpanRow.spans g.I.SpanRow.spare g.T.Moment.rank c.self.inside.reaches c.set.new.self c.self.inside.rows c.args.p.0 c.self.invariant c.in-Some.kept.now c.splice_row-differs.new.kept c.in-Some.ensures.kept c.reach_of.result
     (AreFew-rewritten g.I.SpanRow.spans g.I.SpanRow.spare c.self.inside.rows c.args.self.now (ap (λ t. t.rows) c.self.view_is) c.args.p.0 c.in-Some.kept.now c.splice_row-differs.new.kept c.in-Some.ensures.kept g.T.Moment.rank (g.M.MarkRow.marks c.args.row.now) c.args.strong c.args.initial _ c.self.invariant.few
     c.splice_row-differs.ensures.row c.splice_row-differs.ensures.intervals c.requires.buffer
     (let small = c.self.inside.draft.spans.small in let same = ap (λ t. t.buffer) c.self.view_is in omega (arith, small, same)))
-    c.set_reach.ensures.here c.set_reach.ensures.others c.set_reach.ensures.places c.reach_of.ensures
+    c.set.ensures.here c.set.ensures.others c.set.ensures.places c.reach_of.ensures
 
-pub set_reach-requires : goal.set_reach-requires
-set_reach-requires g c =
+pub set-requires : goal.set-requires
+set-requires g c =
     has_place g.I.SpanRow.spans g.I.SpanRow.spare g.T.Moment.rank c.self.inside.reaches c.self.inside.reaches c.self.inside.rows c.args.p.0 c.self.invariant c.in-Some.kept.now c.splice_row-differs.new.kept c.in-Some.ensures.kept
 
 pub returns-in-Some-clause-intervals : goal.returns-in-Some-clause-intervals
