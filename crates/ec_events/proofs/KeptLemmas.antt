@@ -17,7 +17,8 @@ use Rattle.ec_rows.specs.Ordered.{is_ascending}
 use Rattle.ec_rows.specs.Times.{Entry, entry_before, entries_before, is_entry, has_entry, with_entry, without_entry, place_cmp, place_of}
 use Rattle.ec_rows.proofs.OrderedLemmas.{IsOrder, IsOrder-by_key, with_member-front, with_member-later}
 use Rattle.ec_rows.proofs.TimeLemmas.{place_cmp-total}
-use Rattle.ec_events.specs.Store.{Kept, plain_of, history_of, slot_of, event_at, kept_before, with_kept, without_kept, entry_of}
+use Rattle.ec_events.specs.Store.{Kept, plain_of, history_of, slot_of, event_at, kept_before, with_kept, without_kept}
+use Rattle.ec_events.specs.Records.{entry_of}
 use Rattle.ec_lists.proofs.Integers.{int_eq-same}
 use Rattle.ec_lists.proofs.Booleans.{option_map-cond, is_some-cond, map-cond, cond_comm, cond-same, cond-again, false-from_not}
 use Rattle.ec_lists.proofs.Filters.{filter-not_any, filter-map}
@@ -50,12 +51,12 @@ module _ {T : Type 0} where
   slot_of-cons id k ks = option_map-cond (λ (j : Kept T). j.0) (bytes_eq k.1.id id) k (find (λ (j : Kept T). bytes_eq j.1.id id) ks)
 
   -- no event has the identity
-  absent-first : (id : List ℕ) (k : Kept T) (ks : List (Kept T)) → slot_of id (k ∷ ks) ≡ None → bytes_eq k.1.id id ≡ false
+  pub absent-first : (id : List ℕ) (k : Kept T) (ks : List (Kept T)) → slot_of id (k ∷ ks) ≡ None → bytes_eq k.1.id id ≡ false
   absent-first id k ks none =
       ⊎_elim (λ e. let found : Some k.0 ≡ None = sym (ap (λ b. cond b (Some k.0) (slot_of id ks)) e) ∙ sym (slot_of-cons id k ks) ∙ none in cc) (λ e. e)
       (cases_Bool (bytes_eq k.1.id id))
 
-  absent-rest : (id : List ℕ) (k : Kept T) (ks : List (Kept T)) → slot_of id (k ∷ ks) ≡ None → slot_of id ks ≡ None
+  pub absent-rest : (id : List ℕ) (k : Kept T) (ks : List (Kept T)) → slot_of id (k ∷ ks) ≡ None → slot_of id ks ≡ None
   absent-rest id k ks none =
       sym (ap (λ b. cond b (Some k.0) (slot_of id ks)) (absent-first id k ks none)) ∙ sym (slot_of-cons id k ks) ∙ none
 
@@ -192,7 +193,7 @@ module _ {T : Type 0} where
   history_of-without_kept rank id ks = sym (filter-map (λ (e : PlainEvent). not (bytes_eq e.id id)) (plain_of rank) ks)
 
   -- the event under a slot is among the events
-  has_id-event_at : (rank : T → ℤ) (slot : Slot) (event : Event T) (ks : List (Kept T)) → event_at slot ks ≡ Some event → has_id event.id (history_of rank ks) ≡ true
+  pub has_id-event_at : (rank : T → ℤ) (slot : Slot) (event : Event T) (ks : List (Kept T)) → event_at slot ks ≡ Some event → has_id event.id (history_of rank ks) ≡ true
   unfolding has_id
   has_id-event_at rank slot event [] is = cc
   has_id-event_at rank slot event (k ∷ ks) is =

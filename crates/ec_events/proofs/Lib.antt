@@ -1,2 +1,4 @@
+pub mod HeldLemmas
+pub mod IdentityLemmas
 pub mod KeptLemmas
 pub mod StoreLemmas

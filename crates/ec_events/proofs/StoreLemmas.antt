@@ -1,171 +1,24 @@
 -- How a store keeps its events: an event more or less leaves a store.
-use Rattle.std.proofs.Common.{◌≡◌, ℕ, ◌+◌, ◌<◌, zero, suc, Bool, true, false, cond, not, ◌≤◌, All, IfSome, get_or, slice_get, List, [], ◌∷◌, ℤ, Option, Some, None, Bor, refl, sym, ap, ap₂, subst, ◌∙◌, ⊎_elim, map, is_some, length, arith}
-use Rattle.std.specs.Prelude.{option_map, bytes_eq, ◌==◌, if◌then◌else◌}
-use Rattle.std.specs.List.{cons_option, list_any}
+use Rattle.std.proofs.Common.{◌≡◌, ℕ, ◌+◌, true, false, cond, ◌≤◌, All, IfSome, get_or, slice_get, List, [], ℤ, Option, Some, None, Bor, refl, sym, ap, subst, ◌∙◌, map, is_some, length, arith}
+use Rattle.std.specs.Prelude.{option_map, bytes_eq}
+use Rattle.std.specs.List.{insert, remove}
 use Rattle.std.specs.Option.{option_copied}
-use Rattle.std.proofs.lemmas.Bool.{cases_Bool, false≢true, or_left, or_right, eqb-true, eq-eqb}
-use Rattle.std.proofs.lemmas.Slice.Eq.{bytes_eq-Decides}
+use Rattle.std.proofs.lemmas.Bool.{false≢true}
 use Rattle.std.proofs.lemmas.List.{length-map}
 use Rattle.ec_terms.specs.declared.ids.Slot.{Slot}
-use Rattle.ec_axioms.specs.Changes.{is_history, comes_before, with_event, without_event}
+use Rattle.ec_axioms.specs.Changes.{is_history, with_event, without_event}
 use Rattle.ec_axioms.specs.declared.event.Event.{Event}
 use Rattle.ec_axioms.proofs.Histories.{is_history-with_event, is_history-without_event}
+use Rattle.ec_rows.specs.Ordered.{is_ascending}
 use Rattle.ec_rows.specs.Times.{Entry, has_entry, with_entry, without_entry, entries_before}
-use Rattle.ec_events.specs.Store.{Kept, plain_of, history_of, slot_of, event_at, kept_before, with_kept, without_kept, entry_of, kept_of, IsStore}
-use Rattle.ec_events.proofs.KeptLemmas.{same_bytes, event_at-same, event_at-other, slot_of-cons, slot_of-with_kept, history_of-with_kept, has_id-slot_of, with_entry-with_kept, has_entry-none, slot_of-without_kept, history_of-without_kept, has_entry-event_at, without_entry-without_kept, entries_before-kept, slice_get-entries, slice_get-end}
-use Rattle.ec_lists.proofs.Booleans.{or_second}
-
--- ---- tests and answers
-
--- what holds of a slot wherever it is the answer
-pub if_some : (answer : Option Slot) (P : Slot → Type 0) → ((slot : Slot) → answer ≡ Some slot → P slot) → IfSome answer P
-if_some None P holds = tt
-if_some (Some slot) P holds = holds slot refl
+use Rattle.ec_events.specs.Store.{Kept, plain_of, history_of, slot_of, event_at, kept_before, with_kept, without_kept}
+use Rattle.ec_events.specs.Records.{entry_of, kept_of, keyed_slot, listed_of, IsStore}
+use Rattle.ec_events.specs.declared.identities.KeyedSlot.{KeyedSlot}
+use Rattle.ec_events.proofs.HeldLemmas.{AllHeld-kept_of, kept_of-entries, record-event_at, none-event_at, has_slot, event_at-held, has_slot-with_kept, at-IsHeldAt, get-IsHeldAt, found-IsHeldAt, AllHeld-others, AllHeld-with_kept, AllHeld-without_kept}
+use Rattle.ec_events.proofs.IdentityLemmas.{IsCutAt, AreListed-insert, slot_of-inserted, AreListed-remove, slot_of-removed}
+use Rattle.ec_events.proofs.KeptLemmas.{has_id-event_at, slot_of-with_kept, history_of-with_kept, has_id-slot_of, with_entry-with_kept, has_entry-none, slot_of-without_kept, history_of-without_kept, has_entry-event_at, without_entry-without_kept, entries_before-kept, slice_get-entries, slice_get-end}
 
 module _ {T : Type 0} where
-  -- ---- events under their slots
-
-  -- each event is the record under its slot
-  abbrev pub AllHeld : (ℕ → Option (Event T)) → List (Kept T) → Type 0
-  AllHeld record_at [] = Unit {0}
-  AllHeld record_at (k ∷ ks) = (record_at k.0.0 ≡ Some k.1) × AllHeld record_at ks
-
-  held-one : (record_at : ℕ → Option (Event T)) (slot : Slot) (found : Option (Event T)) (rest : List (Kept T)) → record_at slot.0 ≡ found → AllHeld record_at rest →
-      AllHeld record_at (cons_option (option_map (λ event. (slot, event)) found) rest)
-  held-one record_at slot None rest is held = held
-  held-one record_at slot (Some event) rest is held = (is, held)
-
-  -- what is read from the records is held there
-  pub AllHeld-kept_of : (record_at : ℕ → Option (Event T)) (times : List (Entry T)) → AllHeld record_at (kept_of record_at times)
-  AllHeld-kept_of record_at [] = tt
-  AllHeld-kept_of record_at (entry ∷ times) =
-      held-one record_at entry.2 (record_at entry.2.0) (kept_of record_at times) refl (AllHeld-kept_of record_at times)
-
-  -- and events that are held are read from their entries
-  kept_of-entries : (record_at : ℕ → Option (Event T)) (ks : List (Kept T)) → AllHeld record_at ks → kept_of record_at (map entry_of ks) ≡ ks
-  kept_of-entries record_at [] held = refl
-  kept_of-entries record_at (k ∷ ks) held =
-      ap₂ (λ found rest. cons_option (option_map (λ event. (k.0, event)) found) rest) held.0 (kept_of-entries record_at ks held.1)
-
-  -- the event under a slot is the record there
-  record-event_at : (record_at : ℕ → Option (Event T)) (slot : Slot) (event : Event T) (ks : List (Kept T)) → AllHeld record_at ks →
-      event_at slot ks ≡ Some event → record_at slot.0 ≡ Some event
-  record-event_at record_at slot event [] held is = cc
-  record-event_at record_at slot event (k ∷ ks) held is =
-      ⊎_elim (λ e. ap record_at (sym (eqb-true k.0.0 slot.0 e)) ∙ held.0 ∙ sym (event_at-same slot k ks e) ∙ is)
-      (λ e. record-event_at record_at slot event ks held.1 (sym (event_at-other slot k ks e) ∙ is)) (cases_Bool (k.0.0 == slot.0))
-
-  -- under a slot without a record there is no event
-  none-event_at : (record_at : ℕ → Option (Event T)) (slot : Slot) (ks : List (Kept T)) → AllHeld record_at ks → record_at slot.0 ≡ None → event_at slot ks ≡ None
-  none-event_at record_at slot [] held none = refl
-  none-event_at record_at slot (k ∷ ks) held none =
-      ⊎_elim (λ e. let both : Some k.1 ≡ None = sym held.0 ∙ ap record_at (eqb-true k.0.0 slot.0 e) ∙ none in cc)
-      (λ e. event_at-other slot k ks e ∙ none-event_at record_at slot ks held.1 none) (cases_Bool (k.0.0 == slot.0))
-
-  -- ---- slots that events have
-
-  -- some event has the slot
-  abbrev pub has_slot : Slot → List (Kept T) → Bool
-  has_slot slot ks = list_any (λ (k : Kept T). k.0.0 == slot.0) ks
-
-  -- the event under a slot that some event has is the record there
-  event_at-held : (record_at : ℕ → Option (Event T)) (slot : Slot) (event : Event T) (ks : List (Kept T)) → AllHeld record_at ks → record_at slot.0 ≡ Some event →
-      has_slot slot ks ≡ true → event_at slot ks ≡ Some event
-  event_at-held record_at slot event [] held is there = absurd (false≢true there)
-  event_at-held record_at slot event (k ∷ ks) held is there =
-      ⊎_elim (λ e. event_at-same slot k ks e ∙ sym held.0 ∙ ap record_at (eqb-true k.0.0 slot.0 e) ∙ is)
-      (λ e. event_at-other slot k ks e ∙ event_at-held record_at slot event ks held.1 is (or_second (k.0.0 == slot.0) (has_slot slot ks) e there))
-      (cases_Bool (k.0.0 == slot.0))
-
-  -- an event that was added has its slot
-  has_slot-if : (slot : Slot) (b : Bool) (xs ys : List (Kept T)) → has_slot slot xs ≡ true → has_slot slot ys ≡ true → has_slot slot (if b then xs else ys) ≡ true
-  has_slot-if slot true xs ys left right = left
-  has_slot-if slot false xs ys left right = right
-
-  has_slot-with_kept : (rank : T → ℤ) (k : Kept T) (ks : List (Kept T)) → has_slot k.0 (with_kept rank k ks) ≡ true
-  unfolding with_kept
-  has_slot-with_kept rank k [] = or_left (k.0.0 == k.0.0) false (eq-eqb k.0.0 k.0.0 refl)
-  has_slot-with_kept rank k (j ∷ js) =
-      has_slot-if k.0 (comes_before (plain_of rank k) (plain_of rank j)) (k ∷ j ∷ js) (j ∷ with_kept rank k js)
-      (or_left (k.0.0 == k.0.0) (has_slot k.0 (j ∷ js)) (eq-eqb k.0.0 k.0.0 refl))
-      (or_right (j.0.0 == k.0.0) (has_slot k.0 (with_kept rank k js)) (has_slot-with_kept rank k js))
-
-  -- a slot, the record there, and that some event has it
-  abbrev pub IsHeldAt : (ℕ → Option (Event T)) → List (Kept T) → Slot → Event T → Type 0
-  IsHeldAt record_at ks slot event = (record_at slot.0 ≡ Some event) × (has_slot slot ks ≡ true)
-
-  later-IsHeldAt : (record_at : ℕ → Option (Event T)) (k : Kept T) (ks : List (Kept T)) (slot : Slot) (event : Event T) → IsHeldAt record_at ks slot event →
-      IsHeldAt record_at (k ∷ ks) slot event
-  later-IsHeldAt record_at k ks slot event at = (at.0, or_right (k.0.0 == slot.0) (has_slot slot ks) at.1)
-
-  first-IsHeldAt : (record_at : ℕ → Option (Event T)) (k : Kept T) (ks : List (Kept T)) → AllHeld record_at (k ∷ ks) → IsHeldAt record_at (k ∷ ks) k.0 k.1
-  first-IsHeldAt record_at k ks held = (held.0, or_left (k.0.0 == k.0.0) (has_slot k.0 ks) (eq-eqb k.0.0 k.0.0 refl))
-
-  at-IsHeldAt : (record_at : ℕ → Option (Event T)) (ks : List (Kept T)) (i : ℕ) (d : Kept T) → AllHeld record_at ks → i < length ks →
-      IsHeldAt record_at ks (get_or ks i d).0 (get_or ks i d).1
-  at-IsHeldAt record_at [] i d held within = absurd (omega arith)
-  at-IsHeldAt record_at (k ∷ ks) zero d held within = first-IsHeldAt record_at k ks held
-  at-IsHeldAt record_at (k ∷ ks) (suc i) d held within =
-      later-IsHeldAt record_at k ks (get_or ks i d).0 (get_or ks i d).1 (at-IsHeldAt record_at ks i d held.1 (omega arith))
-
-  get-IsHeldAt : (record_at : ℕ → Option (Event T)) (ks : List (Kept T)) (i : ℕ) (found : Kept T) → AllHeld record_at ks → slice_get ks i ≡ Some found →
-      IsHeldAt record_at ks found.0 found.1
-  get-IsHeldAt record_at [] i found held is = cc
-  get-IsHeldAt record_at (k ∷ ks) zero found held is =
-      let same : k ≡ found = cc in subst (λ (j : Kept T). IsHeldAt record_at (k ∷ ks) j.0 j.1) same (first-IsHeldAt record_at k ks held)
-  get-IsHeldAt record_at (k ∷ ks) (suc i) found held is = later-IsHeldAt record_at k ks found.0 found.1 (get-IsHeldAt record_at ks i found held.1 is)
-
-  -- the event with an identity
-  found-IsHeldAt : (record_at : ℕ → Option (Event T)) (ks : List (Kept T)) (id : List ℕ) (slot : Slot) → AllHeld record_at ks → slot_of id ks ≡ Some slot →
-      (event : Event T) × IsHeldAt record_at ks slot event × (event.id ≡ id)
-  found-IsHeldAt record_at [] id slot held is = cc
-  found-IsHeldAt record_at (k ∷ ks) id slot held is =
-      ⊎_elim
-      (λ e. let found : Some k.0 ≡ Some slot = sym (ap (λ b. cond b (Some k.0) (slot_of id ks)) e) ∙ sym (slot_of-cons id k ks) ∙ is in
-      let same : k.0 ≡ slot = cc in
-      (k.1, subst (λ s. IsHeldAt record_at (k ∷ ks) s k.1) same (first-IsHeldAt record_at k ks held), same_bytes k.1.id id e))
-      (λ e. let rest : slot_of id ks ≡ Some slot = sym (ap (λ b. cond b (Some k.0) (slot_of id ks)) e) ∙ sym (slot_of-cons id k ks) ∙ is in
-      let later = found-IsHeldAt record_at ks id slot held.1 rest in
-      (later.0, later-IsHeldAt record_at k ks slot later.0 later.1, later.2))
-      (cases_Bool (bytes_eq k.1.id id))
-
-  -- ---- other records
-
-  -- another record elsewhere
-  AllHeld-others : (record_at new : ℕ → Option (Event T)) (s : ℕ) (ks : List (Kept T)) → AllHeld record_at ks → record_at s ≡ None →
-      ((n : ℕ) → (n ≡ s → ⊥) → new n ≡ record_at n) → AllHeld new ks
-  AllHeld-others record_at new s [] held none others = tt
-  AllHeld-others record_at new s (k ∷ ks) held none others =
-      (others k.0.0 (λ is. let both : Some k.1 ≡ None = sym held.0 ∙ ap record_at is ∙ none in cc) ∙ held.0, AllHeld-others record_at new s ks held.1 none others)
-
-  AllHeld-if : (record_at : ℕ → Option (Event T)) (b : Bool) (xs ys : List (Kept T)) → AllHeld record_at xs → AllHeld record_at ys → AllHeld record_at (if b then xs else ys)
-  AllHeld-if record_at true xs ys left right = left
-  AllHeld-if record_at false xs ys left right = right
-
-  AllHeld-with_kept : (rank : T → ℤ) (record_at : ℕ → Option (Event T)) (k : Kept T) (ks : List (Kept T)) → record_at k.0.0 ≡ Some k.1 → AllHeld record_at ks →
-      AllHeld record_at (with_kept rank k ks)
-  unfolding with_kept
-  AllHeld-with_kept rank record_at k [] here held = (here, tt)
-  AllHeld-with_kept rank record_at k (j ∷ js) here held =
-      AllHeld-if record_at (comes_before (plain_of rank k) (plain_of rank j)) (k ∷ j ∷ js) (j ∷ with_kept rank k js) (here, held)
-      (held.0, AllHeld-with_kept rank record_at k js here held.1)
-
-  AllHeld-without_kept : (record_at new : ℕ → Option (Event T)) (slot : Slot) (event : Event T) (ks : List (Kept T)) → AllHeld record_at ks →
-      record_at slot.0 ≡ Some event → ((n : ℕ) → (n ≡ slot.0 → ⊥) → new n ≡ record_at n) → AllHeld new (without_kept event.id ks)
-  AllHeld-without_kept record_at new slot event [] held there others = tt
-  AllHeld-without_kept record_at new slot event (k ∷ ks) held there others =
-      let rest : List (Kept T) = without_kept event.id ks in
-      let ih : AllHeld new rest = AllHeld-without_kept record_at new slot event ks held.1 there others in
-      ⊎_elim
-      (λ e. subst (λ b. AllHeld new (cond (not b) (k ∷ rest) rest)) (sym e) ih)
-      (λ e. subst (λ b. AllHeld new (cond (not b) (k ∷ rest) rest)) (sym e) (
-        others k.0.0 (λ is. let both : Some k.1 ≡ Some event = sym held.0 ∙ ap record_at is ∙ there in
-            let same : k.1 ≡ event = cc in
-            false≢true (sym e ∙ ap (λ (j : Event T). bytes_eq j.id event.id) same ∙ (bytes_eq-Decides event.id event.id).1 refl)) ∙ held.0,
-        ih,
-      ))
-      (cases_Bool (bytes_eq k.1.id event.id))
-
   -- ---- a store
 
   -- what a look-up lends is there where the value is
@@ -188,16 +41,16 @@ module _ {T : Type 0} where
 
   module _ (rank : T → ℤ) where
     -- with no entries
-    pub IsStore-nil : (record_at : ℕ → Option (Event T)) (slot_at : List ℕ → Option Slot) (times : List (Entry T)) → times ≡ [] →
-        ((id : List ℕ) → slot_at id ≡ None) → IsStore rank record_at slot_at times
-    unfolding is_history
-    IsStore-nil record_at slot_at times empty none =
-        subst (IsStore rank record_at slot_at) (sym empty) (record { entries = refl; slots = none; history = refl })
+    pub IsStore-nil : (record_at : ℕ → Option (Event T)) (slots : List KeyedSlot) (times : List (Entry T)) → times ≡ [] → slots ≡ [] → IsStore rank record_at slots times
+    unfolding is_history is_ascending
+    IsStore-nil record_at slots times empty none =
+        subst (λ ms. IsStore rank record_at ms times) (sym none)
+        (subst (IsStore rank record_at []) (sym empty) (record { entries = refl; listed = record { keyed = refl; ordered = refl }; found = λ id. refl; history = refl }))
 
     -- what a store answers
-    pub length-kept_of : (record_at : ℕ → Option (Event T)) (slot_at : List ℕ → Option Slot) (times : List (Entry T)) → IsStore rank record_at slot_at times →
+    pub length-kept_of : (record_at : ℕ → Option (Event T)) (slots : List KeyedSlot) (times : List (Entry T)) → IsStore rank record_at slots times →
         length times ≡ length (kept_of record_at times)
-    length-kept_of record_at slot_at times store = ap length store.entries ∙ length-map (kept_of record_at times) entry_of
+    length-kept_of record_at slots times store = ap length store.entries ∙ length-map (kept_of record_at times) entry_of
 
     pub record-live : (record_at : ℕ → Option (Event T)) (times : List (Entry T)) (slot : Slot) (event : Event T) →
         event_at slot (kept_of record_at times) ≡ Some event → record_at slot.0 ≡ Some event
@@ -206,20 +59,20 @@ module _ {T : Type 0} where
     pub event_at-free : (record_at : ℕ → Option (Event T)) (times : List (Entry T)) (slot : Slot) → record_at slot.0 ≡ None → event_at slot (kept_of record_at times) ≡ None
     event_at-free record_at times slot none = none-event_at record_at slot (kept_of record_at times) (AllHeld-kept_of record_at times) none
 
-    pub length-before : (record_at : ℕ → Option (Event T)) (slot_at : List ℕ → Option Slot) (times : List (Entry T)) (t : ℤ) → IsStore rank record_at slot_at times →
+    pub length-before : (record_at : ℕ → Option (Event T)) (slots : List KeyedSlot) (times : List (Entry T)) (t : ℤ) → IsStore rank record_at slots times →
         length (entries_before rank t times) ≡ length (kept_before rank t (kept_of record_at times))
-    length-before record_at slot_at times t store =
+    length-before record_at slots times t store =
         ap (λ es. length (entries_before rank t es)) store.entries ∙ ap length (entries_before-kept rank t (kept_of record_at times))
         ∙ length-map (kept_before rank t (kept_of record_at times)) entry_of
 
-    pub has_entry-absent : (record_at : ℕ → Option (Event T)) (slot_at : List ℕ → Option Slot) (times : List (Entry T)) (t : ℤ) (id : List ℕ) →
-        IsStore rank record_at slot_at times → slot_of id (kept_of record_at times) ≡ None → has_entry rank t id times ≡ false
-    has_entry-absent record_at slot_at times t id store none =
+    pub has_entry-absent : (record_at : ℕ → Option (Event T)) (slots : List KeyedSlot) (times : List (Entry T)) (t : ℤ) (id : List ℕ) →
+        IsStore rank record_at slots times → slot_of id (kept_of record_at times) ≡ None → has_entry rank t id times ≡ false
+    has_entry-absent record_at slots times t id store none =
         ap (has_entry rank t id) store.entries ∙ has_entry-none rank t id (kept_of record_at times) none
 
-    pub has_entry-live : (record_at : ℕ → Option (Event T)) (slot_at : List ℕ → Option Slot) (times : List (Entry T)) (slot : Slot) (event : Event T) →
-        IsStore rank record_at slot_at times → event_at slot (kept_of record_at times) ≡ Some event → has_entry rank (rank event.at) event.id times ≡ true
-    has_entry-live record_at slot_at times slot event store is =
+    pub has_entry-live : (record_at : ℕ → Option (Event T)) (slots : List KeyedSlot) (times : List (Entry T)) (slot : Slot) (event : Event T) →
+        IsStore rank record_at slots times → event_at slot (kept_of record_at times) ≡ Some event → has_entry rank (rank event.at) event.id times ≡ true
+    has_entry-live record_at slots times slot event store is =
         ap (has_entry rank (rank event.at) event.id) store.entries ∙ has_entry-event_at rank slot event (kept_of record_at times) is
 
     -- each event is the one under its slot
@@ -249,51 +102,50 @@ module _ {T : Type 0} where
         ap (event_at found.0) (sym is) ∙ event_at-held record_at found.0 found.1 (kept_of record_at times) held at.0 at.1
 
     -- what an entry at a position shows
-    next-event : (record_at : ℕ → Option (Event T)) (slot_at : List ℕ → Option Slot) (times : List (Entry T)) (events : List (Kept T)) (i : ℕ) (entry : Entry T) →
-        IsStore rank record_at slot_at times → kept_of record_at times ≡ events → slice_get times i ≡ Some entry →
+    next-event : (record_at : ℕ → Option (Event T)) (slots : List KeyedSlot) (times : List (Entry T)) (events : List (Kept T)) (i : ℕ) (entry : Entry T) →
+        IsStore rank record_at slots times → kept_of record_at times ≡ events → slice_get times i ≡ Some entry →
         (found : Kept T) × (slice_get events i ≡ Some found) × (entry_of found ≡ entry)
-    next-event record_at slot_at times events i entry store is there =
+    next-event record_at slots times events i entry store is there =
         some-entry (slice_get events i) entry
         (ap (λ ks. option_map entry_of (slice_get ks i)) (sym is) ∙ sym (slice_get-entries (kept_of record_at times) i)
         ∙ ap (λ es. slice_get es i) (sym store.entries) ∙ there)
 
-    pub next-event_at : (record_at : ℕ → Option (Event T)) (slot_at : List ℕ → Option Slot) (times : List (Entry T)) (events : List (Kept T)) (i : ℕ) (entry : Entry T) →
-        IsStore rank record_at slot_at times → kept_of record_at times ≡ events → slice_get times i ≡ Some entry →
+    pub next-event_at : (record_at : ℕ → Option (Event T)) (slots : List KeyedSlot) (times : List (Entry T)) (events : List (Kept T)) (i : ℕ) (entry : Entry T) →
+        IsStore rank record_at slots times → kept_of record_at times ≡ events → slice_get times i ≡ Some entry →
         event_at entry.2 events ≡ option_map (λ (k : Kept T). k.1) (slice_get events i)
-    next-event_at record_at slot_at times events i entry store is there =
-        let at = next-event record_at slot_at times events i entry store is there in
+    next-event_at record_at slots times events i entry store is there =
+        let at = next-event record_at slots times events i entry store is there in
         ap (λ (e : Entry T). event_at e.2 events) (sym at.2) ∙ event_at-slice_get record_at times events i at.0 is at.1
         ∙ ap (λ o. option_map (λ (k : Kept T). k.1) o) (sym at.1)
 
-    pub next-live : (record_at : ℕ → Option (Event T)) (slot_at : List ℕ → Option Slot) (times : List (Entry T)) (events : List (Kept T)) (i : ℕ) (entry : Entry T) →
-        IsStore rank record_at slot_at times → kept_of record_at times ≡ events → slice_get times i ≡ Some entry → is_some (event_at entry.2 events) ≡ true
-    next-live record_at slot_at times events i entry store is there =
-        let at = next-event record_at slot_at times events i entry store is there in
+    pub next-live : (record_at : ℕ → Option (Event T)) (slots : List KeyedSlot) (times : List (Entry T)) (events : List (Kept T)) (i : ℕ) (entry : Entry T) →
+        IsStore rank record_at slots times → kept_of record_at times ≡ events → slice_get times i ≡ Some entry → is_some (event_at entry.2 events) ≡ true
+    next-live record_at slots times events i entry store is there =
+        let at = next-event record_at slots times events i entry store is there in
         ap is_some (ap (λ (e : Entry T). event_at e.2 events) (sym at.2) ∙ event_at-slice_get record_at times events i at.0 is at.1)
 
     -- its slot, and the position behind it
-    pub next-slot : (record_at : ℕ → Option (Event T)) (slot_at : List ℕ → Option Slot) (times : List (Entry T)) (events : List (Kept T)) (i : ℕ) (entry : Entry T) →
-        IsStore rank record_at slot_at times → kept_of record_at times ≡ events → slice_get times i ≡ Some entry →
+    pub next-slot : (record_at : ℕ → Option (Event T)) (slots : List KeyedSlot) (times : List (Entry T)) (events : List (Kept T)) (i : ℕ) (entry : Entry T) →
+        IsStore rank record_at slots times → kept_of record_at times ≡ events → slice_get times i ≡ Some entry →
         option_map {U = Slot × ℕ} (λ (k : Kept T). (k.0, i + 1)) (slice_get events i) ≡ Some (entry.2, i + 1)
-    next-slot record_at slot_at times events i entry store is there =
-        let at = next-event record_at slot_at times events i entry store is there in
+    next-slot record_at slots times events i entry store is there =
+        let at = next-event record_at slots times events i entry store is there in
         let behind : Kept T → Slot × ℕ = λ k. (k.0, i + 1) in
         let first : Entry T → Slot × ℕ = λ e. (e.2, i + 1) in
         ap (λ o. option_map behind o) at.1 ∙ ap (λ e. Some (first e)) at.2
 
-    pub next-end : (record_at : ℕ → Option (Event T)) (slot_at : List ℕ → Option Slot) (times : List (Entry T)) (events : List (Kept T)) (i : ℕ) →
-        IsStore rank record_at slot_at times → kept_of record_at times ≡ events → length times ≤ i → slice_get events i ≡ None
-    next-end record_at slot_at times events i store is end =
-        let long : length times ≡ length events = length-kept_of record_at slot_at times store ∙ ap length is in
+    pub next-end : (record_at : ℕ → Option (Event T)) (slots : List KeyedSlot) (times : List (Entry T)) (events : List (Kept T)) (i : ℕ) →
+        IsStore rank record_at slots times → kept_of record_at times ≡ events → length times ≤ i → slice_get events i ≡ None
+    next-end record_at slots times events i store is end =
+        let long : length times ≡ length events = length-kept_of record_at slots times store ∙ ap length is in
         slice_get-end events i (omega arith)
 
     -- the same store in other fields
-    pub IsStore-same : (record_at new_record : ℕ → Option (Event T)) (slot_at new_slot : List ℕ → Option Slot) (times new : List (Entry T)) →
-        ((n : ℕ) → new_record n ≡ record_at n) → ((id : List ℕ) → new_slot id ≡ slot_at id) → new ≡ times →
-        IsStore rank record_at slot_at times → IsStore rank new_record new_slot new
-    IsStore-same record_at new_record slot_at new_slot times new records slots is store =
-        subst (λ f. IsStore rank f new_slot new) (λ i n. sym (records n) i)
-        (subst (λ f. IsStore rank record_at f new) (λ i id. sym (slots id) i) (subst (IsStore rank record_at slot_at) (sym is) store))
+    pub IsStore-same : (record_at new_record : ℕ → Option (Event T)) (slots new_slots : List KeyedSlot) (times new : List (Entry T)) →
+        ((n : ℕ) → new_record n ≡ record_at n) → new_slots ≡ slots → new ≡ times → IsStore rank record_at slots times → IsStore rank new_record new_slots new
+    IsStore-same record_at new_record slots new_slots times new records listed is store =
+        subst (λ f. IsStore rank f new_slots new) (λ i n. sym (records n) i)
+        (subst (λ ms. IsStore rank record_at ms new) (sym listed) (subst (IsStore rank record_at slots) (sym is) store))
 
     -- a live slot has a record
     pub IsSome-record : (record_at : ℕ → Option (Event T)) (times : List (Entry T)) (events : List (Kept T)) (slot : Slot) → kept_of record_at times ≡ events →
@@ -309,9 +161,15 @@ module _ {T : Type 0} where
         let found = some-value (event_at slot (kept_of record_at times)) (ap (λ ks. is_some (event_at slot ks)) is ∙ live) in
         ap (event_at slot) (sym is) ∙ found.1 ∙ sym (record-live record_at times slot found.0 found.1) ∙ read
 
+    -- the list of identities has each event
+    pub is_listed : (record_at : ℕ → Option (Event T)) (slots : List KeyedSlot) (times : List (Entry T)) (slot : Slot) (event : Event T) →
+        IsStore rank record_at slots times → event_at slot (kept_of record_at times) ≡ Some event → is_some (slot_of event.id (listed_of record_at slots)) ≡ true
+    is_listed record_at slots times slot event store live =
+        ap is_some (store.found event.id) ∙ sym (has_id-slot_of rank event.id (kept_of record_at times)) ∙ has_id-event_at rank slot event (kept_of record_at times) live
+
     -- ---- an event more
 
-    module _ (record_at new_record : ℕ → Option (Event T)) (slot_at : List ℕ → Option Slot) (times new : List (Entry T)) (store : IsStore rank record_at slot_at times) where
+    module _ (record_at new_record : ℕ → Option (Event T)) (slots : List KeyedSlot) (times new : List (Entry T)) (store : IsStore rank record_at slots times) where
       module _ (k : Kept T) (absent : slot_of k.1.id (kept_of record_at times) ≡ None) (free : record_at k.0.0 ≡ None) (there : new_record k.0.0 ≡ Some k.1)
           (others : (n : ℕ) → (n ≡ k.0.0 → ⊥) → new_record n ≡ record_at n) (is : new ≡ with_entry rank (entry_of k) times) where
         inserted_entries : new ≡ map entry_of (with_kept rank k (kept_of record_at times))
@@ -332,15 +190,20 @@ module _ {T : Type 0} where
         pub history_of-insert : history_of rank (kept_of new_record new) ≡ with_event (plain_of rank k) (history_of rank (kept_of record_at times))
         history_of-insert = ap (history_of rank) kept_of-insert ∙ history_of-with_kept rank k (kept_of record_at times)
 
-        pub IsStore-insert : (new_slot : List ℕ → Option Slot) → ((id : List ℕ) → new_slot id ≡ cond (bytes_eq k.1.id id) (Some k.0) (slot_at id)) → IsStore rank new_record new_slot new
-        IsStore-insert new_slot slots = record {
-          entries = inserted_entries ∙ ap (map entry_of) (sym kept_of-insert);
-          slots = λ id. slots id ∙ ap (λ o. cond (bytes_eq k.1.id id) (Some k.0) o) (store.slots id)
-              ∙ sym (slot_of-with_kept rank k (kept_of record_at times) id absent) ∙ ap (slot_of id) (sym kept_of-insert);
-          history = ap is_history history_of-insert
-              ∙ is_history-with_event (plain_of rank k) (history_of rank (kept_of record_at times)) store.history
-              (has_id-slot_of rank k.1.id (kept_of record_at times) ∙ ap is_some absent);
-        }
+        pub IsStore-insert : (new_slots : List KeyedSlot) (i : ℕ) → IsCutAt k.1.id (listed_of record_at slots) i → new_slots ≡ insert slots i (keyed_slot k) →
+            IsStore rank new_record new_slots new
+        IsStore-insert new_slots i cut placed =
+            let unlisted : slot_of k.1.id (listed_of record_at slots) ≡ None = store.found k.1.id ∙ absent in
+            record {
+              entries = inserted_entries ∙ ap (map entry_of) (sym kept_of-insert);
+              listed = AreListed-insert record_at new_record slots new_slots store.listed i k cut unlisted free there others placed;
+              found = λ id. slot_of-inserted record_at new_record slots new_slots store.listed i k cut unlisted free there others placed id
+                  ∙ ap (λ o. cond (bytes_eq k.1.id id) (Some k.0) o) (store.found id)
+                  ∙ sym (slot_of-with_kept rank k (kept_of record_at times) id absent) ∙ ap (slot_of id) (sym kept_of-insert);
+              history = ap is_history history_of-insert
+                  ∙ is_history-with_event (plain_of rank k) (history_of rank (kept_of record_at times)) store.history
+                  (has_id-slot_of rank k.1.id (kept_of record_at times) ∙ ap is_some absent);
+            }
 
       -- ---- an event less
 
@@ -360,11 +223,16 @@ module _ {T : Type 0} where
         pub history_of-remove : history_of rank (kept_of new_record new) ≡ without_event event.id (history_of rank (kept_of record_at times))
         history_of-remove = ap (history_of rank) kept_of-remove ∙ history_of-without_kept rank event.id (kept_of record_at times)
 
-        pub IsStore-remove : (new_slot : List ℕ → Option Slot) → ((id : List ℕ) → new_slot id ≡ cond (bytes_eq event.id id) None (slot_at id)) → IsStore rank new_record new_slot new
-        IsStore-remove new_slot slots = record {
-          entries = removed_entries ∙ ap (map entry_of) (sym kept_of-remove);
-          slots = λ id. slots id ∙ ap (λ o. cond (bytes_eq event.id id) None o) (store.slots id)
-              ∙ sym (slot_of-without_kept event.id (kept_of record_at times) id) ∙ ap (slot_of id) (sym kept_of-remove);
-          history = ap is_history history_of-remove
-              ∙ is_history-without_event event.id (history_of rank (kept_of record_at times)) store.history;
-        }
+        pub IsStore-remove : (new_slots : List KeyedSlot) (i : ℕ) → IsCutAt event.id (listed_of record_at slots) i → new_slots ≡ remove slots i →
+            IsStore rank new_record new_slots new
+        IsStore-remove new_slots i cut taken =
+            let there : record_at slot.0 ≡ Some event = record-live record_at times slot event live in
+            record {
+              entries = removed_entries ∙ ap (map entry_of) (sym kept_of-remove);
+              listed = AreListed-remove record_at new_record slots new_slots store.listed i slot event cut (is_listed record_at slots times slot event store live) there others taken;
+              found = λ id. slot_of-removed record_at new_record slots new_slots store.listed i slot event cut (is_listed record_at slots times slot event store live) there others taken id
+                  ∙ ap (λ o. cond (bytes_eq event.id id) None o) (store.found id)
+                  ∙ sym (slot_of-without_kept event.id (kept_of record_at times) id) ∙ ap (slot_of id) (sym kept_of-remove);
+              history = ap is_history history_of-remove
+                  ∙ is_history-without_event event.id (history_of rank (kept_of record_at times)) store.history;
+            }

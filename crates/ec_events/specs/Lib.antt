@@ -1,1 +1,3 @@
+pub mod Identities
+pub mod Records
 pub mod Store

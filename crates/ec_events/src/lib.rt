@@ -2,6 +2,7 @@
 #![tactic(auto)]
 
 mod cursor;
+mod identities;
 mod store;
 #[cfg(test)]
 mod tests;

@@ -5,11 +5,11 @@ ghost use Rattle.ec_axioms.specs.Events.{event_of};
 ghost use Rattle.ec_events.specs.Store.{history_of, slot_of, event_at, kept_before, with_kept, without_kept};
 
 use crate::cursor::Cursor;
+use crate::identities::{Identities, key_of};
 use ec_axioms::{Event, Steps};
 use ec_moment::Moment;
 use ec_rows::TimeRow;
 use ec_terms::{Name, NoMemory, Slot};
-use indexmap::IndexMap;
 use slab::Slab;
 use std::alloc::Global;
 use std::marker::{Model, PhantomData};
@@ -22,27 +22,26 @@ use std::sync::ledger::Ledger;
 #[derive(Drop)]
 pub struct EventStore<T: Moment, X: TimeRow<T>> {
     records: Slab<Event<T>>,
-    slots: IndexMap<Name, Slot>,
+    identities: Identities,
     times: X,
     moment: PhantomData<T>,
 }
 
 impl<T: Moment, X: TimeRow<T>> Model for EventStore<T, X> {
-    ghost use Rattle.std.specs.Prelude.{◌-◌, ℕ, List, nat_eq, min};
-    ghost use Rattle.std.specs.Cmp.Lexicographic.{pointwise};
+    ghost use Rattle.std.specs.Prelude.{◌-◌, min};
     ghost use Rattle.slab.specs.Slab.{get as record_at, slab_len};
-    ghost use Rattle.indexmap.specs.IndexMap.{get as slot_at, spare as map_spare};
-    ghost use Rattle.ec_events.specs.Store.{Store, kept_of, IsStore};
+    ghost use Rattle.ec_events.specs.Store.{Store};
+    ghost use Rattle.ec_events.specs.Records.{kept_of, IsStore};
 
     ghost Value = { Store T };
 
     ghost view = { λ s. record {
       events = kept_of (record_at s.records) (X.times s.times);
-      spare = min (s.records.capacity - slab_len s.records) (min (map_spare s.slots) (X.spare s.times));
+      spare = min (s.records.capacity - slab_len s.records) (min s.identities.spare (X.spare s.times));
       places = s.records.capacity;
     } };
 
-    ghost invariant = { λ s. IsStore T.rank (record_at s.records) (slot_at (pointwise nat_eq) s.slots) (X.times s.times) };
+    ghost invariant = { λ s. IsStore T.rank (record_at s.records) s.identities.items (X.times s.times) };
 }
 
 impl<T: Moment, X: TimeRow<T>> EventStore<T, X> {
@@ -52,7 +51,7 @@ impl<T: Moment, X: TimeRow<T>> EventStore<T, X> {
     {
         Ok(EventStore {
             records: Slab::new(alloc),
-            slots: IndexMap::new(alloc),
+            identities: Identities::new(alloc),
             times: X::new(alloc)?,
             moment: PhantomData,
         })
@@ -84,7 +83,7 @@ impl<T: Moment, X: TimeRow<T>> EventStore<T, X> {
         ensures places { self.old.places ≤ self.new.places }
     {
         self.records.reserve(n)?;
-        self.slots.reserve(n)?;
+        self.identities.reserve(n)?;
         self.times.reserve(n)
     }
 
@@ -94,7 +93,7 @@ impl<T: Moment, X: TimeRow<T>> EventStore<T, X> {
         ensures live { IfSome result (λ slot. IsSome (event_at slot self.now.events)) }
         ensures event { IfSome result (λ slot. IfSome (event_at slot self.now.events) (λ event. event.id ≡ id.now)) }
     {
-        self.slots.get(id).copied()
+        self.identities.find(id, &self.records)
     }
 
     /// The event under a slot. It takes one step.
@@ -121,11 +120,10 @@ impl<T: Moment, X: TimeRow<T>> EventStore<T, X> {
     {
         let at = event.at;
         let id = event.id.copied();
+        let key = key_of(&id);
+        let place = self.identities.place_of(key, &id, &self.records);
         let slot = Slot(self.records.insert_reserved(event));
-        match self.slots.insert(id.copied(), slot) {
-            Ok(_) => {}
-            Err(_) => unreachable!(),
-        }
+        self.identities.insert(place, key, slot);
         self.times.put(at, id, slot);
         slot
     }
@@ -142,8 +140,10 @@ impl<T: Moment, X: TimeRow<T>> EventStore<T, X> {
         ensures steps { steps.new ≡ steps.old + 1 }
     {
         steps.tick(); // the record is taken out
+        let id = &self.records.get(slot.0).unwrap().id;
+        let place = self.identities.place_of(key_of(id), id, &self.records);
         let event = self.records.try_remove(slot.0).unwrap();
-        let _ = self.slots.swap_remove(&event.id);
+        self.identities.remove(place);
         let _ = self.times.take_out(event.at, &event.id);
         event
     }

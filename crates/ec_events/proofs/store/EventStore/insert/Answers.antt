@@ -1,12 +1,14 @@
--- An event more in the records, the slots and the times is an event more in the store.
-use Rattle.std.proofs.Common.{Some, sym, ap, ◌∙◌, cond}
-use Rattle.std.specs.Prelude.{bytes_eq}
+-- An event more in the records, the identities and the times is an event more in the store.
+use Rattle.std.proofs.Common.{sym, ap, subst, ◌∙◌}
+use Rattle.std.specs.List.{insert}
 use Rattle.slab.specs.Slab.{get as record_at}
-use Rattle.indexmap.specs.IndexMap.{get as slot_at}
 use Rattle.ec_axioms.specs.Changes.{with_event}
 use Rattle.ec_axioms.specs.Events.{event_of}
 use Rattle.ec_rows.specs.Times.{with_entry}
 use Rattle.ec_events.specs.Store.{Store, history_of, slot_of, event_at, with_kept}
+use Rattle.ec_events.specs.Identities.{key_of}
+use Rattle.ec_events.specs.Records.{listed_of}
+use Rattle.ec_events.proofs.IdentityLemmas.{IsCutAt}
 use Rattle.ec_events.proofs.StoreLemmas.{has_entry-absent, IsStore-insert, kept_of-insert, history_of-insert, event_at-insert, event_at-free}
 use Rattle.ec_events.proofs.store.EventStore.insert.Goals as goal
 
@@ -23,8 +25,11 @@ invariant_of-self g c =
     c.insert_reserved.ensures.was_vacant c.insert_reserved.ensures.updates.changed c.insert_reserved.ensures.updates.others
     (c.put.ensures.times
     ∙ ap (λ id. with_entry g.T.Moment.rank (c.args.event.at, id, record { 0 = c.insert_reserved.result }) (g.X.TimeRow.times c.self.inside.times)) c.copied-id.ensures.same)
-    _ (λ id. c.in-Ok.ensures.updates.0 id
-    ∙ ap (λ key. cond (bytes_eq key id) (Some (record { 0 = c.insert_reserved.result })) (slot_at bytes_eq c.self.inside.slots id)) (c.copied.ensures.same ∙ c.copied-id.ensures.same))
+    _ c.place_of-place.result
+    (subst (λ id. IsCutAt id (listed_of (record_at c.self.inside.records) c.self.inside.identities.items) c.place_of-place.result) c.copied-id.ensures.same c.place_of-place.ensures.cut)
+    (c.insert.ensures.items
+    ∙ ap (λ n. insert c.self.inside.identities.items c.place_of-place.result (record { key = n; slot = record { 0 = c.insert_reserved.result } }))
+    (c.key_of-key.ensures ∙ ap key_of c.copied-id.ensures.same))
 
 pub returns-clause-free : goal.returns-clause-free
 returns-clause-free g c =

@@ -6,14 +6,14 @@ use Rattle.ec_events.proofs.store.EventStore.reserve.Goals as goal
 
 pub invariant_of-self : goal.invariant_of-self
 invariant_of-self g c =
-    IsStore-same g.T.Moment.rank _ _ _ _ _ _ (λ n. ap (λ (s : Slab _). slice_index_or s.slots n None) c.reserve.ensures.rest_kept) (λ id. refl) refl c.self.invariant
+    IsStore-same g.T.Moment.rank _ _ _ _ _ _ (λ n. ap (λ (s : Slab _). slice_index_or s.slots n None) c.reserve.ensures.rest_kept) refl refl c.self.invariant
 
 pub invariant_of-self-in_err-reserve-2 : goal.invariant_of-self-in_err-reserve-2
 invariant_of-self-in_err-reserve-2 g c =
     IsStore-same g.T.Moment.rank _ _ _ _ _ _ (λ n. ap (λ (s : Slab _). slice_index_or s.slots n None) c.reserve.ensures.rest_kept)
-    (λ id. rw c.reserve-2.ensures.entries) refl c.self.invariant
+    c.reserve-2.ensures.same refl c.self.invariant
 
 pub invariant_of-self-2 : goal.invariant_of-self-2
 invariant_of-self-2 g c =
     IsStore-same g.T.Moment.rank _ _ _ _ _ _ (λ n. ap (λ (s : Slab _). slice_index_or s.slots n None) c.reserve.ensures.rest_kept)
-    (λ id. rw c.reserve-2.ensures.entries) c.reserve-3.ensures.same c.self.invariant
+    c.reserve-2.ensures.same c.reserve-3.ensures.same c.self.invariant
