@@ -24,6 +24,7 @@ use Rattle.ec_parts.specs.declared.tally.Tally.{Tally}
 use Rattle.ec_parts.specs.StandFor.{StandFor, View}
 use Rattle.ec_parts.specs.Tables.{KeepsOnlyLive}
 use Rattle.ec_props.specs.Table.{KeptProp, prop_at, term_at}
+use Rattle.ec_replies.proofs.Limits.{length-with_event}
 use Rattle.ec_replies.specs.Runs.{may_want_by}
 use Rattle.ec_replies.specs.Updates.{asserted, updated_by, updated_from}
 use Rattle.ec_revise.specs.declared.change.Change.{Change}
@@ -37,7 +38,7 @@ use Rattle.ec_engine.specs.CarriedOut.{LeadsTo}
 use Rattle.ec_engine.specs.Limits.{IsWithinLimits}
 use Rattle.ec_engine.specs.Revise.{IsRevised, batch_may_want_memory}
 use Rattle.ec_engine.specs.Walk.{AreLiveOrListed}
-use Rattle.ec_engine.proofs.FoundEvents.{event_with-member, event_with-put, found-has_event, has_id-found, length-with_event}
+use Rattle.ec_engine.proofs.FoundEvents.{event_with-member, event_with-put, found-has_event, has_id-found}
 use Rattle.ec_engine.proofs.WalkSteps.{few-let_in, is_live-with, listed-more, new_terms}
 
 -- ---- the events that a list has alone
