@@ -83,27 +83,27 @@ last_of-drop n block within =
 -- ---- blocks
 
 module _ {X : Type 0} where
-  pub is_block-from : (block : List X) → 1 ≤ length block → length block ≤ 64 → is_block block ≡ true
+  pub is_block-from : (block : List X) → 1 ≤ length block → length block ≤ 128 → is_block block ≡ true
   is_block-from block some most = grind (arith, nat_tests)
 
   pub is_block-some : (block : List X) → is_block block ≡ true → 1 ≤ length block
   is_block-some block is = let some : nat_le 1 (length block) ≡ true = and-left _ _ is in grind (arith, nat_tests)
 
-  pub is_block-most : (block : List X) → is_block block ≡ true → length block ≤ 64
-  is_block-most block is = let most : nat_le (length block) 64 ≡ true = and-right (nat_le 1 (length block)) _ is in grind (arith, nat_tests)
+  pub is_block-most : (block : List X) → is_block block ≡ true → length block ≤ 128
+  is_block-most block is = let most : nat_le (length block) 128 ≡ true = and-right (nat_le 1 (length block)) _ is in grind (arith, nat_tests)
 
   -- the members are not too many
-  pub joined-most : (blocks : List (List X)) → list_all is_block blocks ≡ true → length (joined blocks) ≤ 64 * length blocks
+  pub joined-most : (blocks : List (List X)) → list_all is_block blocks ≡ true → length (joined blocks) ≤ 128 * length blocks
   joined-most [] all = omega arith
   joined-most (b ∷ blocks) all =
       omega (arith, length-append b (joined blocks), is_block-most b (and-left _ _ all), joined-most blocks (and-right _ _ all))
 
   -- the starts are below a number that no count of members reaches
-  pub starts-below : (bound n : ℕ) (blocks : List (List X)) → list_all is_block blocks ≡ true → n + 64 * length blocks < bound →
+  pub starts-below : (bound n : ℕ) (blocks : List (List X)) → list_all is_block blocks ≡ true → n + 128 * length blocks < bound →
       list_all (λ place. nat_lt place bound) (starts_from n blocks) ≡ true
   starts-below bound n [] all few = refl
   starts-below bound n (b ∷ blocks) all few =
-      let most : length b ≤ 64 = is_block-most b (and-left _ _ all) in
+      let most : length b ≤ 128 = is_block-most b (and-left _ _ all) in
       ap₂ (λ a c. a && c) (below n bound (omega arith)) (starts-below bound (n + length b) blocks (and-right _ _ all) (omega arith))
     where
       below : (m n : ℕ) → m < n → nat_lt m n ≡ true
@@ -136,14 +136,14 @@ module _ {X B : Type 0} (items : B → List X) (capacity : B → ℕ) where
   pub place-within : (blocks : List B) (lists : List (List X)) (k : ℕ) → map items blocks ≡ lists → k < length lists → k < length blocks
   place-within blocks lists k are within = subst (λ n. k < n) (sym (ap length are) ∙ length-map blocks items) within
 
-  pub is_kept-from : (b : B) → 1 ≤ length (items b) → length (items b) ≤ 64 → 64 ≤ capacity b → is_kept items capacity b ≡ true
+  pub is_kept-from : (b : B) → 1 ≤ length (items b) → length (items b) ≤ 128 → 128 ≤ capacity b → is_kept items capacity b ≡ true
   is_kept-from b some most room = grind (arith, nat_tests)
 
   pub is_kept-block : (b : B) → is_kept items capacity b ≡ true → is_block (items b) ≡ true
-  is_kept-block b is = and-left (is_block (items b)) (nat_le 64 (capacity b)) is
+  is_kept-block b is = and-left (is_block (items b)) (nat_le 128 (capacity b)) is
 
-  pub is_kept-room : (b : B) → is_kept items capacity b ≡ true → 64 ≤ capacity b
-  is_kept-room b is = let room : nat_le 64 (capacity b) ≡ true = and-right (is_block (items b)) _ is in grind (arith, nat_tests)
+  pub is_kept-room : (b : B) → is_kept items capacity b ≡ true → 128 ≤ capacity b
+  is_kept-room b is = let room : nat_le 128 (capacity b) ≡ true = and-right (is_block (items b)) _ is in grind (arith, nat_tests)
 
   -- each list of members is a block
   pub kept-blocks : (blocks : List B) → list_all (is_kept items capacity) blocks ≡ true → list_all is_block (map items blocks) ≡ true
@@ -168,7 +168,7 @@ module _ {X B : Type 0} (items : B → List X) (capacity : B → ℕ) where
     lists-are-blocks = kept-blocks blocks chain.kept
 
     -- the starts can be raised
-    pub starts-fit : (k : ℕ) → length blocks ≤ 2 ^ 57 → list_all (λ place. nat_lt place (2 ^ 64 - 1)) (drop k starts) ≡ true
+    pub starts-fit : (k : ℕ) → length blocks ≤ 2 ^ 56 → list_all (λ place. nat_lt place (2 ^ 64 - 1)) (drop k starts) ≡ true
     starts-fit k few =
         list_all-drop (λ place. nat_lt place (2 ^ 64 - 1)) starts k
         (ap (list_all (λ place. nat_lt place (2 ^ 64 - 1))) chain.starts_are

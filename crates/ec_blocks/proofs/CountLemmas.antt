@@ -18,20 +18,20 @@ module _ {X : Type 0} where
   pub counted-total : (blocks : List (List X)) (total owed : ℕ) → IsCounted blocks total owed → total ≡ length (joined blocks)
   counted-total blocks total owed counted = omega (arith, counted.total_is, length-flat_map (λ block. block) blocks)
 
-  owed-below : (blocks : List (List X)) → sum_by (λ block. length block - 32) blocks ≤ sum_by length blocks
+  owed-below : (blocks : List (List X)) → sum_by (λ block. length block - 64) blocks ≤ sum_by length blocks
   owed-below [] = omega arith
-  owed-below (b ∷ blocks) = omega (arith, owed-below blocks, sum_by-cons length b blocks, sum_by-cons (λ block. length block - 32) b blocks)
+  owed-below (b ∷ blocks) = omega (arith, owed-below blocks, sum_by-cons length b blocks, sum_by-cons (λ block. length block - 64) b blocks)
 
   -- the counts are small
-  pub counted-few : (blocks : List (List X)) (total owed : ℕ) → IsCounted blocks total owed → list_all is_block blocks ≡ true → total ≤ 64 * length blocks
+  pub counted-few : (blocks : List (List X)) (total owed : ℕ) → IsCounted blocks total owed → list_all is_block blocks ≡ true → total ≤ 128 * length blocks
   counted-few blocks total owed counted all = omega (arith, counted-total blocks total owed counted, joined-most blocks all)
 
-  pub owed-few : (blocks : List (List X)) (total owed : ℕ) → IsCounted blocks total owed → list_all is_block blocks ≡ true → owed ≤ 64 * length blocks
+  pub owed-few : (blocks : List (List X)) (total owed : ℕ) → IsCounted blocks total owed → list_all is_block blocks ≡ true → owed ≤ 128 * length blocks
   owed-few blocks total owed counted all =
       omega (arith, counted.total_is, counted.owed_is, owed-below blocks, counted-few blocks total owed counted all)
 
   module _ {B : Type 0} (items : B → List X) (capacity : B → ℕ) (blocks : List B) (total owed : ℕ) (kept : list_all (is_kept items capacity) blocks ≡ true)
-      (few : length blocks ≤ 2 ^ 57) (counted : IsCounted (map items blocks) total owed) where
+      (few : length blocks ≤ 2 ^ 56) (counted : IsCounted (map items blocks) total owed) where
     pub counted-small : total ≤ 2 ^ 63
     counted-small =
         omega (arith, counted-few (map items blocks) total owed counted (kept-blocks items capacity blocks kept), length-map blocks items)
@@ -41,56 +41,56 @@ module _ {X : Type 0} where
 
   -- a block more at the end
   pub counted-push : {B : Type 0} (items : B → List X) (blocks after : List B) (new : B) (total owed total' owed' : ℕ) → IsCounted (map items blocks) total owed →
-      after ≡ blocks ++ new ∷ [] → total' ≡ total + length (items new) → owed' ≡ owed + (length (items new) - 32) → IsCounted (map items after) total' owed'
+      after ≡ blocks ++ new ∷ [] → total' ≡ total + length (items new) → owed' ≡ owed + (length (items new) - 64) → IsCounted (map items after) total' owed'
   counted-push items blocks after new total owed total' owed' counted is more owing =
       let there = ap (map items) is ∙ map_push items blocks new in
       counted-same (map items blocks ++ items new ∷ []) (map items after) total' owed' (sym there) (record {
         total_is = omega (arith, counted.total_is, sum_by-append length (map items blocks) (items new ∷ []));
-        owed_is = omega (arith, counted.owed_is, sum_by-append (λ block. length block - 32) (map items blocks) (items new ∷ []));
+        owed_is = omega (arith, counted.owed_is, sum_by-append (λ block. length block - 64) (map items blocks) (items new ∷ []));
       })
 
   -- a block is counted
   pub counted-part : (blocks : List (List X)) (k total owed : ℕ) → IsCounted blocks total owed → k < length blocks → length (block_at k blocks) ≤ total
   counted-part blocks k total owed counted within = omega (arith, counted.total_is, sum_by-set length blocks k [] [] within)
 
-  pub owed-part : (blocks : List (List X)) (k total owed : ℕ) → IsCounted blocks total owed → k < length blocks → length (block_at k blocks) - 32 ≤ owed
+  pub owed-part : (blocks : List (List X)) (k total owed : ℕ) → IsCounted blocks total owed → k < length blocks → length (block_at k blocks) - 64 ≤ owed
   owed-part blocks k total owed counted within =
-      omega (arith, counted.owed_is, sum_by-set (λ block. length block - 32) blocks k [] [] within)
+      omega (arith, counted.owed_is, sum_by-set (λ block. length block - 64) blocks k [] [] within)
 
   -- a block changes
   pub counted-set : (blocks after : List (List X)) (k : ℕ) (b : List X) (total owed total' owed' : ℕ) → IsCounted blocks total owed → k < length blocks →
       after ≡ set blocks k b → total' + length (block_at k blocks) ≡ total + length b →
-      owed' + (length (block_at k blocks) - 32) ≡ owed + (length b - 32) → IsCounted after total' owed'
+      owed' + (length (block_at k blocks) - 64) ≡ owed + (length b - 64) → IsCounted after total' owed'
   counted-set blocks after k b total owed total' owed' counted within is more owing =
       counted-same (set blocks k b) after total' owed' (sym is) (record {
         total_is = omega (arith, counted.total_is, sum_by-set length blocks k b [] within);
-        owed_is = omega (arith, counted.owed_is, sum_by-set (λ block. length block - 32) blocks k b [] within);
+        owed_is = omega (arith, counted.owed_is, sum_by-set (λ block. length block - 64) blocks k b [] within);
       })
 
   -- a block more
   pub counted-insert : (blocks after : List (List X)) (k : ℕ) (b : List X) (total owed total' owed' : ℕ) → IsCounted blocks total owed →
-      after ≡ insert blocks k b → total' ≡ total + length b → owed' ≡ owed + (length b - 32) → IsCounted after total' owed'
+      after ≡ insert blocks k b → total' ≡ total + length b → owed' ≡ owed + (length b - 64) → IsCounted after total' owed'
   counted-insert blocks after k b total owed total' owed' counted is more owing =
       counted-same (insert blocks k b) after total' owed' (sym is) (record {
         total_is = omega (arith, counted.total_is, sum_by-insert length blocks k b);
-        owed_is = omega (arith, counted.owed_is, sum_by-insert (λ block. length block - 32) blocks k b);
+        owed_is = omega (arith, counted.owed_is, sum_by-insert (λ block. length block - 64) blocks k b);
       })
 
   -- a block less
   pub counted-remove : (blocks after : List (List X)) (k total owed total' owed' : ℕ) → IsCounted blocks total owed → k < length blocks →
       after ≡ remove blocks k → total' + length (block_at k blocks) ≡ total →
-      owed' + (length (block_at k blocks) - 32) ≡ owed → IsCounted after total' owed'
+      owed' + (length (block_at k blocks) - 64) ≡ owed → IsCounted after total' owed'
   counted-remove blocks after k total owed total' owed' counted within is less owing =
       counted-same (remove blocks k) after total' owed' (sym is) (record {
         total_is = omega (arith, counted.total_is, sum_by-remove length blocks k [] within);
-        owed_is = omega (arith, counted.owed_is, sum_by-remove (λ block. length block - 32) blocks k [] within);
+        owed_is = omega (arith, counted.owed_is, sum_by-remove (λ block. length block - 64) blocks k [] within);
       })
 
   -- the last block counts whole on the way to a split
   pub debt-counted : (blocks : List (List X)) (n : ℕ) → suc n ≡ length blocks →
-      debt blocks ≡ sum_by (λ block. length block - 32) blocks + min (length (block_at n blocks)) 32
+      debt blocks ≡ sum_by (λ block. length block - 64) blocks + min (length (block_at n blocks)) 64
   debt-counted [] n last = absurd (omega arith)
   debt-counted (a ∷ []) zero last = omega arith
   debt-counted (a ∷ []) (suc n) last = absurd (omega arith)
   debt-counted (a ∷ b ∷ blocks) zero last = absurd (omega arith)
-  debt-counted (a ∷ b ∷ blocks) (suc n) last = omega (arith, debt-counted (b ∷ blocks) n (omega arith), sum_by-cons (λ block. length block - 32) a (b ∷ blocks))
+  debt-counted (a ∷ b ∷ blocks) (suc n) last = omega (arith, debt-counted (b ∷ blocks) n (omega arith), sum_by-cons (λ block. length block - 64) a (b ∷ blocks))

@@ -21,10 +21,10 @@ module _ {X B : Type 0} (items : B → List X) (capacity : B → ℕ) (blocks : 
     pub old-some : 1 ≤ length (items old)
     old-some = is_block-some (items old) (is_kept-block items capacity old old-kept)
 
-    pub old-most : length (items old) ≤ 64
+    pub old-most : length (items old) ≤ 128
     old-most = is_block-most (items old) (is_kept-block items capacity old old-kept)
 
-    pub old-room : 64 ≤ capacity old
+    pub old-room : 128 ≤ capacity old
     old-room = is_kept-room items capacity old old-kept
 
     pub old-list : items old ≡ block_at k lists
@@ -46,7 +46,7 @@ module _ {X B : Type 0} (items : B → List X) (capacity : B → ℕ) (blocks : 
           IsChain-same items capacity blocks starts lasts spares chain k old new within is (is_kept-from items capacity new (omega arith) (omega arith) (omega arith)) lasts' last-new same
 
       -- it gets one more
-      pub edited-more : (starts' : List ℕ) → length (items new) ≡ length (items old) + 1 → length (items old) < 64 →
+      pub edited-more : (starts' : List ℕ) → length (items new) ≡ length (items old) + 1 → length (items old) < 128 →
           starts' ≡ take (k + 1) starts ++ map (λ place. place + 1) (drop (k + 1) starts) → IsChain items capacity (set blocks k new) starts' lasts' spares
       edited-more starts' more free raised =
           let wide = old-room in
@@ -69,12 +69,12 @@ module _ {X B : Type 0} (items : B → List X) (capacity : B → ℕ) (blocks : 
     lasts_are = ap (map Some) ls ∙ chain.lasts_are ∙ ap (λ zs. map last_of (map items zs)) (sym bs);
   }
 
-  pub is_spare-from : (b : B) → items b ≡ [] → 64 ≤ capacity b → is_spare items capacity b ≡ true
+  pub is_spare-from : (b : B) → items b ≡ [] → 128 ≤ capacity b → is_spare items capacity b ≡ true
   is_spare-from b empty room = rw empty (grind (arith, nat_tests))
 
   -- a block more at the end
   pub appended : (blocks' : List B) (starts' : List ℕ) (lasts' : List X) (spares' : List B) (new : B) (start : ℕ) (x : X) (members : List X) →
-      blocks' ≡ blocks ++ new ∷ [] → starts' ≡ starts ++ start ∷ [] → lasts' ≡ lasts ++ x ∷ [] → items new ≡ members → is_block members ≡ true → 64 ≤ capacity new →
+      blocks' ≡ blocks ++ new ∷ [] → starts' ≡ starts ++ start ∷ [] → lasts' ≡ lasts ++ x ∷ [] → items new ≡ members → is_block members ≡ true → 128 ≤ capacity new →
       start ≡ length (joined lists) → Some x ≡ last_of members → list_all (is_spare items capacity) spares' ≡ true → IsChain items capacity blocks' starts' lasts' spares'
   appended blocks' starts' lasts' spares' new start x members bs ss ls made block room begins last empty =
       let there : map items blocks' ≡ lists ++ members ∷ [] =
@@ -107,31 +107,31 @@ module _ {X B : Type 0} (items : B → List X) (capacity : B → ℕ) (blocks : 
 
   -- a full block becomes two
   pub halved : (k : ℕ) (block : k < length lists) (old : B) (is : old ≡ get_or blocks k old) (front behind read : B) (members : List X) (start : ℕ)
-      (blocks' : List B) (starts' : List ℕ) (lasts' : List X) (spares' : List B) → length (block_at k lists) ≡ 64 →
-      items front ≡ take 32 (items old) → items behind ≡ drop 32 (items old) → capacity front ≡ capacity old → 64 ≤ capacity behind →
+      (blocks' : List B) (starts' : List ℕ) (lasts' : List X) (spares' : List B) → length (block_at k lists) ≡ 128 →
+      items front ≡ take 64 (items old) → items behind ≡ drop 64 (items old) → capacity front ≡ capacity old → 128 ≤ capacity behind →
       read ≡ get_or (set blocks k front) k read → members ≡ items read → start ≡ get_or starts k 0 →
-      blocks' ≡ insert (set blocks k front) (k + 1) behind → starts' ≡ insert starts (k + 1) (start + 32) →
+      blocks' ≡ insert (set blocks k front) (k + 1) behind → starts' ≡ insert starts (k + 1) (start + 64) →
       map Some lasts' ≡ insert (map Some lasts) k (last_of members) → list_all (is_spare items capacity) spares' ≡ true → IsChain items capacity blocks' starts' lasts' spares'
   halved k block old is front behind read members start blocks' starts' lasts' spares' full is_front is_behind same room read_is members_are begins bs ss ls empty =
       let b : List X = block_at k lists in
       let list : items old ≡ b = old-list k block old is in
-      let u : items front ≡ take 32 b = is_front ∙ ap (take 32) list in
-      let v : items behind ≡ drop 32 b = is_behind ∙ ap (drop 32) list in
-      let u_length : length (items front) ≡ 32 = ap length u ∙ length-take-le 32 b (omega arith) in
-      let v_length : length (items behind) ≡ 32 = ap length v ∙ length-drop 32 b ∙ (omega arith) in
-      let wide : 64 ≤ capacity old = old-room k block old is in
+      let u : items front ≡ take 64 b = is_front ∙ ap (take 64) list in
+      let v : items behind ≡ drop 64 b = is_behind ∙ ap (drop 64) list in
+      let u_length : length (items front) ≡ 64 = ap length u ∙ length-take-le 64 b (omega arith) in
+      let v_length : length (items behind) ≡ 64 = ap length v ∙ length-drop 64 b ∙ (omega arith) in
+      let wide : 128 ≤ capacity old = old-room k block old is in
       let inside : k < length blocks = within k block old is in
       let there : map items blocks' ≡ insert (set lists k (items front)) (suc k) (items behind) =
       ap (map items) bs ∙ map-insert items (set blocks k front) (k + 1) behind
       ∙ ap₂ (λ us n. insert us n (items behind)) (map-set items blocks k front ∙ ap (λ us. set us k (items front)) are) (add-one k) in
       let member : last_of members ≡ last_of (items front) = ap last_of (members_are ∙ ap items (read_is ∙ get_or-set_same blocks k front read inside)) in
-      let last : last_of (items behind) ≡ last_of b = ap last_of v ∙ last_of-drop 32 b (omega arith) in
+      let last : last_of (items behind) ≡ last_of b = ap last_of v ∙ last_of-drop 64 b (omega arith) in
       record {
         kept = ap (list_all (is_kept items capacity)) bs
             ∙ list_all-insert (is_kept items capacity) (set blocks k front) (k + 1) behind (is_kept-from items capacity behind (omega arith) (omega arith) room)
             (list_all-set (is_kept items capacity) blocks k front (is_kept-from items capacity front (omega arith) (omega arith) (omega arith)) chain.kept);
         spare = empty;
-        starts_are = ss ∙ ap₂ (λ ps n. insert ps n (start + 32)) (chain.starts_are ∙ ap (starts_from 0) are) (add-one k)
+        starts_are = ss ∙ ap₂ (λ ps n. insert ps n (start + 64)) (chain.starts_are ∙ ap (starts_from 0) are) (add-one k)
             ∙ ap (λ p. insert (starts_from 0 lists) (suc k) p) (omega (arith, start-is items capacity blocks starts lasts spares chain lists k start are block begins))
             ∙ sym (ap (starts_from 0) there ∙ starts-split 0 lists k (items front) (items behind) block (omega arith));
         lasts_are = ls ∙ ap₂ (λ os o. insert os k o) (chain.lasts_are ∙ ap (map last_of) are) member

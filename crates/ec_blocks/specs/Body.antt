@@ -8,10 +8,10 @@ use Rattle.ec_rows.specs.Ordered.{Reserved}
 
 -- the members, and how many further ones there is room for, wherever they are put
 abbrev pub seen_of : {X : Type 0} → Body X → Reserved X
-seen_of (Few members) = record { items = members.items; spare = min (vec_capacity members) 64 - vec_len members }
+seen_of (Few members) = record { items = members.items; spare = min (vec_capacity members) 128 - vec_len members }
 seen_of (Many chain) = record { items = joined chain.value.blocks; spare = room_of chain.value.blocks chain.value.spares }
 
 -- few members are no more than one block has
 abbrev pub IsBody : {X : Type 0} → Body X → Type 0
-IsBody (Few members) = vec_len members ≤ 64
+IsBody (Few members) = vec_len members ≤ 128
 IsBody (Many chain) = Unit {0}

@@ -28,18 +28,18 @@ abbrev pub starts_from : {X : Type 0} → ℕ → List (List X) → List ℕ
 starts_from n [] = []
 starts_from n (block ∷ blocks) = n ∷ starts_from (n + length block) blocks
 
--- a block is not empty, and has 64 members at the most
+-- a block is not empty, and has 128 members at the most
 abbrev pub is_block : {X : Type 0} → List X → Bool
-is_block block = nat_le 1 (length block) && nat_le (length block) 64
+is_block block = nat_le 1 (length block) && nat_le (length block) 128
 
 -- How far the blocks are on the way to their next splits, which take a spare block each. A block is split in halves,
 -- so what it has beyond one half counts. Behind a full last block a new one begins: it counts whole.
 abbrev pub debt : {X : Type 0} → List (List X) → ℕ
-debt [] = 32
+debt [] = 64
 debt (block ∷ []) = length block
-debt (block ∷ next ∷ blocks) = (length block - 32) + debt (next ∷ blocks)
+debt (block ∷ next ∷ blocks) = (length block - 64) + debt (next ∷ blocks)
 
 -- How many insertions the spare blocks are good for, wherever they come. An insertion splits one block at the most;
--- and all the splits take 32 insertions each, but for those that the blocks are on the way to.
+-- and all the splits take 64 insertions each, but for those that the blocks are on the way to.
 abbrev pub room_of : {X : Type 0} → List (List X) → ℕ → ℕ
-room_of blocks spares = max spares (32 * spares - debt blocks)
+room_of blocks spares = max spares (64 * spares - debt blocks)

@@ -19,7 +19,7 @@ pub(crate) enum Body<X> {
     Many(Box<Chain<X>>),
 }
 
-/// A list in which members are put in and taken out cheaply anywhere: in blocks of at most 64 members, found
+/// A list in which members are put in and taken out cheaply anywhere: in blocks of at most 128 members, found
 /// by binary search, so that an edit moves one block and never the whole tail. Its calls take no memory once
 /// there is room. Contracts see it as the list of its members, and how many further members it takes without
 /// memory, wherever they are put.
@@ -264,11 +264,11 @@ fn chain_for<X: Copied + Drop>(
     members: &Vec<X>,
     n: usize,
 ) -> Result<Option<Box<Chain<X>>>, NoMemory>
-    requires { vec_len members.now ≤ 64 }
+    requires { vec_len members.now ≤ 128 }
     ensures members { IfOk result (λ found. IfSome found (λ chain. joined chain.value.blocks ≡ members.now.items)) }
     ensures room { IfOk result (λ found. IfSome found (λ chain. n ≤ room_of chain.value.blocks chain.value.spares)) }
-    ensures spare { IfOk result (λ found. IfSome found (λ chain. min (vec_capacity members.now) 64 - vec_len members.now ≤ room_of chain.value.blocks chain.value.spares)) }
-    ensures none { IfOk result (λ found. IfNone found (vec_len members.now + n ≤ 64)) }
+    ensures spare { IfOk result (λ found. IfSome found (λ chain. min (vec_capacity members.now) 128 - vec_len members.now ≤ room_of chain.value.blocks chain.value.spares)) }
+    ensures none { IfOk result (λ found. IfNone found (vec_len members.now + n ≤ 128)) }
 {
     if n <= CAPACITY - members.len() {
         return Ok(None);
@@ -279,7 +279,7 @@ fn chain_for<X: Copied + Drop>(
 
 /// A chain with copies of some members, and room for `n` more.
 fn chain_of<X: Copied + Drop>(alloc: Global, members: &[X], n: usize) -> Result<Chain<X>, NoMemory>
-    requires { length members.now ≤ 64 }
+    requires { length members.now ≤ 128 }
     ensures members { IfOk result (λ chain. joined chain.blocks ≡ members.now) }
     ensures room { IfOk result (λ chain. n ≤ room_of chain.blocks chain.spares) }
 {

@@ -102,9 +102,9 @@ impl<X: Copied + Drop> Chain<X> {
 
     /// Whether the last block is full, or there is none.
     fn is_last_full(&self) -> bool
-        ensures full { result ≡ true → (k : ℕ) → suc k ≡ length self.now.blocks → length (block_at k self.now.blocks) ≡ 64 }
+        ensures full { result ≡ true → (k : ℕ) → suc k ≡ length self.now.blocks → length (block_at k self.now.blocks) ≡ 128 }
         ensures some { result ≡ false → 1 ≤ length self.now.blocks }
-        ensures free { result ≡ false → length (block_at (length self.now.blocks - 1) self.now.blocks) < 64 }
+        ensures free { result ≡ false → length (block_at (length self.now.blocks - 1) self.now.blocks) < 128 }
     {
         let count = self.count();
         if count == 0 {
@@ -117,7 +117,7 @@ impl<X: Copied + Drop> Chain<X> {
     fn insert_behind(&mut self, x: X)
         requires { 1 ≤ self.old.spares }
         ensures members { joined self.new.blocks ≡ joined self.old.blocks ++ x ∷ [] }
-        ensures debt { debt self.new.blocks + 32 * self.old.spares ≤ debt self.old.blocks + 32 * self.new.spares + 1 }
+        ensures debt { debt self.new.blocks + 64 * self.old.spares ≤ debt self.old.blocks + 64 * self.new.spares + 1 }
         ensures spares { self.old.spares ≤ self.new.spares + 1 }
     {
         if self.is_last_full() {
@@ -134,7 +134,7 @@ impl<X: Copied + Drop> Chain<X> {
         requires within { i < length (joined self.old.blocks) }
         requires spare { 1 ≤ self.old.spares }
         ensures members { joined self.new.blocks ≡ insert (joined self.old.blocks) i x }
-        ensures debt { debt self.new.blocks + 32 * self.old.spares ≤ debt self.old.blocks + 32 * self.new.spares + 1 }
+        ensures debt { debt self.new.blocks + 64 * self.old.spares ≤ debt self.old.blocks + 64 * self.new.spares + 1 }
         ensures spares { self.old.spares ≤ self.new.spares + 1 }
     {
         let k = self.locate(i);

@@ -1,4 +1,4 @@
-//! A list in blocks of at most 64 members, one behind another.
+//! A list in blocks of at most 128 members, one behind another.
 ghost use Rattle.std.specs.Prelude.{◌≡◌, ◌+◌, ◌-◌, ◌*◌, ◌^◌, ◌<◌, ◌≤◌, ◌++◌, ◌∷◌, [], Bool, true, false, Some, IsTrue, OnOk, OnErr, length, take, drop, slice_get, slice_set, map, vec_len};
 ghost use Rattle.std.specs.Fn.{ComputesKey};
 ghost use Rattle.std.specs.List.{insert, remove, list_all};
@@ -15,13 +15,13 @@ use std::alloc::Global;
 use std::marker::Model;
 
 /// How many members a block holds at the most.
-pub(crate) const CAPACITY: usize = 64;
+pub(crate) const CAPACITY: usize = 128;
 
 /// Half of a full block.
-pub(crate) const HALF: usize = 32;
+pub(crate) const HALF: usize = 64;
 
 /// How many blocks there can be, so that their members can be counted.
-const LIMIT: usize = 1 << 57;
+const LIMIT: usize = 1 << 56;
 
 /// Blocks one behind another, and empty ones that lie ready.
 #[derive(Drop)]
@@ -65,7 +65,7 @@ impl<X: Copied + Drop> Chain<X> {
     /// How many blocks there are.
     pub(crate) fn count(&self) -> usize
         ensures count { result ≡ length self.now.blocks }
-        ensures few { length self.now.blocks + self.now.spares ≤ 2 ^ 57 }
+        ensures few { length self.now.blocks + self.now.spares ≤ 2 ^ 56 }
         ensures kept { IsTrue (list_all is_block self.now.blocks) }
     {
         self.blocks.len()
@@ -74,7 +74,7 @@ impl<X: Copied + Drop> Chain<X> {
     /// How many spare blocks there are.
     pub(crate) fn spares(&self) -> usize
         ensures count { result ≡ self.now.spares }
-        ensures few { self.now.spares ≤ 2 ^ 57 }
+        ensures few { self.now.spares ≤ 2 ^ 56 }
     {
         self.spares.len()
     }
@@ -111,7 +111,7 @@ impl<X: Copied + Drop> Chain<X> {
     pub(crate) fn insert(&mut self, k: usize, place: usize, x: X)
         requires block { k < length self.old.blocks }
         requires place { place ≤ length (block_at k self.old.blocks) }
-        requires room { length (block_at k self.old.blocks) < 64 }
+        requires room { length (block_at k self.old.blocks) < 128 }
         ensures blocks { self.new.blocks ≡ slice_set self.old.blocks k (insert (block_at k self.old.blocks) place x) }
         ensures spares { self.new.spares ≡ self.old.spares }
     {
@@ -147,7 +147,7 @@ impl<X: Copied + Drop> Chain<X> {
         ensures from { start_of result self.now.blocks ≤ i }
         ensures to { i < start_of result self.now.blocks + length (block_at result self.now.blocks) }
         ensures kept { IsTrue (list_all is_block self.now.blocks) }
-        ensures few { length self.now.blocks ≤ 2 ^ 57 }
+        ensures few { length self.now.blocks ≤ 2 ^ 56 }
     {
         self.starts.count_up_to(i) - 1
     }
@@ -218,9 +218,9 @@ impl<X: Copied + Drop> Chain<X> {
     /// Makes two halves of a full block, by means of a spare one.
     pub(crate) fn split(&mut self, k: usize)
         requires block { k < length self.old.blocks }
-        requires full { length (block_at k self.old.blocks) ≡ 64 }
+        requires full { length (block_at k self.old.blocks) ≡ 128 }
         requires spare { 1 ≤ self.old.spares }
-        ensures blocks { self.new.blocks ≡ insert (slice_set self.old.blocks k (take 32 (block_at k self.old.blocks))) (k + 1) (drop 32 (block_at k self.old.blocks)) }
+        ensures blocks { self.new.blocks ≡ insert (slice_set self.old.blocks k (take 64 (block_at k self.old.blocks))) (k + 1) (drop 64 (block_at k self.old.blocks)) }
         ensures spares { self.new.spares + 1 ≡ self.old.spares }
     {
         let mut behind = take_spare(&mut self.spares);
@@ -378,11 +378,11 @@ fn fill<X: Copied + Drop>(block: &mut Vec<X>, members: &[X])
 
 /// Moves the second half of a full block to an empty one.
 fn move_half<X: Copied + Drop>(block: &mut Vec<X>, behind: &mut Vec<X>)
-    requires full { vec_len block.old ≡ 64 }
+    requires full { vec_len block.old ≡ 128 }
     requires empty { behind.old.items ≡ [] }
-    requires room { 64 ≤ vec_capacity behind.old }
-    ensures front { block.new.items ≡ take 32 block.old.items }
-    ensures back { behind.new.items ≡ drop 32 block.old.items }
+    requires room { 128 ≤ vec_capacity behind.old }
+    ensures front { block.new.items ≡ take 64 block.old.items }
+    ensures back { behind.new.items ≡ drop 64 block.old.items }
     ensures capacity { vec_capacity block.new ≡ vec_capacity block.old }
     ensures back_capacity { vec_capacity behind.new ≡ vec_capacity behind.old }
 {
@@ -395,7 +395,7 @@ fn take_spare<X: Drop>(spares: &mut Vec<Vec<X>>) -> Vec<X>
     requires some { 1 ≤ vec_len spares.old }
     requires spare { IsTrue (list_all (is_spare (λ block. block.items) (λ block. vec_capacity block)) spares.old.items) }
     ensures empty { result.items ≡ [] }
-    ensures room { 64 ≤ vec_capacity result }
+    ensures room { 128 ≤ vec_capacity result }
     ensures len { vec_len spares.new + 1 ≡ vec_len spares.old }
     ensures capacity { vec_capacity spares.new ≡ vec_capacity spares.old }
     ensures spare { IsTrue (list_all (is_spare (λ block. block.items) (λ block. vec_capacity block)) spares.new.items) }

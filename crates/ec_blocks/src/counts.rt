@@ -37,11 +37,11 @@ impl Counts {
     /// Counts a block that had `from` members and has `to`; a block that comes had none, and one that goes has none.
     pub(crate) fn change(&mut self, from: usize, to: usize)
         requires counted { from ≤ self.old.total }
-        requires owing { from - 32 ≤ self.old.owed }
+        requires owing { from - 64 ≤ self.old.owed }
         requires fits { self.old.total + to < 2 ^ 64 }
         requires owed_fits { self.old.owed + to < 2 ^ 64 }
         ensures total { self.new.total + from ≡ self.old.total + to }
-        ensures owed { self.new.owed + (from - 32) ≡ self.old.owed + (to - 32) }
+        ensures owed { self.new.owed + (from - 64) ≡ self.old.owed + (to - 64) }
     {
         self.total = self.total - from + to;
         self.owed = self.owed - from.saturating_sub(HALF) + to.saturating_sub(HALF);

@@ -1,6 +1,6 @@
 //! Lists in blocks, in which members are put in and taken out cheaply anywhere, and the ordered rows over them.
 //!
-//! `Blocks` is one `Vec` while it has few members, and from then on a chain of blocks of at most 64. Room is
+//! `Blocks` is one `Vec` while it has few members, and from then on a chain of blocks of at most 128. Room is
 //! made beforehand; an edit with room takes no memory.
 #![tactic(auto)]
 

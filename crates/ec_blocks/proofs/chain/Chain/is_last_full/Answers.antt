@@ -14,12 +14,12 @@ less m n test most = grind (arith, nat_tests)
 
 pub returns-clause-full : goal.returns-clause-full
 returns-clause-full g c is_full k last =
-    ap (λ n. length (block_at n c.args.self.now.blocks)) (omega arith) ∙ ap length (sym c.block.ensures.block) ∙ equal (length c.block.result.now) 64 is_full
+    ap (λ n. length (block_at n c.args.self.now.blocks)) (omega arith) ∙ ap length (sym c.block.ensures.block) ∙ equal (length c.block.result.now) 128 is_full
 
 pub returns-clause-free : goal.returns-clause-free
 returns-clause-free g c not_full =
     let most = is_block-most c.block.result.now c.block.ensures.kept in
-    let fewer = less (length c.block.result.now) 64 not_full most in
+    let fewer = less (length c.block.result.now) 128 not_full most in
     omega (arith, ap length c.block.ensures.block, ap (λ n. length (block_at n c.args.self.now.blocks)) (same c.count-count.result (length c.args.self.now.blocks) c.count-count.ensures.count))
   where
     same : (a b : ℕ) → a ≡ b → a - 1 ≡ b - 1

@@ -37,8 +37,8 @@ insert-requires-clause-room g c = let rooms = c.self.invariant.1 in omega (arith
 pub returns-clause-blocks : goal.returns-clause-blocks
 returns-clause-blocks g c =
     ap (map (λ b. b.items)) c.insert_within.ensures.items ∙ map-insert (λ b. b.items) _ (c.args.k + 1) c.move_half.new.behind
-    ∙ ap₂ (λ us v. insert us (c.args.k + 1) v) (edited (λ b. b.items) (λ b. vec_capacity b) c.self.inside.blocks.items c.self.inside.starts.items c.self.inside.lasts.items c.self.inside.spares.items c.self.invariant.0 c.args.self.now.blocks (ap (λ v. v.blocks) c.self.view_is) c.args.k c.requires.block c.index_mut.result.now c.index_mut.ensures.value (take 32) c.move_half.new.block c.move_half.ensures.front)
-    (c.move_half.ensures.back ∙ ap (drop 32) (old-list (λ b. b.items) (λ b. vec_capacity b) c.self.inside.blocks.items c.self.inside.starts.items c.self.inside.lasts.items c.self.inside.spares.items c.self.invariant.0 c.args.self.now.blocks (ap (λ v. v.blocks) c.self.view_is) c.args.k c.requires.block c.index_mut.result.now c.index_mut.ensures.value))
+    ∙ ap₂ (λ us v. insert us (c.args.k + 1) v) (edited (λ b. b.items) (λ b. vec_capacity b) c.self.inside.blocks.items c.self.inside.starts.items c.self.inside.lasts.items c.self.inside.spares.items c.self.invariant.0 c.args.self.now.blocks (ap (λ v. v.blocks) c.self.view_is) c.args.k c.requires.block c.index_mut.result.now c.index_mut.ensures.value (take 64) c.move_half.new.block c.move_half.ensures.front)
+    (c.move_half.ensures.back ∙ ap (drop 64) (old-list (λ b. b.items) (λ b. vec_capacity b) c.self.inside.blocks.items c.self.inside.starts.items c.self.inside.lasts.items c.self.inside.spares.items c.self.invariant.0 c.args.self.now.blocks (ap (λ v. v.blocks) c.self.view_is) c.args.k c.requires.block c.index_mut.result.now c.index_mut.ensures.value))
 
 pub change-requires-clause-counted : goal.change-requires-clause-counted
 change-requires-clause-counted g c = omega (arith, c.requires.full, counted-part c.args.self.now.blocks c.args.k c.self.inside.counts.total c.self.inside.counts.owed (counted-same _ _ _ _ (ap (λ v. v.blocks) c.self.view_is) c.self.invariant.2) c.requires.block)
@@ -72,9 +72,9 @@ invariant_of-self g c =
         lasts_fit = omega arith;
         spares_fit = omega arith;
       },
-      counted-insert (set c.args.self.now.blocks c.args.k (take 32 (block_at c.args.k c.args.self.now.blocks))) _ (c.args.k + 1) (drop 32 (block_at c.args.k c.args.self.now.blocks)) c.change.new.self.total c.change.new.self.owed _ _
-          (counted-set c.args.self.now.blocks _ c.args.k (take 32 (block_at c.args.k c.args.self.now.blocks)) c.self.inside.counts.total c.self.inside.counts.owed _ _ (counted-same _ _ _ _ (ap (λ v. v.blocks) c.self.view_is) c.self.invariant.2) c.requires.block refl
-          (omega (arith, c.change.ensures.total, c.requires.full, length-take-le 32 (block_at c.args.k c.args.self.now.blocks) (omega arith)))
-          (omega (arith, c.change.ensures.owed, c.requires.full, length-take-le 32 (block_at c.args.k c.args.self.now.blocks) (omega arith))))
-          (returns-clause-blocks g c) (omega (arith, c.change-2.ensures.total, c.requires.full, length-drop 32 (block_at c.args.k c.args.self.now.blocks))) (omega (arith, c.change-2.ensures.owed, c.requires.full, length-drop 32 (block_at c.args.k c.args.self.now.blocks))),
+      counted-insert (set c.args.self.now.blocks c.args.k (take 64 (block_at c.args.k c.args.self.now.blocks))) _ (c.args.k + 1) (drop 64 (block_at c.args.k c.args.self.now.blocks)) c.change.new.self.total c.change.new.self.owed _ _
+          (counted-set c.args.self.now.blocks _ c.args.k (take 64 (block_at c.args.k c.args.self.now.blocks)) c.self.inside.counts.total c.self.inside.counts.owed _ _ (counted-same _ _ _ _ (ap (λ v. v.blocks) c.self.view_is) c.self.invariant.2) c.requires.block refl
+          (omega (arith, c.change.ensures.total, c.requires.full, length-take-le 64 (block_at c.args.k c.args.self.now.blocks) (omega arith)))
+          (omega (arith, c.change.ensures.owed, c.requires.full, length-take-le 64 (block_at c.args.k c.args.self.now.blocks) (omega arith))))
+          (returns-clause-blocks g c) (omega (arith, c.change-2.ensures.total, c.requires.full, length-drop 64 (block_at c.args.k c.args.self.now.blocks))) (omega (arith, c.change-2.ensures.owed, c.requires.full, length-drop 64 (block_at c.args.k c.args.self.now.blocks))),
     )
