@@ -10,7 +10,7 @@ use Rattle.std.proofs.lemmas.Option.{slice_get_within, get_or_from_slice_get}
 use Rattle.std.proofs.lemmas.List.Elements.{filter_agree}
 use Rattle.ec_lists.proofs.Finds.{find-none}
 use Rattle.ec_lists.proofs.Filters.{filter-map, filter-none, filter-not_any, length-filter_le}
-use Rattle.ec_lists.proofs.Integers.{int_eq-neither, int_eq-not_lt, int_lt-behind, int_lt-not_after}
+use Rattle.ec_lists.proofs.Integers.{int_eq-from_lt, int_eq-neither, int_eq-not_lt, int_lt-behind, int_lt-not_after}
 use Rattle.ec_lists.proofs.Tests.{list_all-weaker, list_any-none}
 use Rattle.ec_axioms.specs.Marks.{PlainMark, last_mark_before}
 use Rattle.ec_rows.specs.declared.mark.Mark.{Mark}
@@ -18,7 +18,7 @@ use Rattle.ec_rows.specs.Ordered.{is_ascending, by_time}
 use Rattle.ec_rows.specs.Marks.{IsMarkRow, mark_at, mark_before, marks_after, marks_before}
 use Rattle.ec_rows.specs.PlainMarks.{plain_mark, plain_marks}
 use Rattle.ec_rows.proofs.OrderedLemmas.{is_at, ascending-first, ascending-rest, filter-not_at, find-at_cut}
-use Rattle.ec_rows.proofs.TimedLemmas.{IsPlace-by_time, IsFreeAt-end, IsFreeAt-other, before-not_at, drop-after_at, drop-after_free, has_member-free}
+use Rattle.ec_rows.proofs.TimedLemmas.{IsPlace-by_time, IsFreeAt-end, IsFreeAt-other, drop-after_at, drop-after_free, has_member-free}
 use Rattle.ec_points.specs.Changes.{without_mark}
 use Rattle.ec_points.proofs.Lists.{IsPartitionPoint-from_take, last_or-take, slice_get-dropped}
 
@@ -115,7 +115,7 @@ module _ {T : Type 0} (rank : T → ℤ) (t : ℤ) (marks : List (Mark T)) where
     -- the mark at t is found, and the first behind t follows it
     pub mark_at-here : (mark : Mark T) → slice_get marks i ≡ Some mark → int_eq (rank mark.at) t ≡ true → Some mark ≡ mark_at rank t marks
     mark_at-here mark read here =
-        sym (find-at_cut (λ (m : Mark T). int_lt (rank m.at) t) (λ m. int_eq (rank m.at) t) (λ m. before-not_at (rank m.at) t) marks i mark cut (slice_get_within marks i mark read)
+        sym (find-at_cut (λ (m : Mark T). int_lt (rank m.at) t) (λ m. int_eq (rank m.at) t) (λ m. int_eq-from_lt (rank m.at) t) marks i mark cut (slice_get_within marks i mark read)
         (sym (get_or_from_slice_get marks i mark mark read)) here)
 
     pub after-here : (mark : Mark T) → slice_get marks i ≡ Some mark → int_eq (rank mark.at) t ≡ true → slice_get marks (i + 1) ≡ slice_get (marks_after rank t marks) 0
