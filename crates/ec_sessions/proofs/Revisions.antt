@@ -79,26 +79,6 @@ module _ (theory : Theory) (state : State) where
 
 -- ---- what is always told
 
-pub asserted-duplicate : (theory : Theory) (events : List PlainEvent) (e : PlainEvent) → has_id e.id events ≡ true → asserted theory events e ≡ Err (Duplicate e.id)
-unfolding asserted
-asserted-duplicate theory events e present = rw present refl
-
-pub asserted-full : (theory : Theory) (events : List PlainEvent) (e : PlainEvent) → has_id e.id events ≡ false → nat_le most_events (length events) ≡ true
-    → asserted theory events e ≡ Err FullEvents
-unfolding asserted
-asserted-full theory events e absent full = rw (absent, full) refl
-
--- memory may run out for any other event
-pub asserted-may_want : (theory : Theory) (events : List PlainEvent) (e : PlainEvent) → has_id e.id events ≡ false → nat_le most_events (length events) ≡ false
-    → IsTrue (may_want_by (asserted theory events e))
-unfolding asserted with_few_mentions
-asserted-may_want theory events e absent room = rw (absent, room) (by_limits (nat_lt most_mentions (length (mentions_of theory (with_event e events)))) (nat_lt most_links (link_count theory (with_event e events))))
-  where
-    by_limits : (mentions links : Bool) → IsTrue (may_want_by (if mentions then Err FullMentions else (if links then Err FullLinks else Ok (with_event e events))))
-    by_limits true links = refl
-    by_limits false true = refl
-    by_limits false false = refl
-
 pub retracted-unknown : (events : List PlainEvent) (id : List ℕ) → has_id id events ≡ false → retracted events id ≡ Err (Unknown id)
 unfolding retracted
 retracted-unknown events id absent = rw absent refl

@@ -1,13 +1,14 @@
 //! Asserting and retracting an event: at once, or in the draft of a session.
-ghost use Rattle.std.specs.Prelude.{◌≡◌, false, ◌≤◌, ◌+◌, ◌<◌, [], ◌∷◌, Err, IsTrue, IfSome, IfNone, IfOk};
+ghost use Rattle.std.specs.Prelude.{◌≡◌, false, ◌≤◌, ◌+◌, ◌<◌, List, [], ◌∷◌, Err, IsTrue, IfSome, IfNone, IfOk};
+ghost use Rattle.ec_terms.specs.declared.theory.Theory.{Theory};
 ghost use Rattle.ec_terms.specs.Term.{ground_of, names_are_names};
 ghost use Rattle.ec_axioms.specs.declared.limits.TheConstants.{SESSIONS};
 ghost use Rattle.ec_axioms.specs.Calculus.{PlainEvent};
-ghost use Rattle.ec_axioms.specs.Changes.{asserting, retracting};
+ghost use Rattle.ec_axioms.specs.Changes.{PlainUpdate, asserting, retracting};
 ghost use Rattle.ec_axioms.specs.Events.{event_of, plain_update};
-ghost use Rattle.ec_engine.specs.Revise.{most_steps};
+ghost use Rattle.ec_engine.specs.Revise.{IsRevised, most_steps};
 ghost use Rattle.ec_lines.specs.ShownAnswer.{plain_answer};
-ghost use Rattle.ec_replies.specs.State.{draft_of};
+ghost use Rattle.ec_replies.specs.State.{State, draft_of};
 ghost use Rattle.ec_replies.specs.Replies.{reply_to_update, update_reply};
 ghost use Rattle.ec_replies.specs.Runs.{may_want_by, update_may_want_memory};
 ghost use Rattle.ec_replies.specs.Updates.{asserted, retracted, updated};
@@ -16,9 +17,9 @@ ghost use Rattle.ec_sessions.specs.Drafts.{IsOpenWithRoom};
 ghost use Rattle.ec_sessions.specs.LineSteps.{most_update_steps};
 
 use crate::drafts::Room;
-use crate::present::{is_full, is_present};
+use crate::present::is_present;
 use crate::sessions::Sessions;
-use ec_axioms::{Cut, Event, Steps, Update};
+use ec_axioms::{Cut, Event, Seen, Steps, Update};
 use ec_engine::Refusal;
 use ec_lines::Answer;
 use ec_moment::Moment;
@@ -90,7 +91,7 @@ impl<T: Moment, M: MarkRow<T>, I: SpanRow<T>, X: TimeRow<T>> Sessions<T, M, I, X
         }
     }
 
-    /// Asserts an event. Its term gets names of its own once its identity and the number of events don't refuse it.
+    /// Asserts an event.
     fn assert_at_once<L: Ledger>(
         &mut self,
         id: Name,
@@ -105,16 +106,8 @@ impl<T: Moment, M: MarkRow<T>, I: SpanRow<T>, X: TimeRow<T>> Sessions<T, M, I, X
         ensures goes_on { is_bye (plain_answer result) ≡ false }
         ensures steps { steps.new ≤ steps.old + most_steps self.old.theory self.old.state.events (asserting (record { id = id; rank = T.rank at; term = ground_of event.now }) ∷ []) }
     {
-        if is_present(&self.engine, &id) {
-            return Answer::Update(Cut::Duplicate(id));
-        }
-        if is_full(&self.engine) {
-            return Answer::Update(Cut::FullEvents);
-        }
-        match made(self.alloc, id, at, event) {
-            Ok(event) => self.update_at_once(Update::Assert(event), steps),
-            Err(NoMemory) => Answer::Memory,
-        }
+        let revised = self.engine.assert(id, at, event, steps);
+        answer_revised(&mut self.last, revised)
     }
 
     /// Retracts an event, if its identity is present.
@@ -144,14 +137,24 @@ impl<T: Moment, M: MarkRow<T>, I: SpanRow<T>, X: TimeRow<T>> Sessions<T, M, I, X
         let Ok(batch) = batch_of(self.alloc, update) else {
             return Answer::Memory;
         };
-        match self.engine.revise(batch.as_slice(), steps) {
-            Ok(seen) => {
-                self.last = seen;
-                Answer::Ok
-            }
-            Err(Refusal::Update { place: _, cut }) => Answer::Update(cut),
-            Err(Refusal::Memory) => Answer::Memory,
+        let revised = self.engine.revise(batch.as_slice(), steps);
+        answer_revised(&mut self.last, revised)
+    }
+}
+
+/// The answer to an update, by what came of it. If it is made, `last` becomes what it changed.
+fn answer_revised(last: &mut Seen, revised: Result<Seen, Refusal>) -> Answer
+    ensures reply { (theory : Theory) (state : State) (update : PlainUpdate) (after : List PlainEvent) → state.last ≡ last.old → IsRevised theory state.events (update ∷ []) revised after →
+        IsAnswerBy (λ prefix. update_reply theory prefix state (updated theory state.events update)) (may_want_by (updated theory state.events update)) state (plain_answer result) (record { events = after; last = last.new; drafts = state.drafts }) }
+    ensures goes_on { is_bye (plain_answer result) ≡ false }
+{
+    match revised {
+        Ok(seen) => {
+            *last = seen;
+            Answer::Ok
         }
+        Err(Refusal::Update { place: _, cut }) => Answer::Update(cut),
+        Err(Refusal::Memory) => Answer::Memory,
     }
 }
 
@@ -173,7 +176,7 @@ fn made<T: Moment>(
 fn batch_of<T: Moment>(alloc: Global, update: Update<T>) -> Result<Sequence<Update<T>>, NoMemory>
     ensures { IfOk result (λ batch. batch ≡ update ∷ []) }
 {
-    let mut batch = Sequence::new(alloc);
-    batch.push(update)?;
-    Ok(batch)
+    let mut batch = Vec::with_capacity(alloc, 1)?;
+    batch.push_reserved(update);
+    Ok(Sequence::from_vec(batch))
 }
