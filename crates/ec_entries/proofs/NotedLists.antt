@@ -5,19 +5,13 @@ use Rattle.std.specs.Option.{option_to_list}
 use Rattle.std.proofs.lemmas.Bool.{cases_Bool, cases_eq, cases_lt}
 use Rattle.std.proofs.lemmas.List.Sums.{count_by_more_no, count_by_more_yes}
 use Rattle.std.proofs.lemmas.Option.{slice_get_read}
+use Rattle.ec_lists.proofs.Places.{slice_get-take}
 use Rattle.ec_context.specs.declared.entry.Entry.{Entry}
 use Rattle.ec_entries.specs.declared.event_entries.Dependent.{Dependent}
 use Rattle.ec_entries.specs.Dependents.{Rows, any_on, count_on, dependent_if, dependents_of, from_place}
 use Rattle.ec_entries.specs.Noting.{AreNoted, IsNoted}
 
--- a beginning of a list has what the list has there, and nothing behind
-slice_get-take : {X : Type 0} (xs : List X) (n k : ℕ) → k < n → slice_get (take n xs) k ≡ slice_get xs k
-slice_get-take [] zero k within = refl
-slice_get-take [] (suc n) k within = refl
-slice_get-take (x ∷ xs) zero k within = absurd (omega arith)
-slice_get-take (x ∷ xs) (suc n) zero within = refl
-slice_get-take (x ∷ xs) (suc n) (suc k) within = slice_get-take xs n k (omega arith)
-
+-- a beginning of a list has nothing behind its end
 slice_get-take_past : {X : Type 0} (xs : List X) (n k : ℕ) → n ≤ k → slice_get (take n xs) k ≡ None
 slice_get-take_past [] zero k past = refl
 slice_get-take_past [] (suc n) k past = refl

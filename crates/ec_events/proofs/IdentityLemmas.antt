@@ -18,6 +18,7 @@ use Rattle.ec_terms.specs.Term.{name_cmp}
 use Rattle.ec_axioms.specs.declared.event.Event.{Event}
 use Rattle.ec_lists.proofs.Finds.{find-none, is_some-find}
 use Rattle.ec_lists.proofs.Options.{is_some-option_map}
+use Rattle.ec_lists.proofs.Orderings.{is_eq-then}
 use Rattle.ec_lists.proofs.Tests.{list_any-same}
 use Rattle.ec_rows.specs.Ordered.{is_ascending, with_member}
 use Rattle.ec_rows.proofs.OrderedLemmas.{IsPlace, IsOrder, IsPlace-by_key, IsOrder-by_key, is_at, is_eq-is_at, IsPartitionedBy-ascending, take-partition, filter-behind_free, free-from_none, filter-not_at, at-from_any, find-at_cut, is_ascending-with_member, is_ascending-remove, with_member-free}
@@ -33,12 +34,6 @@ use Rattle.ec_lists.proofs.Booleans.{cond_comm}
 
 pub identity_cmp-total : IsTotalOrder identity_cmp
 identity_cmp-total = then_total (on_total key_of nat_cmp_total) nat_list_cmp_total
-
--- two answers are both equal
-is_eq-then : (r o : Ordering) → is_eq (ordering_then r o) ≡ (is_eq r && is_eq o)
-is_eq-then Less o = refl
-is_eq-then Equal o = refl
-is_eq-then Greater o = refl
 
 is_eq-same : (n : ℕ) → is_eq (nat_cmp n n) ≡ true
 is_eq-same n = ap (λ b. is_eq (cond b Less (cond (n == n) Equal Greater))) (irreflexive n) ∙ ap (λ b. is_eq (cond b Equal Greater)) (eq-eqb n n refl)

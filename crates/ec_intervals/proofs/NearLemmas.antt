@@ -1,7 +1,7 @@
 -- Groups of numbers: a time outside the reach of a group lies outside that of each of its numbers.
 use Rattle.std.proofs.Common.{◌≡◌, ◌≢◌, ℕ, ◌+◌, ◌*◌, ◌/◌, ◌<◌, ◌≤◌, zero, suc, ℤ, Bool, true, false, List, [], Option, refl, sym, ap, subst, ◌∙◌, ⊎_elim, arith}
 use Rattle.std.specs.Prelude.{◌==◌}
-use Rattle.std.proofs.Math.ListN.{get_or, replicate}
+use Rattle.std.proofs.Math.ListN.{get_or}
 use Rattle.std.proofs.lemmas.Bool.{cases_Bool}
 use Rattle.std.proofs.lemmas.List.{get_or_past}
 use Rattle.ec_numbered.specs.ByNumber.{kept_at}
@@ -11,12 +11,6 @@ use Rattle.ec_intervals.specs.declared.reach.Reach.{Reach}
 use Rattle.ec_intervals.specs.Reach.{HasReach, is_outside}
 use Rattle.ec_intervals.specs.Near.{AreGrouped, may_hold}
 use Rattle.ec_intervals.proofs.KeptRows.{equal}
-
--- a list of the same value reads as that value everywhere
-pub get_or-same : {A : Type 0} (n i : ℕ) (a : A) → get_or (replicate n a) i a ≡ a
-get_or-same zero i a = get_or_past [] i a (omega arith)
-get_or-same (suc n) zero a = refl
-get_or-same (suc n) (suc i) a = get_or-same n i a
 
 -- the numbers of a group are 16
 pub in_group : (n group i : ℕ) → n / 16 ≡ group → 16 ≤ i → n < group * 16 + i

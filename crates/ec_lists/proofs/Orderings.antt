@@ -1,5 +1,5 @@
 -- The three answers of an order, and lists in dictionary order.
-use Rattle.std.proofs.Common.{◌≡◌, true, [], ◌∷◌, refl}
+use Rattle.std.proofs.Common.{◌≡◌, true, ◌&&◌, [], ◌∷◌, refl}
 use Rattle.std.specs.Cmp.Lexicographic.{slice_cmp}
 use Rattle.std.specs.Ordering.{is_lt, is_eq, is_gt, ordering_then}
 use Rattle.std.specs.declared.cmp.Ordering.{Ordering}
@@ -33,6 +33,12 @@ pub Equal-from_then_last : (a b : Ordering) → ordering_then a b ≡ Equal → 
 Equal-from_then_last Less b h = cc
 Equal-from_then_last Equal b h = h
 Equal-from_then_last Greater b h = cc
+
+-- both are equal where the steps are
+pub is_eq-then : (r o : Ordering) → is_eq (ordering_then r o) ≡ (is_eq r && is_eq o)
+is_eq-then Less o = refl
+is_eq-then Equal o = refl
+is_eq-then Greater o = refl
 
 -- three steps, in whichever way they are taken together
 pub ordering_then_assoc : (a b c : Ordering) → ordering_then (ordering_then a b) c ≡ ordering_then a (ordering_then b c)

@@ -4,9 +4,10 @@ use Rattle.std.specs.Prelude.{slice_get}
 use Rattle.std.specs.List.{list_all, last_or}
 use Rattle.std.specs.List.Sorted.{IsPartitionPoint}
 use Rattle.std.proofs.lemmas.Bool.{cases_Bool, and_parts}
-use Rattle.std.proofs.lemmas.Option.{slice_get_within, get_or_from_slice_get}
+use Rattle.std.proofs.lemmas.Option.{slice_get-get_or, slice_get_within, get_or_from_slice_get}
 use Rattle.std.proofs.lemmas.List.Elements.{filter_passes}
 use Rattle.std.proofs.lemmas.List.Sums.{list_all-from_AllPass}
+use Rattle.ec_lists.proofs.Places.{slice_get-take}
 use Rattle.ec_rows.specs.Ordered.{is_ascending}
 use Rattle.ec_rows.proofs.OrderedLemmas.{ascending-rest}
 
@@ -70,25 +71,13 @@ slice_get-dropped xs zero k = ap (slice_get xs) (let e : k ≡ zero + k = omega 
 slice_get-dropped [] (suc j) k = refl
 slice_get-dropped (x ∷ xs) (suc j) k = slice_get-dropped xs j k ∙ ap (slice_get (x ∷ xs)) (let e : suc (j + k) ≡ suc j + k = omega arith in e)
 
--- the first members
-slice_get-taken : {X : Type 0} (xs : List X) (n k : ℕ) → k < n → slice_get (take n xs) k ≡ slice_get xs k
-slice_get-taken xs zero k below = absurd (omega arith)
-slice_get-taken [] (suc n) k below = refl
-slice_get-taken (x ∷ xs) (suc n) zero below = refl
-slice_get-taken (x ∷ xs) (suc n) (suc k) below = slice_get-taken xs n k (omega arith)
-
-slice_get-read : {X : Type 0} (xs : List X) (k : ℕ) (d : X) → k < length xs → slice_get xs k ≡ Some (get_or xs k d)
-slice_get-read [] k d within = absurd (omega arith)
-slice_get-read (x ∷ xs) zero d within = refl
-slice_get-read (x ∷ xs) (suc k) d within = slice_get-read xs k d (omega arith)
-
 -- a member of a run is the one at its place
 pub slice_get-in_run : {X : Type 0} (xs run : List X) (from i : ℕ) (x : X) → run ≡ take (length run) (drop from xs) → from ≤ i → i - from < length run
     → x ≡ get_or run (i - from) x → slice_get xs i ≡ Some x
 slice_get-in_run xs run from i x is behind within at =
     ap (slice_get xs) (let e : i ≡ from + (i - from) = omega arith in e)
     ∙ sym (slice_get-dropped xs from (i - from))
-    ∙ sym (slice_get-taken (drop from xs) (length run) (i - from) within)
+    ∙ sym (slice_get-take (drop from xs) (length run) (i - from) within)
     ∙ sym (ap (λ ys. slice_get ys (i - from)) is)
-    ∙ slice_get-read run (i - from) x within
+    ∙ slice_get-get_or run (i - from) x within
     ∙ ap Some (sym at)

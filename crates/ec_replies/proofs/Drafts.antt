@@ -1,18 +1,11 @@
 -- The draft of a session, before the first line and after another draft was put in its place.
-use Rattle.std.proofs.Common.{◌≡◌, ℕ, ◌<◌, ◌≤◌, ◌⊎◌, inl, inr, List, length, get_or, replicate, None, sym, ◌∙◌, arith}
-use Rattle.std.proofs.lemmas.List.{get_or-replicate, length-replicate, get_or_past, length-set, get_or-set_same}
+use Rattle.std.proofs.Common.{◌≡◌, ℕ, ◌<◌, ◌≤◌, ◌⊎◌, inl, inr, List, length, get_or, None, sym, ◌∙◌, arith}
+use Rattle.std.proofs.lemmas.List.{get_or_past, length-set, get_or-set_same}
 use Rattle.std.proofs.lemmas.Bool.{cases_lt}
 use Rattle.std.specs.Prelude.{slice_set}
+use Rattle.ec_lists.proofs.Places.{get_or-copies}
 use Rattle.ec_axioms.specs.declared.limits.TheConstants.{SESSIONS}
 use Rattle.ec_replies.specs.State.{Draft, empty_state, draft_of}
-
--- of copies of a value each is that value, and so is what is read past them
-get_or-copies : {A : Type 0} (n i : ℕ) (a : A) → get_or (replicate n a) i a ≡ a
-get_or-copies n i a = by_place (cases_lt i n)
-  where
-    by_place : (i < n) ⊎ (n ≤ i) → get_or (replicate n a) i a ≡ a
-    by_place (inl within) = get_or-replicate n i a a within
-    by_place (inr past) = get_or_past (replicate n a) i a (rw (length-replicate n a) past)
 
 -- before the first line each draft is closed
 pub draft_of-empty_state : (session : ℕ) → draft_of session empty_state ≡ None

@@ -18,6 +18,7 @@ use Rattle.ec_rows.specs.Ordered.{is_ascending}
 use Rattle.ec_rows.specs.Times.{Entry, IsTimeRow, place_of, place_cmp, entry_before, entries_before, is_entry, has_entry, with_entry, without_entry}
 use Rattle.ec_rows.proofs.OrderedLemmas.{IsPlace-by_key, IsOrder-by_key, is_at, is_eq-is_at, IsPartitionedBy-ascending, take-partition, length-partition, filter-behind_free, free-from_none, filter-not_at, at-from_any, is_ascending-with_member, is_ascending-remove, with_member-free}
 use Rattle.ec_lists.proofs.Integers.{int_eq-is}
+use Rattle.ec_lists.proofs.Orderings.{is_eq-then}
 use Rattle.ec_lists.proofs.Tests.{list_any-same}
 
 -- places are in a total order
@@ -27,12 +28,6 @@ place_cmp-total = then_total (on_total (λ (p : ℤ × List ℕ). p.0) int_cmp_t
 -- what comes no later than what is before t is before t
 before_too-then : (a b t : ℤ) (o : Ordering) → is_lt (ordering_then (int_cmp a b) o) ≡ true → int_lt b t ≡ true → int_lt a t ≡ true
 before_too-then a b t o = grind (arith, ints)
-
--- two answers are both equal
-is_eq-then : (r o : Ordering) → is_eq (ordering_then r o) ≡ (is_eq r && is_eq o)
-is_eq-then Less o = refl
-is_eq-then Equal o = refl
-is_eq-then Greater o = refl
 
 module _ {T : Type 0} (rank : T → ℤ) where
   -- no entries
