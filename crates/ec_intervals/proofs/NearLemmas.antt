@@ -1,9 +1,8 @@
 -- Groups of numbers: a time outside the reach of a group lies outside that of each of its numbers.
-use Rattle.std.proofs.Common.{◌≡◌, ◌≢◌, ℕ, ◌+◌, ◌*◌, ◌/◌, ◌<◌, ◌≤◌, zero, suc, ℤ, Bool, true, false, List, [], Option, refl, sym, ap, subst, ◌∙◌, ⊎_elim, arith}
+use Rattle.std.proofs.Common.{◌≡◌, ◌≢◌, ℕ, ◌+◌, ◌*◌, ◌/◌, ◌<◌, ◌≤◌, ℤ, Bool, true, false, List, [], Option, refl, sym, ap, subst, ◌∙◌, ⊎_elim, arith}
 use Rattle.std.specs.Prelude.{◌==◌}
 use Rattle.std.proofs.Math.ListN.{get_or}
 use Rattle.std.proofs.lemmas.Bool.{cases_Bool}
-use Rattle.std.proofs.lemmas.List.{get_or_past}
 use Rattle.ec_numbered.specs.ByNumber.{kept_at}
 use Rattle.ec_lists.proofs.Numbers.{eqb-apart}
 use Rattle.ec_intervals.specs.declared.near.TheConstants.{GROUP}
