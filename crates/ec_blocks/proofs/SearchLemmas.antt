@@ -1,9 +1,9 @@
 -- A search over blocks: first among their last members, then within one of them.
-use Rattle.std.proofs.Common.{◌≡◌, ℕ, ◌+◌, ◌-◌, ◌<◌, ◌≤◌, zero, suc, Bool, true, false, List, [], ◌∷◌, length, map, get_or, drop, Some, None, refl, sym, ap, ◌∙◌, ◌⊎◌, ⊎_elim, true≢false, add-one, length-drop, arith}
+use Rattle.std.proofs.Common.{◌≡◌, ℕ, ◌+◌, ◌-◌, ◌<◌, ◌≤◌, zero, suc, Bool, true, false, List, [], ◌∷◌, length, map, get_or, take, drop, Some, None, refl, sym, ap, ◌∙◌, ◌⊎◌, ⊎_elim, true≢false, add-one, length-drop, arith}
 use Rattle.std.specs.List.{list_all}
 use Rattle.std.specs.List.Sorted.{IsPartitionedBy, IsPartitionPoint}
 use Rattle.std.proofs.lemmas.Bool.{cases_Bool, cases_lt}
-use Rattle.std.proofs.lemmas.List.{get_or-map, get_or-drop, length-map}
+use Rattle.std.proofs.lemmas.List.{get_or-map, get_or-drop, get_or-take, length-map, length-take-le}
 use Rattle.std.proofs.lemmas.List.Concat.{get_or-flat_map}
 use Rattle.std.proofs.lemmas.Option.{get_or_from_slice_get}
 use Rattle.ec_blocks.specs.Chain.{joined, block_at, start_of, last_of, is_block}
@@ -17,6 +17,34 @@ IsPartitionPoint-from_edges p xs r parted front behind within = (
   λ k d low high. parted k (r - 1) d (omega arith) (omega arith) (front d (omega arith)),
   λ k d low high. ⊎_elim (λ passes. absurd (true≢false (sym (parted r k d low high passes) ∙ behind d (omega arith)))) (λ fails. fails) (cases_Bool (p (get_or xs k d))),
 )
+
+-- the end of what passes, found among some members that have others of them on both sides of it, or else an end of the list
+pub found-between : {X : Type 0} (p : X → Bool) (xs some : List X) (from to c : ℕ) → from ≤ to → to ≤ length xs → some ≡ take (to - from) (drop from xs) → IsPartitionedBy p xs →
+    c ≤ length some → (IsPartitionedBy p some → IsPartitionPoint (λ x. p x ≡ true) (λ x. p x ≡ false) some c) →
+    (from ≡ 0) ⊎ (from < from + c) → (to ≡ length xs) ⊎ (from + c < to) → IsPartitionPoint (λ x. p x ≡ true) (λ x. p x ≡ false) xs (from + c)
+found-between p xs some from to c ordered within is parted bound cut front behind =
+    IsPartitionPoint-from_edges p xs (from + c) parted front_passes behind_fails (omega (arith, some-length))
+  where
+    some-length : length some ≡ to - from
+    some-length = ap length is ∙ length-take-le (to - from) (drop from xs) (omega (arith, length-drop from xs)) ∙ (omega arith)
+
+    stands-in : (j : ℕ) (d : _) → j < to - from → get_or some j d ≡ get_or xs (from + j) d
+    stands-in j d inside = ap (λ ys. get_or ys j d) is ∙ get_or-take (to - from) (drop from xs) j d inside ∙ get_or-drop from xs j d
+
+    point : IsPartitionPoint (λ x. p x ≡ true) (λ x. p x ≡ false) some c
+    point = cut (λ i j d le inside passes.
+        ap p (stands-in i d (omega (arith, some-length)))
+        ∙ parted (from + i) (from + j) d (omega arith) (omega (arith, some-length)) (ap p (sym (stands-in j d (omega (arith, some-length)))) ∙ passes))
+
+    front_passes : (d : _) → 1 ≤ from + c → p (get_or xs (from + c - 1) d) ≡ true
+    front_passes d some_in =
+        let more : 1 ≤ c = ⊎_elim (λ first. omega arith) (λ less. omega arith) front in
+        ap (λ n. p (get_or xs n d)) (omega arith) ∙ ap p (sym (stands-in (c - 1) d (omega (arith, some-length)))) ∙ point.0 (c - 1) d (omega arith) (omega (arith, some-length))
+
+    behind_fails : (d : _) → from + c < length xs → p (get_or xs (from + c) d) ≡ false
+    behind_fails d inside =
+        let before : c < to - from = ⊎_elim (λ last. omega arith) (λ less. omega arith) behind in
+        ap p (sym (stands-in c d before)) ∙ point.1 c d (omega arith) (omega (arith, some-length))
 
 module _ {X : Type 0} (p : X → Bool) (blocks : List (List X)) (all : list_all is_block blocks ≡ true) (parted : IsPartitionedBy p (joined blocks)) where
   -- a member of a block, among all members

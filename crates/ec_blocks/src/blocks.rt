@@ -103,9 +103,9 @@ impl<X: Copied + Drop> Blocks<X> {
         }
     }
 
-    /// The same, where the place is likely to be close to `near`, which may be any number: the search begins in the
-    /// block of this place, and goes over all blocks only if the place is not in it. A number that is no place of
-    /// a member is no hint.
+    /// The same, where the place is likely to be close to `near`, which may be any number: the search begins with the
+    /// few members round this place, goes on in its block, and goes over all blocks only if the place is not in it. A
+    /// number that is no place of a member is no hint.
     pub fn partition_near<F: Fn(&X) -> bool>(&self, near: usize, pred: F) -> usize
         requires { F.IsAlwaysCallable pred }
         ensures bound { result ≤ length self.now.items }

@@ -6,7 +6,7 @@ ghost use Rattle.std.specs.List.Sorted.{IsPartitionedBy, IsPartitionPoint};
 ghost use Rattle.std.proofs.Common.{suc};
 ghost use Rattle.ec_blocks.specs.Chain.{joined, block_at, debt, room_of};
 
-use crate::chain::{CAPACITY, Chain, HALF, cut};
+use crate::chain::{CAPACITY, Chain, HALF, cut_near};
 use ec_rows::Copied;
 use ec_terms::NoMemory;
 
@@ -43,7 +43,7 @@ impl<X: Copied + Drop> Chain<X> {
         front && behind
     }
 
-    /// The place where the members that pass a test end, sought first in the block of the place `near`. What is
+    /// The place where the members that pass a test end, sought first round the place `near`, and then in its block. What is
     /// found there is taken only where the block shows that no other member matters.
     pub(crate) fn partition_near<F: Fn(&X) -> bool>(&self, near: usize, pred: &F) -> usize
         requires { F.IsAlwaysCallable pred.now }
@@ -52,7 +52,7 @@ impl<X: Copied + Drop> Chain<X> {
     {
         if near < self.total() {
             let k = self.locate(near);
-            let place = cut(self.block(k), pred);
+            let place = cut_near(self.block(k), near - self.start(k), pred);
             if self.is_enclosed(k, place) {
                 return self.start(k) + place;
             }

@@ -1,5 +1,5 @@
 //! A list in blocks of at most 128 members, one behind another.
-ghost use Rattle.std.specs.Prelude.{◌≡◌, ◌+◌, ◌-◌, ◌*◌, ◌^◌, ◌<◌, ◌≤◌, ◌++◌, ◌∷◌, [], Bool, true, false, Some, IsTrue, OnOk, OnErr, length, take, drop, slice_get, slice_set, map, vec_len};
+ghost use Rattle.std.specs.Prelude.{◌≡◌, ◌⊎◌, ◌+◌, ◌-◌, ◌*◌, ◌^◌, ◌<◌, ◌≤◌, ◌++◌, ◌∷◌, [], Bool, true, false, Some, IsTrue, OnOk, OnErr, length, take, drop, slice_get, slice_set, map, vec_len};
 ghost use Rattle.std.specs.Fn.{ComputesKey};
 ghost use Rattle.std.specs.List.{insert, remove, list_all};
 ghost use Rattle.std.specs.List.Sorted.{IsPartitionedBy, IsPartitionPoint};
@@ -19,6 +19,9 @@ pub(crate) const CAPACITY: usize = 128;
 
 /// Half of a full block.
 pub(crate) const HALF: usize = 64;
+
+/// How many members from a place on are looked at before the other ones of its block.
+const ROUND: usize = 3;
 
 /// How many blocks there can be, so that their members can be counted.
 const LIMIT: usize = 1 << 56;
@@ -305,6 +308,34 @@ pub(crate) fn cut<X, F: Fn(&X) -> bool>(members: &[X], pred: &F) -> usize
     ensures partitioned { (p : X → Bool) → ComputesKey F.FnMut p pred.now → IsPartitionedBy p members.now → IsPartitionPoint (λ x. p x ≡ true) (λ x. p x ≡ false) members.now result }
 {
     members.partition_point(pred)
+}
+
+/// Whether a place, found among the members from one place up to another, has members of these on both sides, or else an
+/// end of the list.
+fn is_between(place: usize, from: usize, to: usize, len: usize) -> bool
+    ensures front { result ≡ true → (from ≡ 0) ⊎ (from < place) }
+    ensures behind { result ≡ true → (to ≡ len) ⊎ (place < to) }
+{
+    let front = from == 0 || from < place;
+    let behind = to == len || place < to;
+    front && behind
+}
+
+/// The place where the members that pass a test end, sought first among the few round the place `near`.
+pub(crate) fn cut_near<X, F: Fn(&X) -> bool>(members: &[X], near: usize, pred: &F) -> usize
+    requires { F.IsAlwaysCallable pred.now }
+    ensures bound { result ≤ length members.now }
+    ensures partitioned { (p : X → Bool) → ComputesKey F.FnMut p pred.now → IsPartitionedBy p members.now → IsPartitionPoint (λ x. p x ≡ true) (λ x. p x ≡ false) members.now result }
+{
+    if near < members.len() {
+        let from = near.saturating_sub(1);
+        let to = members.len().min(near.saturating_add(ROUND));
+        let place = from + cut(&members[from..to], pred);
+        if is_between(place, from, to, members.len()) {
+            return place;
+        }
+    }
+    cut(members, pred)
 }
 
 /// Puts a member in place of the one at a place.

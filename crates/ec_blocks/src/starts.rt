@@ -12,6 +12,9 @@ use std::marker::Model;
 /// How many numbers have a base together.
 const GROUP: usize = 64;
 
+/// How far on both sides of a guess a search looks at first.
+const ROUND: usize = 2;
+
 /// A list of numbers, in which all behind a place are raised or lowered by one at little cost. Each group of 64 has
 /// a base, and a number is the sum of its own part and of the base of its group, modulo 2^64: so a part
 /// can be moved to any base. It is seen as the list of the numbers, and how many there is room for.
@@ -53,6 +56,26 @@ impl Starts {
         self.parts[k].wrapping_add(self.bases[k / GROUP])
     }
 
+    /// Two places between which the numbers up to one end, where it lies below the last number and they never fall. Both stand
+    /// close to the place that a steady rise would give, unless the numbers there show that it ends elsewhere.
+    fn bracket(&self, i: usize, last: usize) -> (usize, usize)
+        requires some { 1 ≤ length self.now.items }
+        requires above { i < last }
+        ensures ordered { result.0 ≤ result.1 }
+        ensures within { result.1 < length self.now.items }
+        ensures before { (result.0 ≡ 0) ⊎ (slice_index_or self.now.items result.0 0 ≤ i) }
+        ensures behind { (result.1 + 1 ≡ length self.now.items) ⊎ (i < slice_index_or self.now.items result.1 0) }
+    {
+        let end = self.parts.len() - 1;
+        let guess = i.wrapping_mul(end) / last;
+        let low = guess.saturating_sub(ROUND).min(end);
+        let high = guess.saturating_add(ROUND).min(end);
+        (
+            choose(self.get(low) <= i, low, 0),
+            choose(i < self.get(high), high, end),
+        )
+    }
+
     /// How many numbers are up to one, where they never fall. The last is looked at first, since most calls are about the end.
     pub(crate) fn count_up_to(&self, i: usize) -> usize
         requires { IsNonDecreasingBy (λ start. start) self.now.items }
@@ -63,11 +86,12 @@ impl Starts {
         if count == 0 {
             return 0;
         }
-        if self.get(count - 1) <= i {
+        let last = self.get(count - 1);
+        if last <= i {
             return count;
         }
-        let mut low = 0;
-        let mut size = count - 1;
+        let (mut low, high) = self.bracket(i, last);
+        let mut size = high - low;
         while 1 < size {
             let half = size / 2;
             let middle = low + half;

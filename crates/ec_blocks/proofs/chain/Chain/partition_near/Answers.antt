@@ -11,8 +11,8 @@ pub returns-then-is_enclosed-clause-bound : goal.returns-then-is_enclosed-clause
 returns-then-is_enclosed-clause-bound g c =
     omega (
       arith,
-      c.start.ensures,
-      c.cut-place.ensures.bound,
+      c.start-then-is_enclosed.ensures,
+      c.cut_near-place.ensures.bound,
       ap length c.block.ensures.block,
       c.locate-k.ensures.within,
       start_of-suc c.args.self.now.blocks c.locate-k.result c.locate-k.ensures.within,
@@ -27,9 +27,9 @@ overflow_add-result g c =
 pub returns-then-is_enclosed-clause-partitioned : goal.returns-then-is_enclosed-clause-partitioned
 returns-then-is_enclosed-clause-partitioned g c p computes parted =
     let block = c.block.ensures.block in
-    let point = c.cut-place.ensures.partitioned p computes
+    let point = c.cut_near-place.ensures.partitioned p computes
     (subst (λ (xs : List _). IsPartitionedBy p xs) (sym block) (block-parted p c.args.self.now.blocks c.locate-k.ensures.kept parted c.locate-k.result c.locate-k.ensures.within)) in
-    subst (λ (n : ℕ). IsPartitionPoint (λ x. p x ≡ true) (λ x. p x ≡ false) (joined c.args.self.now.blocks) (n + c.cut-place.result)) (sym c.start.ensures)
-    (found-enclosed p c.args.self.now.blocks c.locate-k.ensures.kept parted c.locate-k.result c.cut-place.result c.locate-k.ensures.within
-    (c.is_enclosed.ensures.front c.if-is_enclosed.true) (c.is_enclosed.ensures.behind c.if-is_enclosed.true) (omega (arith, c.cut-place.ensures.bound, ap length block))
-    (subst (λ (xs : List _). IsPartitionPoint (λ x. p x ≡ true) (λ x. p x ≡ false) xs c.cut-place.result) block point))
+    subst (λ (n : ℕ). IsPartitionPoint (λ x. p x ≡ true) (λ x. p x ≡ false) (joined c.args.self.now.blocks) (n + c.cut_near-place.result)) (sym c.start-then-is_enclosed.ensures)
+    (found-enclosed p c.args.self.now.blocks c.locate-k.ensures.kept parted c.locate-k.result c.cut_near-place.result c.locate-k.ensures.within
+    (c.is_enclosed.ensures.front c.if-is_enclosed.true) (c.is_enclosed.ensures.behind c.if-is_enclosed.true) (omega (arith, c.cut_near-place.ensures.bound, ap length block))
+    (subst (λ (xs : List _). IsPartitionPoint (λ x. p x ≡ true) (λ x. p x ≡ false) xs c.cut_near-place.result) block point))
