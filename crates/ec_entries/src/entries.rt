@@ -143,36 +143,43 @@ impl<T: Moment> Entries<T> {
     }
 
     /// Some of the dependents of a property after a time, from the first on. There are none exactly when there is no
-    /// dependent after that time.
-    pub fn dependents_after(&self, p: PropId, at: T) -> &[Dependent<T>]
+    /// dependent after that time. `near` is a place among its dependents to look at first; it does not change the answer.
+    pub fn dependents_after(&self, p: PropId, at: T, near: usize) -> &[Dependent<T>]
         ensures run { result.now ≡ take (length result.now) (dependents_after T.rank (T.rank at) (dependents_of p.0 self.now.rows)) }
         ensures none { result.now ≡ [] → dependents_after T.rank (T.rank at) (dependents_of p.0 self.now.rows) ≡ [] }
         ensures dependents { AreDependents T.rank p.0 self.now.slots (dependents_of p.0 self.now.rows) }
     {
         match self.rows.get(p) {
-            Some(row) => run_after(row, at),
+            Some(row) => run_after(row, at, near),
             None => &[],
         }
     }
 
-    /// The least time after `at` of a dependent of a property. `None` exactly when none is after it.
-    pub fn next_dependent_after(&self, p: PropId, at: T) -> Option<T>
+    /// The least time after `at` of a dependent of a property. `None` exactly when none is after it. `near` is a place among
+    /// its dependents to look at first; it does not change the answer.
+    pub fn next_dependent_after(&self, p: PropId, at: T, near: usize) -> Option<T>
         ensures next { result ≡ option_map (λ dependent. dependent.at) (slice_get (dependents_after T.rank (T.rank at) (dependents_of p.0 self.now.rows)) 0) }
         ensures least { IfSome result (λ t. IsTrue (list_all (λ dependent. int_le (T.rank t) (T.rank dependent.at)) (dependents_after T.rank (T.rank at) (dependents_of p.0 self.now.rows)))) }
         ensures dependents { AreDependents T.rank p.0 self.now.slots (dependents_of p.0 self.now.rows) }
     {
-        let dependent = self.dependents_after(p, at).first()?;
+        let dependent = self.dependents_after(p, at, near).first()?;
         Some(dependent.at)
     }
 
     /// The dependents of a property at a time, by slot, then by place, if they lie together in memory. Otherwise `dependent`
-    /// gives them one by one.
-    pub fn dependents_at(&self, p: PropId, at: T) -> Option<&[Dependent<T>]>
+    /// gives them one by one. `near` is a place among its dependents to look at first, which does not change the answer; it
+    /// becomes the place behind those at the time, at which a search for a later time best begins.
+    pub fn dependents_at<'a>(
+        &'a self,
+        p: PropId,
+        at: T,
+        near: &mut usize,
+    ) -> Option<&'a [Dependent<T>]>
         ensures run { IfSome result (λ run. run.now ≡ dependents_at T.rank (T.rank at) (dependents_of p.0 self.now.rows)) }
         ensures dependents { AreDependents T.rank p.0 self.now.slots (dependents_of p.0 self.now.rows) }
     {
         match self.rows.get(p) {
-            Some(row) => run_at(row, at),
+            Some(row) => run_at(row, at, near),
             None => Some(&[]),
         }
     }

@@ -59,13 +59,14 @@ pub(crate) fn take_out<T: Moment>(list: &mut Blocks<Dependent<T>>, dependent: &D
     let _ = list.remove(place);
 }
 
-/// How many dependents are before a time.
-fn count_before<T: Moment>(list: &Blocks<Dependent<T>>, at: T) -> usize
+/// How many dependents are before a time. `near` is a place to look at first.
+fn count_before<T: Moment>(list: &Blocks<Dependent<T>>, at: T, near: usize) -> usize
     requires { AreInOrder T.rank list.now.items }
     ensures within { result ≤ length list.now.items }
     ensures cut { IsPartitionPoint (λ dependent. int_lt (T.rank dependent.at) (T.rank at) ≡ true) (λ dependent. int_lt (T.rank dependent.at) (T.rank at) ≡ false) list.now.items result }
 {
-    list.partition_point(
+    list.partition_near(
+        near,
         |dependent| -> bool
             ensures { result ≡ int_lt (T.rank dependent.now.at) (T.rank at) }
         { dependent.at.order(&at).is_lt() },
@@ -86,13 +87,17 @@ fn count_up_to<T: Moment>(list: &Blocks<Dependent<T>>, at: T, near: usize) -> us
     )
 }
 
-/// A run of the dependents after a time, empty exactly when there is none.
-pub(crate) fn run_after<T: Moment>(list: &Blocks<Dependent<T>>, at: T) -> &[Dependent<T>]
+/// A run of the dependents after a time, empty exactly when there is none. `near` is a place to look at first.
+pub(crate) fn run_after<T: Moment>(
+    list: &Blocks<Dependent<T>>,
+    at: T,
+    near: usize,
+) -> &[Dependent<T>]
     requires { AreInOrder T.rank list.now.items }
     ensures run { result.now ≡ take (length result.now) (dependents_after T.rank (T.rank at) list.now.items) }
     ensures none { result.now ≡ [] → dependents_after T.rank (T.rank at) list.now.items ≡ [] }
 {
-    let place = count_up_to(list, at, ANYWHERE);
+    let place = count_up_to(list, at, near);
     if place < list.len() {
         list.run(place)
     } else {
@@ -100,13 +105,19 @@ pub(crate) fn run_after<T: Moment>(list: &Blocks<Dependent<T>>, at: T) -> &[Depe
     }
 }
 
-/// The dependents at a time, if they lie together in memory.
-pub(crate) fn run_at<T: Moment>(list: &Blocks<Dependent<T>>, at: T) -> Option<&[Dependent<T>]>
+/// The dependents at a time, if they lie together in memory. `near` is a place to look at first, and becomes the place behind
+/// them.
+pub(crate) fn run_at<'a, T: Moment>(
+    list: &'a Blocks<Dependent<T>>,
+    at: T,
+    near: &mut usize,
+) -> Option<&'a [Dependent<T>]>
     requires { AreInOrder T.rank list.now.items }
     ensures { IfSome result (λ run. run.now ≡ dependents_at T.rank (T.rank at) list.now.items) }
 {
-    let before = count_before(list, at);
+    let before = count_before(list, at, *near);
     let up_to = count_up_to(list, at, before);
+    *near = up_to;
     let count = up_to - before;
     if count == 0 {
         return Some(&[]);
@@ -124,7 +135,7 @@ pub(crate) fn nth_at<T: Moment>(list: &Blocks<Dependent<T>>, at: T, k: usize) ->
     requires { AreInOrder T.rank list.now.items }
     ensures { result ≡ option_map (λ dependent. (dependent.slot, dependent.place)) (slice_get (dependents_at T.rank (T.rank at) list.now.items) k) }
 {
-    let before = count_before(list, at);
+    let before = count_before(list, at, ANYWHERE);
     let up_to = count_up_to(list, at, before);
     if k < up_to - before {
         let dependent = list.get(before + k);

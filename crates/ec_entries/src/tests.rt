@@ -124,10 +124,14 @@ fn keep(
 
 fn are_next(entries: &Entries<Tick>, wanted: &[(usize, i64, Option<i64>)]) -> bool {
     for (p, at, next) in wanted {
-        if entries.next_dependent_after(PropId(*p), Tick(*at)) != next.map(Tick) {
+        if entries.next_dependent_after(PropId(*p), Tick(*at), 1) != next.map(Tick) {
             return false;
         }
-        if entries.dependents_after(PropId(*p), Tick(*at)).is_empty() != next.is_none() {
+        if entries
+            .dependents_after(PropId(*p), Tick(*at), 0)
+            .is_empty()
+            != next.is_none()
+        {
             return false;
         }
     }

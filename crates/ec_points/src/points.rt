@@ -1,11 +1,11 @@
-ghost use Rattle.std.specs.Prelude.{◌≡◌, ◌≢◌, ℕ, ℤ, ◌+◌, ◌≤◌, ◌++◌, ◌∷◌, [], false, IsTrue, IfOk, IfSome, IfNone, OnOk, OnErr, Some, None, int_lt, option_map, slice_get};
+ghost use Rattle.std.specs.Prelude.{◌≡◌, ◌≢◌, ℕ, ℤ, ◌+◌, ◌≤◌, ◌++◌, ◌∷◌, [], false, IsTrue, IfOk, IfSome, IfNone, OnOk, OnErr, Some, None, int_lt, length, option_map, slice_get};
 ghost use Rattle.ec_axioms.specs.Marks.{last_mark_before};
 ghost use Rattle.ec_numbered.specs.PropSet.{are_ascending, has_number};
 ghost use Rattle.ec_points.specs.Changes.{changed, count_of as changes_of, growth_of};
 ghost use Rattle.ec_points.specs.Clashes.{clashes_at, is_behind, is_clash, new_clashes, some_clash_at};
 ghost use Rattle.ec_points.specs.SeenRows.{IsGrown};
 ghost use Rattle.ec_points.specs.Table.{has_row, is_current_at, is_initial_at, marks_at, room_at, row_at, row_of};
-ghost use Rattle.ec_rows.specs.Marks.{IsMarkRow, are_before, is_counted, mark_at, marks_after};
+ghost use Rattle.ec_rows.specs.Marks.{IsMarkRow, are_before, is_counted, mark_at, marks_after, marks_before};
 ghost use Rattle.ec_rows.specs.PlainMarks.{plain_mark, plain_marks};
 
 use crate::change::MarkChange;
@@ -106,6 +106,7 @@ impl<T: Moment, M: MarkRow<T>> Points<T, M> {
         ensures mark { result.mark ≡ mark_at T.rank (T.rank at) (marks_at p.0 self.now) }
         ensures current { result.is_current ≡ is_current_at T.rank self.now p.0 (T.rank at) }
         ensures next { result.next ≡ slice_get (marks_after T.rank (T.rank at) (marks_at p.0 self.now)) 0 }
+        ensures place { result.place ≡ length (marks_before T.rank (T.rank at) (marks_at p.0 self.now)) }
         ensures row { IsMarkRow T.rank (marks_at p.0 self.now) }
     {
         let initial = self.initial(p);
@@ -115,6 +116,7 @@ impl<T: Moment, M: MarkRow<T>> Points<T, M> {
                 mark: None,
                 is_current: initial,
                 next: None,
+                place: 0,
             },
         }
     }

@@ -8,13 +8,14 @@ use crate::row::is_at;
 use ec_moment::Moment;
 use ec_rows::{Mark, MarkRow};
 
-/// What the marks of a property say at a time: the mark there, if there is one; whether the property is current there; and
-/// the first mark behind.
+/// What the marks of a property say at a time: the mark there, if there is one; whether the property is current there; the
+/// first mark behind; and how many marks stand before the time.
 #[derive(Clone, Copy, Debug, PartialEq, Eq)]
 pub struct Reading<T> {
     pub mark: Option<Mark<T>>,
     pub is_current: bool,
     pub next: Option<Mark<T>>,
+    pub place: usize,
 }
 
 /// Some of the marks from a place on, which lie together in memory.
@@ -109,6 +110,7 @@ pub(crate) fn read_row<T: Moment, M: MarkRow<T>>(
     ensures mark { result.mark ≡ mark_at T.rank (T.rank at) (M.marks row.now) }
     ensures current { result.is_current ≡ current_after initial (last_mark_before (plain_marks T.rank (M.marks row.now)) (T.rank at)) }
     ensures next { result.next ≡ slice_get (marks_after T.rank (T.rank at) (M.marks row.now)) 0 }
+    ensures place { result.place ≡ length (marks_before T.rank (T.rank at) (M.marks row.now)) }
     ensures row { IsMarkRow T.rank (M.marks row.now) }
 {
     let place = row.count_before(at, near);
@@ -119,5 +121,6 @@ pub(crate) fn read_row<T: Moment, M: MarkRow<T>>(
         mark,
         is_current: current_behind(row, run, at, place, initial),
         next,
+        place,
     }
 }

@@ -130,18 +130,20 @@ fn gather_each<T: Moment>(
     Err(NoMemory)
 }
 
-/// Takes in the dependents of a property at a time, but for those of events that are to be taken out.
+/// Takes in the dependents of a property at a time, but for those of events that are to be taken out. `near` is a place among
+/// its dependents to look at first, and may become another.
 fn gather<T: Moment>(
     entries: &Entries<T>,
     p: PropId,
     at: T,
+    near: &mut usize,
     removals: &[Removal<T>],
     hits: &mut Hits,
 ) -> Result<(), NoMemory>
     ensures hits { OnOk result ((slot place : ℕ) → has_hit slot place hits.new ≡ (has_hit slot place hits.old || (not (has_slot (record { 0 = slot }) removals.now) && depends_at T.rank entries.now.slots (T.rank at) slot place p.0))) }
     ensures once { IsDistinct same_hit hits.old → OnOk result (IsDistinct same_hit hits.new) }
 {
-    match entries.dependents_at(p, at) {
+    match entries.dependents_at(p, at, near) {
         Some(run) => gather_run(run, removals, hits),
         None => gather_each(entries, p, at, removals, hits),
     }
@@ -161,7 +163,9 @@ pub(crate) fn hits_at<T: Moment>(
     let mut hits = scratch.take_hits();
     for p in due {
         if dirty.get(*p).is_some() {
-            gather(entries, *p, at, removals, &mut hits)?;
+            let mut near = scratch.places.near(*p);
+            gather(entries, *p, at, &mut near.dependents, removals, &mut hits)?;
+            scratch.places.keep(near);
         }
     }
     Ok(hits)

@@ -9,6 +9,7 @@ mod look;
 mod look_hits;
 mod looking;
 mod next_time;
+mod places;
 mod planning;
 mod progress;
 mod rooms;

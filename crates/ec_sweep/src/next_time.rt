@@ -35,25 +35,26 @@ pub(crate) fn earlier<T: Moment>(first: Option<T>, second: Option<T>) -> Option<
     }
 }
 
-/// The time of the first entry behind a time that reads a property.
-fn next_entry<T: Moment>(entries: &Entries<T>, p: PropId, at: T) -> Option<T>
+/// The time of the first entry behind a time that reads a property. `near` is a place among its dependents to look at first.
+fn next_entry<T: Moment>(entries: &Entries<T>, p: PropId, at: T, near: usize) -> Option<T>
     ensures some { IfSome result (λ next. (T.rank at <ℤ T.rank next) × IsReadAt T.rank entries.now.slots p.0 (T.rank next)) }
     ensures least { (u : ℤ) → T.rank at <ℤ u → IsReadAt T.rank entries.now.slots p.0 u → IsSomeAnd result (λ next. T.rank next ≤ℤ u) }
 {
-    entries.next_dependent_after(p, at)
+    entries.next_dependent_after(p, at, near)
 }
 
 /// The next time behind one at which anything bears on a property, where the time of its next mark is known. `None` exactly when
-/// nothing does.
+/// nothing does. `near` is a place among its dependents to look at first.
 pub(crate) fn next_time<T: Moment, M: MarkRow<T>, I: SpanRow<T>, X: TimeRow<T>>(
     parts: &Parts<T, M, I, X>,
     p: PropId,
     at: T,
     next_mark: Option<T>,
+    near: usize,
 ) -> Option<T>
     requires { IsNextMark T.rank parts.now.points p.0 (T.rank at) next_mark }
     ensures some { IfSome result (λ next. (T.rank at <ℤ T.rank next) × BearsAt T.rank parts.now.points parts.now.entries.slots p.0 (T.rank next)) }
     ensures least { (u : ℤ) → T.rank at <ℤ u → BearsAt T.rank parts.now.points parts.now.entries.slots p.0 u → IsSomeAnd result (λ next. T.rank next ≤ℤ u) }
 {
-    earlier(next_mark, next_entry(&parts.entries, p, at))
+    earlier(next_mark, next_entry(&parts.entries, p, at, near))
 }

@@ -2,6 +2,7 @@
 ghost use Rattle.std.specs.Prelude.{◌≡◌, []};
 
 use crate::hits::Hits;
+use crate::places::Places;
 use crate::words::Words;
 use ec_revise::{Tally, Turn};
 use ec_terms::PropId;
@@ -16,6 +17,7 @@ pub(crate) struct Scratch {
     pub words: Words,
     pub turns: Vec<Turn>,
     pub tally: Tally,
+    pub places: Places,
     alloc: Global,
 }
 
@@ -28,6 +30,7 @@ impl Scratch {
             words: Words::new(alloc),
             turns: Vec::new(alloc),
             tally: Tally::new(alloc),
+            places: Places::new(),
             alloc,
         }
     }

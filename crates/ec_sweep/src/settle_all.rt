@@ -42,7 +42,15 @@ pub(crate) fn settle_all<T: Moment, M: MarkRow<T>, I: SpanRow<T>, X: TimeRow<T>>
     let _ = parts.props.len();
     let _ = parts.store.len();
     let tally = tally_of(scratch, &parts.neighbours, turns, due)?;
-    let settled = settle_rows(parts, &tally, at, dirty, agenda, planned);
+    let settled = settle_rows(
+        &mut scratch.places,
+        parts,
+        &tally,
+        at,
+        dirty,
+        agenda,
+        planned,
+    );
     scratch.tally = tally;
     settled
 }

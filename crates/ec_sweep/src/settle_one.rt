@@ -8,6 +8,7 @@ ghost use Rattle.ec_sweep.specs.Settling.{AddsDue, BearsAt, IsDueWithin, IsNextM
 
 use crate::dirty::Dirty;
 use crate::next_time::next_time;
+use crate::places::Places;
 use ec_agenda::Agenda;
 use ec_delta::{Planned, Touch};
 use ec_moment::Moment;
@@ -20,13 +21,14 @@ use ec_terms::{NoMemory, PropId};
 /// In place of a place to look at first: none.
 const ANYWHERE: usize = usize::MAX;
 
-/// What the old list has of a property at a time: its mark there, three zeros if it has none; its currencies there; and the time
-/// of its next mark.
+/// What the old list has of a property at a time: its mark there, three zeros if it has none; its currencies there; the time of
+/// its next mark; and where its marks were found.
 #[derive(Clone, Copy)]
 struct Old<T> {
     mark: Mark<T>,
     current: Currencies,
     next: Option<T>,
+    place: usize,
 }
 
 /// The mark at a time: three zeros, if there is none.
@@ -69,22 +71,24 @@ fn time_of<T: Moment>(mark: Option<Mark<T>>) -> Option<T>
     }
 }
 
-/// Reads what the old list has of a property at a time, by one search.
+/// Reads what the old list has of a property at a time, by one search. `near` is a place among its marks to look at first.
 fn read_old<T: Moment, M: MarkRow<T>>(
     points: &Points<T, M>,
     dirty: &Dirty,
     p: PropId,
     at: T,
+    near: usize,
 ) -> Old<T>
     ensures mark { result.mark ≡ old_mark T.rank points.now at p.0 }
     ensures current { result.current ≡ currencies_at T.rank points.now at p.0 (dirty_at p.0 dirty.now) }
     ensures next { IsNextMark T.rank points.now p.0 (T.rank at) result.next }
 {
-    let here = points.read(p, at, ANYWHERE);
+    let here = points.read(p, at, near);
     Old {
         mark: mark_or_zeros(here.mark, at),
         current: currencies(dirty, p, here.is_current),
         next: time_of(here.next),
+        place: here.place,
     }
 }
 
@@ -123,12 +127,14 @@ fn touch_of<T: Moment>(old: &Mark<T>, settled: &Settled<T>) -> Touch<T>
     }
 }
 
-/// Plans the new mark of a property, if it is another one than the old. `Err`: memory ran out, or a count is at its end.
+/// Plans the new mark of a property, if it is another one than the old, which was looked for at the place `near`. `Err`: memory
+/// ran out, or a count is at its end.
 fn plan_mark<T: Moment>(
     planned: &mut Planned<T>,
     p: PropId,
     old: &Mark<T>,
     settled: &Settled<T>,
+    near: usize,
 ) -> Result<(), NoMemory>
     requires mark_free { has_change T.rank p.0 (T.rank settled.now.mark.at) planned.old.marks ≡ false }
     requires initiation_free { has_change T.rank p.0 (T.rank settled.now.mark.at) planned.old.initiations ≡ false }
@@ -137,7 +143,7 @@ fn plan_mark<T: Moment>(
     if !settled.is_changed {
         return Ok(());
     }
-    planned.marks.push(p, settled.mark, ANYWHERE)?;
+    planned.marks.push(p, settled.mark, near)?;
     if old.inits != settled.mark.inits {
         planned
             .initiations
@@ -146,20 +152,21 @@ fn plan_mark<T: Moment>(
     planned.touched.note(p, &touch_of(old, settled))
 }
 
-/// Makes a property due at the next time at which anything bears on it, where the time of its next mark is known. `Err`: memory
-/// ran out.
+/// Makes a property due at the next time at which anything bears on it, where the time of its next mark is known. `near` is a
+/// place among its dependents to look at first. `Err`: memory ran out.
 fn make_due<T: Moment, M: MarkRow<T>, I: SpanRow<T>, X: TimeRow<T>>(
     parts: &Parts<T, M, I, X>,
     p: PropId,
     at: T,
     next_mark: Option<T>,
+    near: usize,
     agenda: &mut Agenda<T>,
 ) -> Result<(), NoMemory>
     requires { IsNextMark T.rank parts.now.points p.0 (T.rank at) next_mark }
     ensures adds { OnOk result (AddsDue T.rank parts.now.points parts.now.entries.slots (T.rank at) (λ n. p.0 == n) agenda.old agenda.new) }
     ensures due { OnOk result ((u : ℤ) → T.rank at <ℤ u → BearsAt T.rank parts.now.points parts.now.entries.slots p.0 u → IsDueWithin T.rank agenda.new p.0 (T.rank at) u) }
 {
-    if let Some(next) = next_time(parts, p, at, next_mark) {
+    if let Some(next) = next_time(parts, p, at, next_mark, near) {
         agenda.add(next, p)?;
     }
     Ok(())
@@ -167,6 +174,7 @@ fn make_due<T: Moment, M: MarkRow<T>, I: SpanRow<T>, X: TimeRow<T>>(
 
 /// Settles a property at an instant, by what is tallied of it. `Err`: memory ran out, and what is noted is of no further use.
 pub(crate) fn settle_one<T: Moment, M: MarkRow<T>, I: SpanRow<T>, X: TimeRow<T>>(
+    places: &mut Places,
     parts: &Parts<T, M, I, X>,
     p: PropId,
     tallied: &Tallied,
@@ -184,12 +192,15 @@ pub(crate) fn settle_one<T: Moment, M: MarkRow<T>, I: SpanRow<T>, X: TimeRow<T>>
         (record { dirty = dirty.old; agenda = agenda.old; planned = planned.old }) (record { dirty = dirty.new; agenda = agenda.new; planned = planned.new })) }
     ensures dues { OnOk result (AddsDue T.rank parts.now.points parts.now.entries.slots (T.rank at) (λ n. p.0 == n) agenda.old agenda.new) }
 {
-    let old = read_old(&parts.points, dirty, p, at);
+    let mut near = places.near(p);
+    let old = read_old(&parts.points, dirty, p, at, near.marks);
+    near.marks = old.place;
+    places.keep(near);
     let settled = settle(&old.mark, tallied, old.current);
-    plan_mark(planned, p, &old.mark, &settled)?;
+    plan_mark(planned, p, &old.mark, &settled, old.place)?;
     dirty.set(p, settled.dirty)?;
     if settled.dirty.is_some() {
-        make_due(parts, p, at, old.next, agenda)?;
+        make_due(parts, p, at, old.next, near.dependents, agenda)?;
     }
     Ok(())
 }

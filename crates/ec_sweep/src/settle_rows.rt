@@ -9,6 +9,7 @@ ghost use Rattle.ec_revise.specs.TurnCounts.{IsTallyAt, counts_at, row_at, talli
 ghost use Rattle.ec_sweep.specs.Settling.{HaveRoom, SettlesRows};
 
 use crate::dirty::Dirty;
+use crate::places::Places;
 use crate::scratch::Scratch;
 use crate::settle_one::settle_one;
 use ec_agenda::Agenda;
@@ -42,6 +43,7 @@ pub(crate) fn tally_of(
 
 /// Settles each property of a tally, by what is tallied of it. `Err`: memory ran out, and what is noted is of no further use.
 pub(crate) fn settle_rows<T: Moment, M: MarkRow<T>, I: SpanRow<T>, X: TimeRow<T>>(
+    places: &mut Places,
     parts: &Parts<T, M, I, X>,
     tally: &Tally,
     at: T,
@@ -57,7 +59,7 @@ pub(crate) fn settle_rows<T: Moment, M: MarkRow<T>, I: SpanRow<T>, X: TimeRow<T>
 {
     for i in 0..tally.len() {
         let (p, tallied) = tally.row(i);
-        settle_one(parts, p, &tallied, at, dirty, agenda, planned)?;
+        settle_one(places, parts, p, &tallied, at, dirty, agenda, planned)?;
     }
     Ok(())
 }

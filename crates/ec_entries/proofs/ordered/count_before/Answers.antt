@@ -7,5 +7,5 @@ use Rattle.ec_entries.proofs.ordered.count_before.Goals as goal
 
 pub returns-clause-cut : goal.returns-clause-cut
 returns-clause-cut g c =
-    IsPartitionPoint-from_clause (earlier g.T.Moment.rank (g.T.Moment.rank c.args.at)) c.args.list.now.items _ c.partition_point.ensures.partitioned
+    IsPartitionPoint-from_clause (earlier g.T.Moment.rank (g.T.Moment.rank c.args.at)) c.args.list.now.items _ c.partition_near.ensures.partitioned
     (IsPartitionedBy-earlier g.T.Moment.rank (g.T.Moment.rank c.args.at) c.args.list.now.items c.requires) (λ a r f' called. search (rules, called))
