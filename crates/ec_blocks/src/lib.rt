@@ -12,13 +12,7 @@ mod by_place;
 mod chain;
 mod counts;
 mod search;
-#[cfg(test)]
-mod span_tests;
 mod starts;
-#[cfg(test)]
-mod tests;
-#[cfg(test)]
-mod time_tests;
 
 pub use block_marks::BlockMarks;
 pub use block_spans::BlockSpans;

@@ -7,8 +7,6 @@ mod entry;
 mod keeping;
 mod laws;
 mod rules;
-#[cfg(test)]
-mod tests;
 
 pub use activity::evaluate;
 pub use entries::entries_of;

@@ -4,8 +4,6 @@
 mod cursor;
 mod identities;
 mod store;
-#[cfg(test)]
-mod tests;
 
 pub use cursor::Cursor;
 pub use store::EventStore;

@@ -1,4 +1,4 @@
-mod KeptRows
+pub mod KeptRows
 mod Options
 mod Pass
 mod Cut
@@ -10,7 +10,7 @@ mod Walking
 mod Covering
 pub mod OneMark
 mod PassOrder
-mod Written
+pub mod Written
 mod FirstBroken
 mod ChangedMark
 mod Growth

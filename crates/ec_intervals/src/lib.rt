@@ -12,8 +12,6 @@ mod reaches;
 mod row;
 mod rows;
 mod steps;
-#[cfg(test)]
-mod tests;
 mod window;
 mod write;
 

@@ -2,14 +2,29 @@
 #![tactic(auto)]
 
 #[cfg(test)]
+mod block_spans;
+#[cfg(test)]
+mod block_times;
+#[cfg(test)]
+mod blocks;
+#[cfg(test)]
+mod context;
+#[cfg(test)]
+mod events;
+#[cfg(test)]
+mod intervals;
+#[cfg(test)]
 mod lines;
 #[cfg(test)]
 mod moment;
 #[cfg(test)]
 mod reading;
 #[cfg(test)]
+mod rows;
+#[cfg(test)]
 mod steps;
 pub mod tables;
+pub mod tally;
 #[cfg(test)]
 mod terms;
 #[cfg(test)]

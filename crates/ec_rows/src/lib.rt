@@ -12,8 +12,6 @@ mod mark_row;
 mod search;
 mod span;
 mod span_row;
-#[cfg(test)]
-mod tests;
 mod time_row;
 mod vec_marks;
 mod vec_spans;

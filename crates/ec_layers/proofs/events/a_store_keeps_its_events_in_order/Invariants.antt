@@ -1,0 +1,5 @@
+-- The ledger that the counter counts on is that of the blank.
+use Rattle.ec_layers.proofs.events.a_store_keeps_its_events_in_order.Given as goal
+
+abbrev pub ghosts-all_pass : goal.ghosts-all_pass
+ghosts-all_pass g a = record { name = a.blank.name; parts = a.blank.parts }
