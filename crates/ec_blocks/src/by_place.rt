@@ -1,12 +1,12 @@
 //! The edits of a chain by places among all members.
-ghost use Rattle.std.specs.Prelude.{◌≡◌, ◌+◌, ◌<◌, ◌≤◌, ◌++◌, ◌∷◌, [], Some, Bool, true, false, ◌⊎◌, ℕ, ◌-◌, ◌*◌, OnOk, OnErr, length, take, drop, slice_get, slice_set};
+ghost use Rattle.std.specs.Prelude.{◌≡◌, ◌+◌, ◌<◌, ◌≤◌, ◌++◌, ◌∷◌, [], Some, Bool, true, false, ◌⊎◌, ℕ, ◌-◌, ◌*◌, OnOk, OnErr, IfSome, length, take, drop, slice_get, slice_set};
 ghost use Rattle.std.specs.Fn.{ComputesKey};
 ghost use Rattle.std.specs.List.{insert, remove};
 ghost use Rattle.std.specs.List.Sorted.{IsPartitionedBy, IsPartitionPoint};
 ghost use Rattle.std.proofs.Common.{suc};
 ghost use Rattle.ec_blocks.specs.Chain.{joined, block_at, debt, room_of};
 
-use crate::chain::{CAPACITY, Chain, HALF, cut_near};
+use crate::chain::{CAPACITY, Chain, HALF, cut_near, cut_round};
 use ec_rows::Copied;
 use ec_terms::NoMemory;
 
@@ -43,6 +43,39 @@ impl<X: Copied + Drop> Chain<X> {
         front && behind
     }
 
+    /// The place where the members that pass a test end, if it is shown by the few round the one that was found last.
+    fn find_round<F: Fn(&X) -> bool>(&self, pred: &F) -> Option<usize>
+        requires { F.IsAlwaysCallable pred.now }
+        ensures bound { IfSome result (λ n. n ≤ length (joined self.now.blocks)) }
+        ensures partitioned { IfSome result (λ n. (p : X → Bool) → ComputesKey F.FnMut p pred.now → IsPartitionedBy p (joined self.now.blocks) → IsPartitionPoint (λ x. p x ≡ true) (λ x. p x ≡ false) (joined self.now.blocks) n) }
+    {
+        let (k, near) = self.noted();
+        if self.count() <= k {
+            return None;
+        }
+        let place = cut_round(self.block(k), near, pred)?;
+        if self.is_enclosed(k, place) {
+            self.note(k, place);
+            return Some(self.start(k) + place);
+        }
+        None
+    }
+
+    /// The place where the members that pass a test end, sought first at the end, and then round the one that was found last.
+    pub(crate) fn partition_point<F: Fn(&X) -> bool>(&self, pred: &F) -> usize
+        requires { F.IsAlwaysCallable pred.now }
+        ensures bound { result ≤ length (joined self.now.blocks) }
+        ensures partitioned { (p : X → Bool) → ComputesKey F.FnMut p pred.now → IsPartitionedBy p (joined self.now.blocks) → IsPartitionPoint (λ x. p x ≡ true) (λ x. p x ≡ false) (joined self.now.blocks) result }
+    {
+        if self.is_passed(pred) {
+            return self.total();
+        }
+        match self.find_round(pred) {
+            Some(place) => place,
+            None => self.partition_all(pred),
+        }
+    }
+
     /// The place where the members that pass a test end, sought first round the place `near`, and then in its block. What is
     /// found there is taken only where the block shows that no other member matters.
     pub(crate) fn partition_near<F: Fn(&X) -> bool>(&self, near: usize, pred: &F) -> usize
@@ -50,14 +83,16 @@ impl<X: Copied + Drop> Chain<X> {
         ensures bound { result ≤ length (joined self.now.blocks) }
         ensures partitioned { (p : X → Bool) → ComputesKey F.FnMut p pred.now → IsPartitionedBy p (joined self.now.blocks) → IsPartitionPoint (λ x. p x ≡ true) (λ x. p x ≡ false) (joined self.now.blocks) result }
     {
-        if near < self.total() {
-            let k = self.locate(near);
-            let place = cut_near(self.block(k), near - self.start(k), pred);
-            if self.is_enclosed(k, place) {
-                return self.start(k) + place;
-            }
+        if self.total() <= near {
+            return self.partition_point(pred);
         }
-        self.partition_point(pred)
+        let k = self.locate(near);
+        let place = cut_near(self.block(k), near - self.start(k), pred);
+        if self.is_enclosed(k, place) {
+            self.note(k, place);
+            return self.start(k) + place;
+        }
+        self.partition_all(pred)
     }
 
     /// Puts a member in place of the one at a place.

@@ -1,5 +1,5 @@
 //! A list in blocks of at most 128 members, one behind another.
-ghost use Rattle.std.specs.Prelude.{◌≡◌, ◌⊎◌, ◌+◌, ◌-◌, ◌*◌, ◌^◌, ◌<◌, ◌≤◌, ◌++◌, ◌∷◌, [], Bool, true, false, Some, IsTrue, OnOk, OnErr, length, take, drop, slice_get, slice_set, map, vec_len};
+ghost use Rattle.std.specs.Prelude.{◌≡◌, ◌⊎◌, ◌+◌, ◌-◌, ◌*◌, ◌^◌, ◌<◌, ◌≤◌, ◌++◌, ◌∷◌, [], Bool, true, false, Some, IfSome, IsTrue, OnOk, OnErr, length, take, drop, slice_get, slice_set, map, vec_len};
 ghost use Rattle.std.specs.Fn.{ComputesKey};
 ghost use Rattle.std.specs.List.{insert, remove, list_all};
 ghost use Rattle.std.specs.List.Sorted.{IsPartitionedBy, IsPartitionPoint};
@@ -12,6 +12,7 @@ use crate::starts::Starts;
 use ec_rows::Copied;
 use ec_terms::NoMemory;
 use std::alloc::Global;
+use std::cell::Cell;
 use std::marker::Model;
 
 /// How many members a block holds at the most.
@@ -36,6 +37,10 @@ pub(crate) struct Chain<X> {
     lasts: Vec<X>,
     spares: Vec<Vec<X>>,
     counts: Counts,
+    /// The block that was found last, where the next search begins. It changes no answer.
+    found: Cell<usize>,
+    /// A place in it that was found by a test.
+    place: Cell<usize>,
 }
 
 impl<X> Model for Chain<X> {
@@ -62,6 +67,8 @@ impl<X: Copied + Drop> Chain<X> {
             lasts: Vec::new(alloc),
             spares: Vec::new(alloc),
             counts: Counts::new(),
+            found: Cell::new(0),
+            place: Cell::new(0),
         }
     }
 
@@ -143,7 +150,22 @@ impl<X: Copied + Drop> Chain<X> {
         self.counts.owed() + self.block(count - 1).len().min(HALF)
     }
 
-    /// The block that a place is in.
+    /// Whether a place is in a block.
+    fn is_in(&self, i: usize, k: usize) -> bool
+        ensures within { result ≡ true → k < length self.now.blocks }
+        ensures from { result ≡ true → start_of k self.now.blocks ≤ i }
+        ensures to { result ≡ true → i < start_of k self.now.blocks + length (block_at k self.now.blocks) }
+        ensures kept { IsTrue (list_all is_block self.now.blocks) }
+        ensures few { length self.now.blocks ≤ 2 ^ 56 }
+    {
+        if self.count() <= k {
+            return false;
+        }
+        let start = self.start(k);
+        start <= i && i - start < self.block(k).len()
+    }
+
+    /// The block that a place is in. The one that was found last is looked at first.
     pub(crate) fn locate(&self, i: usize) -> usize
         requires { i < length (joined self.now.blocks) }
         ensures within { result < length self.now.blocks }
@@ -152,11 +174,17 @@ impl<X: Copied + Drop> Chain<X> {
         ensures kept { IsTrue (list_all is_block self.now.blocks) }
         ensures few { length self.now.blocks ≤ 2 ^ 56 }
     {
-        self.starts.count_up_to(i) - 1
+        let near = self.found.get();
+        if self.is_in(i, near) {
+            return near;
+        }
+        let k = self.starts.count_up_to(i) - 1;
+        self.found.set(k);
+        k
     }
 
     /// Whether all members pass a test, as the last one tells. Most of what is sought is at the end.
-    fn is_passed<F: Fn(&X) -> bool>(&self, pred: &F) -> bool
+    pub(crate) fn is_passed<F: Fn(&X) -> bool>(&self, pred: &F) -> bool
         requires { F.IsAlwaysCallable pred.now }
         ensures { (p : X → Bool) → ComputesKey F.FnMut p pred.now → IsPartitionedBy p (joined self.now.blocks) → result ≡ true → IsPartitionPoint (λ x. p x ≡ true) (λ x. p x ≡ false) (joined self.now.blocks) (length (joined self.now.blocks)) }
     {
@@ -167,20 +195,30 @@ impl<X: Copied + Drop> Chain<X> {
         cut(&self.lasts[count - 1..], pred) == 1
     }
 
-    /// The place where the members that pass a test end.
-    pub(crate) fn partition_point<F: Fn(&X) -> bool>(&self, pred: &F) -> usize
+    /// The place where the members that pass a test end, sought among all.
+    pub(crate) fn partition_all<F: Fn(&X) -> bool>(&self, pred: &F) -> usize
         requires { F.IsAlwaysCallable pred.now }
         ensures bound { result ≤ length (joined self.now.blocks) }
         ensures partitioned { (p : X → Bool) → ComputesKey F.FnMut p pred.now → IsPartitionedBy p (joined self.now.blocks) → IsPartitionPoint (λ x. p x ≡ true) (λ x. p x ≡ false) (joined self.now.blocks) result }
     {
-        if self.is_passed(pred) {
-            return self.total();
-        }
         let k = cut(&self.lasts, pred);
         if k == self.blocks.len() {
             return self.total();
         }
-        self.starts.get(k) + cut(&self.blocks[k], pred)
+        let place = cut(&self.blocks[k], pred);
+        self.note(k, place);
+        self.starts.get(k) + place
+    }
+
+    /// Notes what was found, for the next search.
+    pub(crate) fn note(&self, k: usize, place: usize) {
+        self.found.set(k);
+        self.place.set(place);
+    }
+
+    /// What was noted last.
+    pub(crate) fn noted(&self) -> (usize, usize) {
+        (self.found.get(), self.place.get())
     }
 
     /// Takes out a member of a block of several.
@@ -321,21 +359,35 @@ fn is_between(place: usize, from: usize, to: usize, len: usize) -> bool
     front && behind
 }
 
+/// The place where the members that pass a test end, if it is shown by the few round the place `near`.
+pub(crate) fn cut_round<X, F: Fn(&X) -> bool>(members: &[X], near: usize, pred: &F) -> Option<usize>
+    requires { F.IsAlwaysCallable pred.now }
+    ensures bound { IfSome result (λ place. place ≤ length members.now) }
+    ensures partitioned { IfSome result (λ place. (p : X → Bool) → ComputesKey F.FnMut p pred.now → IsPartitionedBy p members.now → IsPartitionPoint (λ x. p x ≡ true) (λ x. p x ≡ false) members.now place) }
+{
+    if members.len() <= near {
+        return None;
+    }
+    let from = near.saturating_sub(1);
+    let to = members.len().min(near.saturating_add(ROUND));
+    let place = from + cut(&members[from..to], pred);
+    if is_between(place, from, to, members.len()) {
+        Some(place)
+    } else {
+        None
+    }
+}
+
 /// The place where the members that pass a test end, sought first among the few round the place `near`.
 pub(crate) fn cut_near<X, F: Fn(&X) -> bool>(members: &[X], near: usize, pred: &F) -> usize
     requires { F.IsAlwaysCallable pred.now }
     ensures bound { result ≤ length members.now }
     ensures partitioned { (p : X → Bool) → ComputesKey F.FnMut p pred.now → IsPartitionedBy p members.now → IsPartitionPoint (λ x. p x ≡ true) (λ x. p x ≡ false) members.now result }
 {
-    if near < members.len() {
-        let from = near.saturating_sub(1);
-        let to = members.len().min(near.saturating_add(ROUND));
-        let place = from + cut(&members[from..to], pred);
-        if is_between(place, from, to, members.len()) {
-            return place;
-        }
+    match cut_round(members, near, pred) {
+        Some(place) => place,
+        None => cut(members, pred),
     }
-    cut(members, pred)
 }
 
 /// Puts a member in place of the one at a place.

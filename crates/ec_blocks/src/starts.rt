@@ -12,8 +12,11 @@ use std::marker::Model;
 /// How many numbers have a base together.
 const GROUP: usize = 64;
 
-/// How far on both sides of a guess a search looks at first.
+/// How far on both sides of a guess a search looks at first, in a short list.
 const ROUND: usize = 2;
+
+/// For so many numbers more a search looks one further, since a rise that is not quite steady strays the more the longer it is.
+const STRAY: usize = 256;
 
 /// A list of numbers, in which all behind a place are raised or lowered by one at little cost. Each group of 64 has
 /// a base, and a number is the sum of its own part and of the base of its group, modulo 2^64: so a part
@@ -68,8 +71,9 @@ impl Starts {
     {
         let end = self.parts.len() - 1;
         let guess = i.wrapping_mul(end) / last;
-        let low = guess.saturating_sub(ROUND).min(end);
-        let high = guess.saturating_add(ROUND).min(end);
+        let round = ROUND + end / STRAY;
+        let low = guess.saturating_sub(round).min(end);
+        let high = guess.saturating_add(round).min(end);
         (
             choose(self.get(low) <= i, low, 0),
             choose(i < self.get(high), high, end),

@@ -10,27 +10,27 @@ use Rattle.ec_blocks.proofs.ChainLemmas.{kept-blocks}
 use Rattle.ec_blocks.proofs.StartLemmas.{IsIn, starts-length, starts-rise, some-start, IsIn-from_cut}
 use Rattle.ec_blocks.proofs.chain.Chain.locate.Goals as goal
 
-pub count_up_to-requires : goal.count_up_to-requires
-count_up_to-requires g c =
+pub count_up_to-k-requires : goal.count_up_to-k-requires
+count_up_to-k-requires g c =
     subst (IsNonDecreasingBy (λ (place : ℕ). place)) (sym (c.self.invariant.0.starts_are ∙ ap (λ v. starts_from 0 v.blocks) c.self.view_is))
     (starts-rise 0 c.args.self.now.blocks)
 
-pub overflow_sub-result : goal.overflow_sub-result
-overflow_sub-result g c =
-    some-start c.args.self.now.blocks c.args.i c.count_up_to.result c.requires
-    (subst (λ (ps : _). IsPartitionPoint (λ place. nat_le place c.args.i ≡ true) (λ place. nat_le place c.args.i ≡ false) ps c.count_up_to.result)
-    (c.self.invariant.0.starts_are ∙ ap (λ v. starts_from 0 v.blocks) c.self.view_is) c.count_up_to.ensures.cut)
+pub overflow_sub-k : goal.overflow_sub-k
+overflow_sub-k g c =
+    some-start c.args.self.now.blocks c.args.i c.count_up_to-k.result c.requires
+    (subst (λ (ps : _). IsPartitionPoint (λ place. nat_le place c.args.i ≡ true) (λ place. nat_le place c.args.i ≡ false) ps c.count_up_to-k.result)
+    (c.self.invariant.0.starts_are ∙ ap (λ v. starts_from 0 v.blocks) c.self.view_is) c.count_up_to-k.ensures.cut)
 
 pub returns : goal.returns
 returns g c =
-    let cut = subst (λ (ps : _). IsPartitionPoint (λ place. nat_le place c.args.i ≡ true) (λ place. nat_le place c.args.i ≡ false) ps c.count_up_to.result)
-    (c.self.invariant.0.starts_are ∙ ap (λ v. starts_from 0 v.blocks) c.self.view_is) c.count_up_to.ensures.cut in
-    let some : 1 ≤ c.count_up_to.result = overflow_sub-result g c in
+    let cut = subst (λ (ps : _). IsPartitionPoint (λ place. nat_le place c.args.i ≡ true) (λ place. nat_le place c.args.i ≡ false) ps c.count_up_to-k.result)
+    (c.self.invariant.0.starts_are ∙ ap (λ v. starts_from 0 v.blocks) c.self.view_is) c.count_up_to-k.ensures.cut in
+    let some : 1 ≤ c.count_up_to-k.result = some-start c.args.self.now.blocks c.args.i c.count_up_to-k.result c.requires cut in
     let count : length c.self.inside.starts.items ≡ length c.args.self.now.blocks =
     ap length (c.self.invariant.0.starts_are ∙ ap (λ v. starts_from 0 v.blocks) c.self.view_is) ∙ starts-length 0 c.args.self.now.blocks in
-    let more : c.count_up_to.result ≡ suc (c.count_up_to.result - 1) = omega arith in
-    let found : IsIn c.args.self.now.blocks c.args.i (c.count_up_to.result - 1) =
-    IsIn-from_cut c.args.self.now.blocks c.args.i (c.count_up_to.result - 1) c.requires (omega arith)
+    let more : c.count_up_to-k.result ≡ suc (c.count_up_to-k.result - 1) = omega arith in
+    let found : IsIn c.args.self.now.blocks c.args.i (c.count_up_to-k.result - 1) =
+    IsIn-from_cut c.args.self.now.blocks c.args.i (c.count_up_to-k.result - 1) c.requires (omega arith)
     (subst (λ (n : ℕ). IsPartitionPoint (λ place. nat_le place c.args.i ≡ true) (λ place. nat_le place c.args.i ≡ false) (starts_from 0 c.args.self.now.blocks) n) more cut) in
     record {
       within = found.within;

@@ -8,7 +8,7 @@ use Rattle.ec_blocks.specs.Chain.{joined, is_block, last_of}
 use Rattle.ec_blocks.proofs.StartLemmas.{start_of-suc, start_of-le, start_of-all}
 use Rattle.ec_blocks.proofs.ChainLemmas.{starts-count, lasts-count, start-is, block-is, kept-blocks, joined-most}
 use Rattle.ec_blocks.proofs.SearchLemmas.{lasts-parted, block-parted, found-within, found-behind}
-use Rattle.ec_blocks.proofs.chain.Chain.partition_point.Goals as goal
+use Rattle.ec_blocks.proofs.chain.Chain.partition_all.Goals as goal
 
 pub returns-then-k-len-clause-partitioned : goal.returns-then-k-len-clause-partitioned
 returns-then-k-len-clause-partitioned g c p computes parted =
@@ -17,7 +17,7 @@ returns-then-k-len-clause-partitioned g c p computes parted =
     let are = ap (map (λ x. Some x)) c.deref.ensures.value ∙ c.self.invariant.0.lasts_are ∙ ap (λ v. map last_of v.blocks) c.self.view_is in
     let count : length c.args.self.now.blocks ≡ length c.self.inside.blocks.items = ap (λ v. length v.blocks) (sym c.self.view_is) ∙ length-map c.self.inside.blocks.items (λ b. b.items) in
     let cut = c.cut-k.ensures.partitioned p computes (lasts-parted p c.args.self.now.blocks all parted c.deref.result.now are) in
-    subst (λ (n : ℕ). IsPartitionPoint (λ x. p x ≡ true) (λ x. p x ≡ false) (joined c.args.self.now.blocks) n) (sym c.total-then-k-len.ensures)
+    subst (λ (n : ℕ). IsPartitionPoint (λ x. p x ≡ true) (λ x. p x ≡ false) (joined c.args.self.now.blocks) n) (sym c.total.ensures)
     (found-behind p c.args.self.now.blocks all parted c.deref.result.now are c.cut-k.result (omega arith) (λ m d e. cut.0 m d (omega arith) (omega (arith, e))))
 
 pub get-requires : goal.get-requires
@@ -57,8 +57,8 @@ returns-clause-partitioned g c p computes parted =
     omega (arith, lasts-count (λ b. b.items) (λ b. vec_capacity b) _ _ _ _ c.self.invariant.0, ap (λ v. length v.blocks) (sym c.self.view_is), length-map c.self.inside.blocks.items (λ b. b.items), ap length c.deref.ensures.value) in
     let start = start-is (λ b. b.items) (λ b. vec_capacity b) _ _ _ _ c.self.invariant.0 c.args.self.now.blocks c.cut-k.result c.get.result (ap (λ v. v.blocks) c.self.view_is) within c.get.ensures in
     let block = c.deref-2.ensures.value ∙ block-is (λ b. b.items) (λ b. vec_capacity b) c.self.inside.blocks.items c.args.self.now.blocks c.cut-k.result c.index.result.now (ap (λ v. v.blocks) c.self.view_is) within c.index.ensures in
-    let point = c.cut.ensures.partitioned p computes (subst (λ (xs : List _). IsPartitionedBy p xs) (sym block) (block-parted p c.args.self.now.blocks all parted c.cut-k.result within)) in
-    subst (λ (n : ℕ). IsPartitionPoint (λ x. p x ≡ true) (λ x. p x ≡ false) (joined c.args.self.now.blocks) (n + c.cut.result)) (sym start)
-    (found-within p c.args.self.now.blocks all parted c.deref.result.now are c.cut-k.result c.cut.result within
+    let point = c.cut-place.ensures.partitioned p computes (subst (λ (xs : List _). IsPartitionedBy p xs) (sym block) (block-parted p c.args.self.now.blocks all parted c.cut-k.result within)) in
+    subst (λ (n : ℕ). IsPartitionPoint (λ x. p x ≡ true) (λ x. p x ≡ false) (joined c.args.self.now.blocks) (n + c.cut-place.result)) (sym start)
+    (found-within p c.args.self.now.blocks all parted c.deref.result.now are c.cut-k.result c.cut-place.result within
     (λ m d e. cut.0 m d (omega arith) (omega (arith, e))) (λ d. cut.1 c.cut-k.result d (omega arith) (omega (arith, within, count, lasts-count (λ b. b.items) (λ b. vec_capacity b) _ _ _ _ c.self.invariant.0, ap length c.deref.ensures.value))) (omega (arith, ap length block))
-    (subst (λ (xs : List _). IsPartitionPoint (λ x. p x ≡ true) (λ x. p x ≡ false) xs c.cut.result) block point))
+    (subst (λ (xs : List _). IsPartitionPoint (λ x. p x ≡ true) (λ x. p x ≡ false) xs c.cut-place.result) block point))

@@ -1,7 +1,7 @@
 -- What is found among the few is the end, where they show that no other member matters.
 use Rattle.std.proofs.Common.{◌-◌, take, drop, refl, arith}
 use Rattle.ec_blocks.proofs.SearchLemmas.{found-between}
-use Rattle.ec_blocks.proofs.chain.cut_near.Goals as goal
+use Rattle.ec_blocks.proofs.chain.cut_round.Goals as goal
 
 pub returns-then-is_between-clause-partitioned : goal.returns-then-is_between-clause-partitioned
 returns-then-is_between-clause-partitioned g c p computes parted =
