@@ -91,28 +91,3 @@ pub(crate) fn boxed_with<K: Copy + Eq + Hash + Drop, V: Copy + Drop>(
     let boxed = Box::new(alloc, map)?;
     Ok(boxed)
 }
-
-/// The value of a key in a hashed map. `None` exactly when it has none.
-#[inline(never)]
-pub(crate) fn hashed_value<K: Copy + Eq + Hash + Drop, V: Copy + Drop>(
-    map: &IndexMap<K, V>,
-    key: K,
-) -> Option<V>
-    ensures { result ≡ lookup (K.eq key) map.now.entries }
-{
-    map.get(&key).copied()
-}
-
-/// Gives a key its value in a hashed map. `Err`: memory ran out, and all is as it was.
-#[inline(never)]
-pub(crate) fn put_hashed<K: Copy + Eq + Hash + Drop, V: Copy + Drop>(
-    map: &mut IndexMap<K, V>,
-    key: K,
-    value: V,
-) -> Result<(), NoMemory>
-    ensures ok { OnOk result ((k : K) → lookup (K.eq k) map.new.entries ≡ (if K.eq key k then Some value else lookup (K.eq k) map.old.entries)) }
-    ensures err { OnErr result (map.new.entries ≡ map.old.entries) }
-{
-    map.insert(key, value)?;
-    Ok(())
-}

@@ -3,7 +3,7 @@ ghost use Rattle.std.specs.List.{IsDistinct};
 ghost use Rattle.std.specs.Map.{keys_of, lookup};
 ghost use Rattle.ec_maps.specs.Rows.{AreRows, rows_of};
 
-use crate::search::{boxed_with, hashed_value, put, put_hashed, take_out, value_of};
+use crate::search::{boxed_with, put, take_out, value_of};
 use ec_terms::NoMemory;
 use indexmap::IndexMap;
 use std::alloc::Global;
@@ -112,7 +112,7 @@ impl<K: Copy + Eq + Hash + Drop, V: Copy + Drop> SmallMap<K, V> {
     {
         match &self.body {
             Body::Few(rows) => value_of(rows, key),
-            Body::Many(map) => hashed_value(map, key),
+            Body::Many(map) => map.get(&key).copied(),
         }
     }
 
@@ -129,7 +129,9 @@ impl<K: Copy + Eq + Hash + Drop, V: Copy + Drop> SmallMap<K, V> {
         }
         match &mut self.body {
             Body::Few(rows) => put(rows, key, value)?,
-            Body::Many(map) => put_hashed(map, key, value)?,
+            Body::Many(map) => {
+                map.insert(key, value)?;
+            }
         }
         Ok(())
     }

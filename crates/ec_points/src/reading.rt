@@ -107,6 +107,7 @@ fn mark_and_next<T: Moment, M: MarkRow<T>>(
 }
 
 /// What a row of marks says at a time, before which so many of its marks stand, read from a run of them.
+#[inline(always)]
 fn read_run<T: Moment, M: MarkRow<T>>(
     row: &M,
     run: &[Mark<T>],
