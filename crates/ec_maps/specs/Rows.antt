@@ -14,7 +14,7 @@ pub record IsFirst {K V : Type 0} (test : K → Bool) (rows : List (K × V)) (i 
 -- the rows, however they are held
 abbrev pub rows_of : {K V : Type 0} → Body K V → List (K × V)
 rows_of (Few rows) = rows.items
-rows_of (Many map) = map.entries
+rows_of (Many map) = map.value.entries
 
 -- few rows have each key once, and so has a map by itself
 abbrev pub AreRows : {K V : Type 0} → (K → K → Bool) → Body K V → Type 0

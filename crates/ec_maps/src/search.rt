@@ -62,7 +62,7 @@ pub(crate) fn take_out<K: Copy + Eq + Drop, V: Copy + Drop>(rows: &mut Vec<(K, V
 }
 
 /// The same rows in a hashed map. `Err`: memory ran out.
-pub(crate) fn hashed<K: Copy + Eq + Hash + Drop, V: Copy + Drop>(
+fn hashed<K: Copy + Eq + Hash + Drop, V: Copy + Drop>(
     alloc: Global,
     rows: &[(K, V)],
 ) -> Result<IndexMap<K, V>, NoMemory>
@@ -74,4 +74,20 @@ pub(crate) fn hashed<K: Copy + Eq + Hash + Drop, V: Copy + Drop>(
         map.insert(row.0, row.1)?;
     }
     Ok(map)
+}
+
+/// The same rows in a hashed map on the heap, with a value given to a key. `Err`: memory ran out.
+pub(crate) fn boxed_with<K: Copy + Eq + Hash + Drop, V: Copy + Drop>(
+    alloc: Global,
+    rows: &[(K, V)],
+    key: K,
+    value: V,
+) -> Result<Box<IndexMap<K, V>>, NoMemory>
+    requires { IsDistinct K.eq (keys_of rows.now) }
+    ensures { IfOk result (λ boxed. (k : K) → lookup (K.eq k) boxed.value.entries ≡ (if K.eq key k then Some value else lookup (K.eq k) rows.now)) }
+{
+    let mut map = hashed(alloc, rows)?;
+    map.insert(key, value)?;
+    let boxed = Box::new(alloc, map)?;
+    Ok(boxed)
 }

@@ -3,7 +3,7 @@ ghost use Rattle.std.specs.List.{IsDistinct};
 ghost use Rattle.std.specs.Map.{keys_of, lookup};
 ghost use Rattle.ec_maps.specs.Rows.{AreRows, rows_of};
 
-use crate::search::{hashed, put, take_out, value_of};
+use crate::search::{boxed_with, put, take_out, value_of};
 use ec_terms::NoMemory;
 use indexmap::IndexMap;
 use std::alloc::Global;
@@ -17,7 +17,7 @@ const FEW: usize = 8;
 #[derive(Drop)]
 enum Body<K: Eq + Hash, V> {
     Few(Vec<(K, V)>),
-    Many(IndexMap<K, V>),
+    Many(Box<IndexMap<K, V>>),
 }
 
 /// A map that mostly has few rows: up to eight are searched one by one, which takes less time than to hash a key, and
@@ -39,20 +39,32 @@ impl<K: Eq + Hash, V> Model for SmallMap<K, V> {
     ghost invariant = { λ map. AreRows K.eq map.body };
 }
 
-/// The rows in a hashed map, once they are no longer few. `Err`: memory ran out.
+/// Whether few rows are as many as are searched one by one.
+fn is_full<K: Eq + Hash, V>(body: &Body<K, V>) -> bool {
+    match body {
+        Body::Few(rows) => rows.len() >= FEW,
+        Body::Many(_) => false,
+    }
+}
+
+/// The rows in a hashed map, with a value given to a key, once they are no longer few. `Err`: memory ran out.
+#[cold]
+#[inline(never)]
 fn grown<K: Copy + Eq + Hash + Drop, V: Copy + Drop>(
     alloc: Global,
     body: &Body<K, V>,
-) -> Result<Option<IndexMap<K, V>>, NoMemory>
+    key: K,
+    value: V,
+) -> Result<Option<Box<IndexMap<K, V>>>, NoMemory>
     requires { AreRows K.eq body.now }
-    ensures { IfOk result (λ grown. IfSome grown (λ map. (k : K) → lookup (K.eq k) map.entries ≡ lookup (K.eq k) (rows_of body.now))) }
+    ensures { IfOk result (λ grown. IfSome grown (λ map. (k : K) → lookup (K.eq k) map.value.entries ≡ (if K.eq key k then Some value else lookup (K.eq k) (rows_of body.now)))) }
 {
     match body {
         Body::Few(rows) => {
             if rows.len() < FEW {
                 return Ok(None);
             }
-            Ok(Some(hashed(alloc, rows)?))
+            Ok(Some(boxed_with(alloc, rows, key, value)?))
         }
         Body::Many(_) => Ok(None),
     }
@@ -109,10 +121,11 @@ impl<K: Copy + Eq + Hash + Drop, V: Copy + Drop> SmallMap<K, V> {
         ensures ok { OnOk result ((k : K) → lookup (K.eq k) self.new ≡ (if K.eq key k then Some value else lookup (K.eq k) self.old)) }
         ensures err { OnErr result (self.new ≡ self.old) }
     {
-        if let Some(mut map) = grown(self.alloc, &self.body)? {
-            map.insert(key, value)?;
-            self.body = Body::Many(map);
-            return Ok(());
+        if is_full(&self.body) {
+            if let Some(map) = grown(self.alloc, &self.body, key, value)? {
+                self.body = Body::Many(map);
+                return Ok(());
+            }
         }
         match &mut self.body {
             Body::Few(rows) => put(rows, key, value)?,

@@ -3,6 +3,7 @@ mod ClashLemmas
 mod LastMarks
 pub mod Lists
 pub mod MadeChanges
+mod NearMarks
 mod NextClash
 mod NotedChanges
 mod PastMarks

@@ -1,12 +1,16 @@
 //! What the marks of a property say at one time, found by one search.
-ghost use Rattle.std.specs.Prelude.{◌≡◌, ◌-◌, ◌<◌, ◌≤◌, Some, length, take, drop, slice_get};
+ghost use Rattle.std.specs.Prelude.{◌≡◌, ◌-◌, ◌<◌, ◌≤◌, ℕ, Some, IfSome, true, false, int_lt, length, take, drop, slice_get, slice_index_or};
 ghost use Rattle.ec_axioms.specs.Marks.{current_after, last_mark_before};
+ghost use Rattle.ec_rows.specs.declared.mark.Mark.{Mark};
 ghost use Rattle.ec_rows.specs.Marks.{IsMarkRow, mark_at, marks_after, marks_before};
 ghost use Rattle.ec_rows.specs.PlainMarks.{plain_marks};
 
 use crate::row::is_at;
 use ec_moment::Moment;
 use ec_rows::{Mark, MarkRow};
+
+/// How many marks are looked at before a search in the whole row.
+const FEW: usize = 8;
 
 /// What the marks of a property say at a time: the mark there, if there is one; whether the property is current there; the
 /// first mark behind; and how many marks stand before the time.
@@ -40,19 +44,21 @@ fn mark_in<T: Moment, M: MarkRow<T>>(row: &M, run: &[Mark<T>], from: usize, i: u
 fn current_behind<T: Moment, M: MarkRow<T>>(
     row: &M,
     run: &[Mark<T>],
+    from: usize,
     at: T,
     place: usize,
     initial: bool,
 ) -> bool
     requires row { IsMarkRow T.rank (M.marks row.now) }
-    requires run { run.now ≡ take (length run.now) (drop (place - 1) (M.marks row.now)) }
+    requires run { run.now ≡ take (length run.now) (drop from (M.marks row.now)) }
+    requires behind { from ≤ place - 1 }
     requires place { place ≡ length (marks_before T.rank (T.rank at) (M.marks row.now)) }
     ensures { result ≡ current_after initial (last_mark_before (plain_marks T.rank (M.marks row.now)) (T.rank at)) }
 {
     if place == 0 {
         initial
     } else {
-        mark_in(row, run, place - 1, place - 1).inits > 0
+        mark_in(row, run, from, place - 1).inits > 0
     }
 }
 
@@ -100,6 +106,96 @@ fn mark_and_next<T: Moment, M: MarkRow<T>>(
     }
 }
 
+/// What a row of marks says at a time, before which so many of its marks stand, read from a run of them.
+#[inline(always)]
+fn read_run<T: Moment, M: MarkRow<T>>(
+    row: &M,
+    run: &[Mark<T>],
+    from: usize,
+    at: T,
+    place: usize,
+    initial: bool,
+) -> Reading<T>
+    requires row { IsMarkRow T.rank (M.marks row.now) }
+    requires run { run.now ≡ take (length run.now) (drop from (M.marks row.now)) }
+    requires behind { from ≤ place - 1 }
+    requires place { place ≡ length (marks_before T.rank (T.rank at) (M.marks row.now)) }
+    ensures mark { result.mark ≡ mark_at T.rank (T.rank at) (M.marks row.now) }
+    ensures current { result.is_current ≡ current_after initial (last_mark_before (plain_marks T.rank (M.marks row.now)) (T.rank at)) }
+    ensures next { result.next ≡ slice_get (marks_after T.rank (T.rank at) (M.marks row.now)) 0 }
+    ensures place { result.place ≡ place }
+{
+    let (mark, next) = mark_and_next(row, run, from, at, place);
+    Reading {
+        mark,
+        is_current: current_behind(row, run, from, at, place, initial),
+        next,
+        place,
+    }
+}
+
+/// Whether a mark is before a time.
+fn is_before<T: Moment>(mark: &Mark<T>, at: T) -> bool
+    ensures { result ≡ int_lt (T.rank mark.now.at) (T.rank at) }
+{
+    mark.at.order(&at).is_lt()
+}
+
+/// How many of the first marks of a run are before a time. `None`: all of those that are looked at.
+fn first_from<T: Moment>(run: &[Mark<T>], at: T) -> Option<usize>
+    ensures within { IfSome result (λ i. i < length run.now) }
+    ensures front { IfSome result (λ i. (k : ℕ) (m : Mark T) → k < i → int_lt (T.rank (slice_index_or run.now k m).at) (T.rank at) ≡ true) }
+    ensures next { IfSome result (λ i. (m : Mark T) → int_lt (T.rank (slice_index_or run.now i m).at) (T.rank at) ≡ false) }
+{
+    for k in 0..run.len().min(FEW) {
+        if !is_before(&run[k], at) {
+            return Some(k);
+        }
+    }
+    None
+}
+
+/// What a row of marks says at a time, where the last mark before it, and one behind that, are among the few from the one in front
+/// of a place on. `None`: it is to be searched elsewhere.
+fn read_near<T: Moment, M: MarkRow<T>>(
+    row: &M,
+    at: T,
+    near: usize,
+    initial: bool,
+) -> Option<Reading<T>>
+    ensures mark { IfSome result (λ reading. reading.mark ≡ mark_at T.rank (T.rank at) (M.marks row.now)) }
+    ensures current { IfSome result (λ reading. reading.is_current ≡ current_after initial (last_mark_before (plain_marks T.rank (M.marks row.now)) (T.rank at))) }
+    ensures next { IfSome result (λ reading. reading.next ≡ slice_get (marks_after T.rank (T.rank at) (M.marks row.now)) 0) }
+    ensures place { IfSome result (λ reading. reading.place ≡ length (marks_before T.rank (T.rank at) (M.marks row.now))) }
+    ensures row { IsMarkRow T.rank (M.marks row.now) }
+{
+    let len = row.len();
+    if near == 0 || near >= len {
+        return None;
+    }
+    let from = near - 1;
+    let run = row.run(from);
+    let count = first_from(run, at)?;
+    if count == 0 {
+        return None;
+    }
+    let place = from.checked_add(count)?;
+    Some(read_run(row, run, from, at, place, initial))
+}
+
+/// What a row of marks says at a time, searched in the whole row.
+fn read_searched<T: Moment, M: MarkRow<T>>(row: &M, at: T, near: usize, initial: bool) -> Reading<T>
+    ensures mark { result.mark ≡ mark_at T.rank (T.rank at) (M.marks row.now) }
+    ensures current { result.is_current ≡ current_after initial (last_mark_before (plain_marks T.rank (M.marks row.now)) (T.rank at)) }
+    ensures next { result.next ≡ slice_get (marks_after T.rank (T.rank at) (M.marks row.now)) 0 }
+    ensures place { result.place ≡ length (marks_before T.rank (T.rank at) (M.marks row.now)) }
+{
+    let place = row.count_before(at, near);
+    let from = place.saturating_sub(1);
+    let run = run_from(row, from);
+    read_run(row, run, from, at, place, initial)
+}
+
 /// What a row of marks says at a time. `near` is a place to look at first; it does not change the answer.
 pub(crate) fn read_row<T: Moment, M: MarkRow<T>>(
     row: &M,
@@ -113,14 +209,8 @@ pub(crate) fn read_row<T: Moment, M: MarkRow<T>>(
     ensures place { result.place ≡ length (marks_before T.rank (T.rank at) (M.marks row.now)) }
     ensures row { IsMarkRow T.rank (M.marks row.now) }
 {
-    let place = row.count_before(at, near);
-    let from = place.saturating_sub(1);
-    let run = run_from(row, from);
-    let (mark, next) = mark_and_next(row, run, from, at, place);
-    Reading {
-        mark,
-        is_current: current_behind(row, run, at, place, initial),
-        next,
-        place,
+    match read_near(row, at, near, initial) {
+        Some(reading) => reading,
+        None => read_searched(row, at, near, initial),
     }
 }

@@ -2,7 +2,7 @@
 use Rattle.std.proofs.Common.{sym, ap, take, length, ◌∙◌, arith}
 use Rattle.std.proofs.lemmas.List.{drop_all}
 use Rattle.ec_entries.proofs.Readings.{drop-after}
-use Rattle.ec_entries.proofs.ordered.run_after.Goals as goal
+use Rattle.ec_entries.proofs.ordered.searched_after.Goals as goal
 
 pub returns-then-place-len-clause-run : goal.returns-then-place-len-clause-run
 returns-then-place-len-clause-run g c =

@@ -1,7 +1,7 @@
 -- Those at the time stand between the two places, and the run has them if it is long enough.
 use Rattle.std.proofs.Common.{arith}
 use Rattle.ec_entries.proofs.Readings.{dependents_at-none, dependents_at-run, earlier-up_to}
-use Rattle.ec_entries.proofs.ordered.run_at.Goals as goal
+use Rattle.ec_entries.proofs.ordered.searched_at.Goals as goal
 
 pub overflow_sub-count : goal.overflow_sub-count
 overflow_sub-count g c =
