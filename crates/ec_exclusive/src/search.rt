@@ -1,5 +1,5 @@
 //! The search for the neighbours of a property, in the groups of the keys that it shares with them.
-ghost use Rattle.std.specs.Prelude.{◌≡◌, ◌&&◌, ◌||◌, ℕ, List, true, IsTrue, IsSome, IfOk, OnOk};
+ghost use Rattle.std.specs.Prelude.{◌≡◌, ◌&&◌, ◌||◌, ℕ, List, true, not, IsTrue, IsSome, IfOk, OnOk};
 ghost use Rattle.std.specs.List.{list_any};
 ghost use Rattle.ec_terms.specs.declared.ids.PropId.{PropId};
 ghost use Rattle.ec_terms.specs.Matchable.{IsMatchable};
@@ -17,6 +17,22 @@ use ec_props::PropTable;
 use ec_terms::{GroundRef, NoMemory, PropId, Theory, are_exclusive};
 use std::alloc::Global;
 
+/// Whether a kept property is exclusive to a term, and is not found yet.
+fn is_sought(
+    theory: &Theory,
+    props: &PropTable,
+    term: &GroundRef<'_>,
+    found: &PropSet,
+    q: PropId,
+) -> bool
+    requires matchable { IsMatchable theory.now }
+    requires named { IsTrue (names_are_names (ground_of term.now)) }
+    requires kept { IsSome (prop_at q.0 props.now) }
+    ensures { result ≡ (not (has_number q.0 found.now.items) && excludes_at theory.now props.now (ground_of term.now) q) }
+{
+    !found.contains(q) && are_exclusive(theory, term, &props.ground(q))
+}
+
 /// Adds to `found` those of some kept properties that are exclusive to a term.
 fn gather(
     theory: &Theory,
@@ -32,7 +48,7 @@ fn gather(
         (has_number q.0 found.old.items || (excludes_at theory.now props.now (ground_of term.now) q && has_number q.0 candidates.now))) }
 {
     for q in candidates {
-        if are_exclusive(theory, term, &props.ground(*q)) {
+        if is_sought(theory, props, term, found, *q) {
             found.reserve(1)?;
             found.insert(*q);
         }
