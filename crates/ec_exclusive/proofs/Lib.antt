@@ -3,6 +3,7 @@ pub mod Excluding
 pub mod Leaving
 pub mod FieldLists
 pub mod InTurn
+mod Joined
 pub mod FormLemmas
 pub mod GroupLemmas
 pub mod KeyLemmas

@@ -1,10 +1,13 @@
 -- The neighbours of a theory and a table: which of the added properties are exclusive to which.
-use Rattle.std.specs.Prelude.{◌≡◌, Bool, false, List, map, filter, Option, Some, None, IsSome, option_map}
-use Rattle.std.specs.List.{All}
+use Rattle.std.specs.Prelude.{◌≡◌, Bool, false, IsTrue, List, map, filter, Option, Some, None, IsSome, option_map}
+use Rattle.std.specs.List.{All, list_any}
 use Rattle.ec_terms.specs.declared.ids.PropId.{PropId}
 use Rattle.ec_terms.specs.declared.ground.Ground.{Ground}
 use Rattle.ec_terms.specs.declared.theory.Theory.{Theory}
-use Rattle.ec_terms.specs.Domain.{are_exclusive}
+use Rattle.ec_terms.specs.declared.pattern.Pattern.{Pattern}
+use Rattle.ec_terms.specs.Binding.{Extends}
+use Rattle.ec_terms.specs.Domain.{are_exclusive, excludes}
+use Rattle.ec_terms.specs.Matching.{Values, fits}
 use Rattle.ec_props.specs.Table.{KeptProp, prop_at, term_at}
 use Rattle.ec_exclusive.specs.Added.{Added, added_props}
 use Rattle.ec_exclusive.specs.Forms.{TermForm, form_of}
@@ -49,3 +52,8 @@ ReadTermsAlone theory =
 -- a kept property is exclusive to a term
 abbrev pub excludes_at : Theory → List KeptProp → Ground → PropId → Bool
 excludes_at theory table term q = both_exclusive theory (Some term) (term_at q.0 table)
+
+-- whatever a pattern fits under values that go on from these, some declaration speaks of the term and of it
+abbrev pub AreJoined : Theory → Ground → Pattern → Values → Type 0
+AreJoined theory term other values =
+    (second : Ground) (found : Values) → Extends values found → IsTrue (fits found other second) → IsTrue (list_any (excludes term second) theory.exclusives)

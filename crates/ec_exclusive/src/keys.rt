@@ -71,7 +71,7 @@ fn shared_term<'a>(declaration: &'a Exclusive, binding: &Binding<'a>) -> GroundR
 }
 
 /// The key of a side of the declaration of this number, under the binding of that side.
-fn side_key(
+pub(crate) fn side_key(
     alloc: Global,
     i: usize,
     side: u8,

@@ -1,5 +1,6 @@
 //! Ascending lists of properties: the place of a number, and a number more or less.
-ghost use Rattle.std.specs.Prelude.{◌≡◌, ◌+◌, ◌-◌, ◌≤◌, ◌<◌, IsTrue, IfOk, IfErr, true, false, is_ok, length, nat_lt, vec_len, if◌then◌else◌};
+ghost use Rattle.std.specs.Prelude.{◌≡◌, ◌+◌, ◌-◌, ◌≤◌, ◌<◌, IsTrue, IfOk, IfErr, true, false, get_or, is_ok, length, nat_lt, vec_len, if◌then◌else◌};
+ghost use Rattle.ec_terms.specs.declared.ids.PropId.{PropId};
 ghost use Rattle.std.specs.List.{insert, remove};
 ghost use Rattle.std.specs.List.Sorted.{IsPartitionPoint};
 ghost use Rattle.std.specs.Vec.{vec_capacity};
@@ -7,12 +8,23 @@ ghost use Rattle.ec_numbered.specs.PropSet.{are_ascending, comes_before, has_num
 
 use ec_terms::PropId;
 
-/// How many of an ascending list come before a number.
+/// Whether the last of a list comes before a number. Of no numbers, each does.
+fn is_behind_last(list: &[PropId], p: PropId) -> bool
+    ensures { IsTrue result → (q : PropId) → 1 ≤ length list.now → IsTrue (comes_before (get_or list.now (length list.now - 1) q) p) }
+{
+    let len = list.len();
+    len == 0 || list[len - 1].0 < p.0
+}
+
+/// How many of an ascending list come before a number. New numbers are mostly the greatest, so the last is looked at first.
 fn count_before(list: &[PropId], p: PropId) -> usize
     requires { IsTrue (are_ascending list.now) }
     ensures within { result ≤ length list.now }
     ensures cut { IsPartitionPoint (λ q. comes_before q p ≡ true) (λ q. comes_before q p ≡ false) list.now result }
 {
+    if is_behind_last(list, p) {
+        return list.len();
+    }
     list.partition_point(
         |q| -> bool
             ensures { result ≡ nat_lt q.now.0 p.0 }

@@ -1,4 +1,5 @@
 mod AppliedChanges
+mod CalmTimes
 mod ClashLemmas
 mod LastMarks
 pub mod Lists

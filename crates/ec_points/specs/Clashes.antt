@@ -1,5 +1,5 @@
 -- Clashes: the marks that both initiate and clash, the times at which some property has one, and how many a change adds.
-use Rattle.std.specs.Prelude.{◌≡◌, ℕ, ℤ, Bool, true, false, not, nat_lt, int_lt, ◌&&◌, ◌==◌, List, filter, length, Option, Some, None}
+use Rattle.std.specs.Prelude.{◌≡◌, IsTrue, ℕ, ℤ, Bool, true, false, not, nat_lt, int_lt, ◌&&◌, ◌==◌, List, filter, length, Option, Some, None}
 use Rattle.std.specs.List.{list_any}
 use Rattle.std.specs.Ordering.{int_cmp, int_eq, nat_cmp, is_lt, ordering_then}
 use Rattle.std.specs.declared.cmp.Ordering.{Ordering}
@@ -63,6 +63,11 @@ has_clash rank n t clashes = list_any (is_clash_of rank n t) clashes
 abbrev pub clash_made : {T : Type 0} → Option (Change T) → Bool → Bool
 clash_made None old = old
 clash_made (Some change) old = is_clash change.1
+
+-- if a time is given that is said to be calm, no property clashes there
+abbrev pub IsKnown : {T : Type 0} → (T → ℤ) → Option (T × Bool) → List (Clash T) → Type 0
+IsKnown rank None clashes = Unit {0}
+IsKnown rank (Some known) clashes = IsTrue known.1 → (n : ℕ) → has_clash rank n (rank known.0) clashes ≡ false
 
 -- the list has the clashes of all rows, and no others
 abbrev pub AreClashesOf : {T M : Type 0} → (T → ℤ) → (M → List (Mark T)) → (M → ℕ) → List (Option M) → List (Clash T) → Type 0

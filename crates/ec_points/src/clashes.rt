@@ -77,6 +77,25 @@ fn count_up_to<T: Moment>(list: &Blocks<Clash<T>>, at: T) -> usize
     )
 }
 
+/// Whether a time comes before another.
+fn is_earlier<T: Moment>(a: T, b: T) -> bool
+    ensures { result ≡ int_lt (T.rank a) (T.rank b) }
+{
+    a.order(&b).is_lt()
+}
+
+/// How many clashes come before a time.
+fn count_earlier<T: Moment>(list: &Blocks<Clash<T>>, at: T) -> usize
+    requires { IsTrue (are_clashes T.rank list.now.items) }
+    ensures { IsPartitionPoint (λ clash. int_lt (T.rank clash.at) (T.rank at) ≡ true) (λ clash. int_lt (T.rank clash.at) (T.rank at) ≡ false) list.now.items result }
+{
+    list.partition_point(
+        |clash| -> bool
+            ensures { result ≡ int_lt (T.rank clash.now.at) (T.rank at) }
+        { is_earlier(clash.at, at) },
+    )
+}
+
 /// The place of a clash, or, as an error, the place that it would take.
 fn place_of<T: Moment>(list: &Blocks<Clash<T>>, clash: &Clash<T>) -> Result<usize, usize>
     requires { IsTrue (are_clashes T.rank list.now.items) }
@@ -137,6 +156,17 @@ impl<T: Moment> Clashes<T> {
         if let Ok(place) = place_of(&self.list, &clash) {
             let _ = self.list.remove(place);
         }
+    }
+
+    /// Whether there is no clash at a time.
+    pub fn is_calm(&self, at: T) -> bool
+        ensures { IsTrue result → (n : ℕ) → has_clash T.rank n (T.rank at) self.now.items ≡ false }
+    {
+        let place = count_earlier(&self.list, at);
+        if place >= self.list.len() {
+            return true;
+        }
+        is_earlier(at, self.list.get(place).at)
     }
 
     /// The place of the first clash behind a time, or of the first of all.

@@ -29,10 +29,10 @@ pub(crate) fn reserve_in<T: Moment, M: MarkRow<T>>(
     ensures room { OnOk result (n ≤ room_in (seen_at M.marks M.spare p.0 rows.new)) }
     ensures err { OnErr result (is_some (kept_at p.0 rows.new) ≡ is_some (kept_at p.0 rows.old)) }
 {
-    rows.place(p)?;
     if let Some(row) = rows.get_mut(p) {
         return row.reserve(n);
     }
+    rows.place(p)?;
     let mut row = M::new(alloc)?;
     row.reserve(n)?;
     rows.set(p, row);
@@ -54,10 +54,10 @@ pub(crate) fn push_in<T: Moment, M: MarkRow<T>>(
     ensures room { room_in (seen_at M.marks M.spare p.0 rows.old) ≤ room_in (seen_at M.marks M.spare p.0 rows.new) + 1 }
     ensures there { OnErr result (is_some (kept_at p.0 rows.new) ≡ is_some (kept_at p.0 rows.old)) }
 {
-    rows.place(p)?;
     if let Some(row) = rows.get_mut(p) {
         return row.push(mark);
     }
+    rows.place(p)?;
     let mut row = M::new(alloc)?;
     row.push(mark)?;
     rows.set(p, row);
