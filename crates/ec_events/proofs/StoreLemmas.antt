@@ -1,9 +1,13 @@
 -- How a store keeps its events: an event more or less leaves a store.
-use Rattle.std.proofs.Common.{◌≡◌, ℕ, ◌+◌, true, false, cond, ◌≤◌, All, IfSome, get_or, slice_get, List, [], ℤ, Option, Some, None, Bor, refl, sym, ap, subst, ◌∙◌, map, is_some, length, arith}
+use Rattle.std.proofs.Common.{◌≡◌, ℕ, ◌+◌, true, false, cond, ◌<◌, ◌≤◌, All, IfSome, get_or, slice_get, List, [], ℤ, Option, Some, None, Bor, refl, sym, ap, subst, ◌∙◌, map, is_some, length, arith}
 use Rattle.std.specs.Prelude.{option_map, bytes_eq}
 use Rattle.std.specs.List.{insert, remove}
 use Rattle.std.specs.Option.{option_copied}
 use Rattle.std.proofs.lemmas.Bool.{false≢true}
+use Rattle.std.proofs.lemmas.Cmp.{nat_list_cmp_total}
+use Rattle.std.proofs.lemmas.Map.Lookups.{exact_bytes}
+use Rattle.ec_lists.proofs.Options.{is_some-option_map}
+use Rattle.ec_terms.specs.Term.{name_cmp}
 use Rattle.std.proofs.lemmas.List.{length-map}
 use Rattle.ec_terms.specs.declared.ids.Slot.{Slot}
 use Rattle.ec_axioms.specs.Changes.{is_history, with_event, without_event}
@@ -12,10 +16,13 @@ use Rattle.ec_axioms.proofs.Histories.{is_history-with_event, is_history-without
 use Rattle.ec_rows.specs.Ordered.{is_ascending}
 use Rattle.ec_rows.specs.Times.{Entry, has_entry, with_entry, without_entry, entries_before}
 use Rattle.ec_events.specs.Store.{Kept, plain_of, history_of, slot_of, event_at, kept_before, with_kept, without_kept}
-use Rattle.ec_events.specs.Records.{entry_of, kept_of, keyed_slot, listed_of, IsStore}
-use Rattle.ec_events.specs.declared.identities.KeyedSlot.{KeyedSlot}
+use Rattle.ec_keyed.specs.Held.{slot_under}
+use Rattle.ec_keyed.specs.declared.slots.KeyedSlot.{KeyedSlot}
+use Rattle.ec_keyed.proofs.HeldLemmas.{AreKeyed-nil, AreKeyed-insert, slot_under-insert, AreKeyed-remove, slot_under-remove, place-within}
+use Rattle.ec_events.specs.Identities.{key_of}
+use Rattle.ec_events.specs.Records.{entry_of, kept_of, identity_at, IsStore}
 use Rattle.ec_events.proofs.HeldLemmas.{AllHeld-kept_of, kept_of-entries, record-event_at, none-event_at, has_slot, event_at-held, has_slot-with_kept, at-IsHeldAt, get-IsHeldAt, found-IsHeldAt, AllHeld-others, AllHeld-with_kept, AllHeld-without_kept}
-use Rattle.ec_events.proofs.IdentityLemmas.{IsCutAt, AreListed-insert, slot_of-inserted, AreListed-remove, slot_of-removed}
+use Rattle.ec_events.proofs.IdentityLemmas.{IsCutAt, number_of, number_of-cond, is_eq-identity}
 use Rattle.ec_events.proofs.KeptLemmas.{has_id-event_at, slot_of-with_kept, history_of-with_kept, has_id-slot_of, with_entry-with_kept, has_entry-none, slot_of-without_kept, history_of-without_kept, has_entry-event_at, without_entry-without_kept, entries_before-kept, slice_get-entries, slice_get-end}
 
 module _ {T : Type 0} where
@@ -45,7 +52,7 @@ module _ {T : Type 0} where
     unfolding is_history is_ascending
     IsStore-nil record_at slots times empty none =
         subst (λ ms. IsStore rank record_at ms times) (sym none)
-        (subst (IsStore rank record_at []) (sym empty) (record { entries = refl; listed = record { keyed = refl; ordered = refl }; found = λ id. refl; history = refl }))
+        (subst (IsStore rank record_at []) (sym empty) (record { entries = refl; keyed = AreKeyed-nil key_of name_cmp nat_list_cmp_total exact_bytes (identity_at record_at) [] refl; found = λ id. refl; history = refl }))
 
     -- what a store answers
     pub length-kept_of : (record_at : ℕ → Option (Event T)) (slots : List KeyedSlot) (times : List (Entry T)) → IsStore rank record_at slots times →
@@ -161,11 +168,20 @@ module _ {T : Type 0} where
         let found = some-value (event_at slot (kept_of record_at times)) (ap (λ ks. is_some (event_at slot ks)) is ∙ live) in
         ap (event_at slot) (sym is) ∙ found.1 ∙ sym (record-live record_at times slot found.0 found.1) ∙ read
 
-    -- the list of identities has each event
+    -- the identities have each event
     pub is_listed : (record_at : ℕ → Option (Event T)) (slots : List KeyedSlot) (times : List (Entry T)) (slot : Slot) (event : Event T) →
-        IsStore rank record_at slots times → event_at slot (kept_of record_at times) ≡ Some event → is_some (slot_of event.id (listed_of record_at slots)) ≡ true
+        IsStore rank record_at slots times → event_at slot (kept_of record_at times) ≡ Some event → is_some (slot_under name_cmp (identity_at record_at) slots event.id) ≡ true
     is_listed record_at slots times slot event store live =
-        ap is_some (store.found event.id) ∙ sym (has_id-slot_of rank event.id (kept_of record_at times)) ∙ has_id-event_at rank slot event (kept_of record_at times) live
+        ap is_some (store.found event.id) ∙ is_some-option_map (λ (s : Slot). s.0) (slot_of event.id (kept_of record_at times))
+        ∙ sym (has_id-slot_of rank event.id (kept_of record_at times)) ∙ has_id-event_at rank slot event (kept_of record_at times) live
+
+    -- an event that is kept has a slot among the identities
+    pub listed-within : (record_at new_record : ℕ → Option (Event T)) (slots : List KeyedSlot) (times : List (Entry T)) → IsStore rank record_at slots times →
+        (slot : Slot) (event : Event T) → event_at slot (kept_of record_at times) ≡ Some event → ((n : ℕ) → (n ≡ slot.0 → ⊥) → new_record n ≡ record_at n) →
+        (i : ℕ) → i ≤ length slots → IsCutAt record_at slots event.id i → i < length slots
+    listed-within record_at new_record slots times store slot event live others i within cut =
+        place-within key_of name_cmp nat_list_cmp_total exact_bytes (identity_at record_at) (identity_at new_record) slots slots store.keyed i within slot.0 event.id cut
+        (λ n other. ap (option_map (λ (e : Event T). e.id)) (others n other)) (is_listed record_at slots times slot event store live)
 
     -- ---- an event more
 
@@ -190,16 +206,21 @@ module _ {T : Type 0} where
         pub history_of-insert : history_of rank (kept_of new_record new) ≡ with_event (plain_of rank k) (history_of rank (kept_of record_at times))
         history_of-insert = ap (history_of rank) kept_of-insert ∙ history_of-with_kept rank k (kept_of record_at times)
 
-        pub IsStore-insert : (new_slots : List KeyedSlot) (i : ℕ) → IsCutAt k.1.id (listed_of record_at slots) i → new_slots ≡ insert slots i (keyed_slot k) →
-            IsStore rank new_record new_slots new
-        IsStore-insert new_slots i cut placed =
-            let unlisted : slot_of k.1.id (listed_of record_at slots) ≡ None = store.found k.1.id ∙ absent in
+        pub IsStore-insert : (new_slots : List KeyedSlot) (i : ℕ) → i ≤ length slots → IsCutAt record_at slots k.1.id i →
+            new_slots ≡ insert slots i (record { key = key_of k.1.id; slot = k.0.0 }) → IsStore rank new_record new_slots new
+        IsStore-insert new_slots i within cut placed =
+            let unlisted : slot_under name_cmp (identity_at record_at) slots k.1.id ≡ None = store.found k.1.id ∙ ap number_of absent in
+            let id_of : Option (Event T) → Option (List ℕ) = option_map (λ event. event.id) in
             record {
               entries = inserted_entries ∙ ap (map entry_of) (sym kept_of-insert);
-              listed = AreListed-insert record_at new_record slots new_slots store.listed i k cut unlisted free there others placed;
-              found = λ id. slot_of-inserted record_at new_record slots new_slots store.listed i k cut unlisted free there others placed id
-                  ∙ ap (λ o. cond (bytes_eq k.1.id id) (Some k.0) o) (store.found id)
-                  ∙ sym (slot_of-with_kept rank k (kept_of record_at times) id absent) ∙ ap (slot_of id) (sym kept_of-insert);
+              keyed = AreKeyed-insert key_of name_cmp nat_list_cmp_total exact_bytes (identity_at record_at) (identity_at new_record) slots new_slots store.keyed i within k.0.0 k.1.id cut
+                  (λ n other. ap id_of (others n other)) unlisted (ap id_of free) (ap id_of there) placed;
+              found = λ id. slot_under-insert key_of name_cmp nat_list_cmp_total exact_bytes (identity_at record_at) (identity_at new_record) slots new_slots store.keyed i within k.0.0 k.1.id cut
+                  (λ n other. ap id_of (others n other)) unlisted (ap id_of free) (ap id_of there) placed id
+                  ∙ ap (λ b. cond b (Some k.0.0) (slot_under name_cmp (identity_at record_at) slots id)) (is_eq-identity k.1.id id)
+                  ∙ ap (λ o. cond (bytes_eq k.1.id id) (Some k.0.0) o) (store.found id)
+                  ∙ number_of-cond (bytes_eq k.1.id id) (Some k.0) (slot_of id (kept_of record_at times))
+                  ∙ ap number_of (sym (slot_of-with_kept rank k (kept_of record_at times) id absent) ∙ ap (slot_of id) (sym kept_of-insert));
               history = ap is_history history_of-insert
                   ∙ is_history-with_event (plain_of rank k) (history_of rank (kept_of record_at times)) store.history
                   (has_id-slot_of rank k.1.id (kept_of record_at times) ∙ ap is_some absent);
@@ -223,16 +244,21 @@ module _ {T : Type 0} where
         pub history_of-remove : history_of rank (kept_of new_record new) ≡ without_event event.id (history_of rank (kept_of record_at times))
         history_of-remove = ap (history_of rank) kept_of-remove ∙ history_of-without_kept rank event.id (kept_of record_at times)
 
-        pub IsStore-remove : (new_slots : List KeyedSlot) (i : ℕ) → IsCutAt event.id (listed_of record_at slots) i → new_slots ≡ remove slots i →
+        pub IsStore-remove : (new_slots : List KeyedSlot) (i : ℕ) → i ≤ length slots → IsCutAt record_at slots event.id i → new_slots ≡ remove slots i →
             IsStore rank new_record new_slots new
-        IsStore-remove new_slots i cut taken =
-            let there : record_at slot.0 ≡ Some event = record-live record_at times slot event live in
+        IsStore-remove new_slots i within cut taken =
+            let id_of : Option (Event T) → Option (List ℕ) = option_map (λ event. event.id) in
+            let record-there : record_at slot.0 ≡ Some event = record-live record_at times slot event live in
             record {
               entries = removed_entries ∙ ap (map entry_of) (sym kept_of-remove);
-              listed = AreListed-remove record_at new_record slots new_slots store.listed i slot event cut (is_listed record_at slots times slot event store live) there others taken;
-              found = λ id. slot_of-removed record_at new_record slots new_slots store.listed i slot event cut (is_listed record_at slots times slot event store live) there others taken id
+              keyed = AreKeyed-remove key_of name_cmp nat_list_cmp_total exact_bytes (identity_at record_at) (identity_at new_record) slots new_slots store.keyed i within slot.0 event.id cut
+                  (λ n other. ap id_of (others n other)) (is_listed record_at slots times slot event store live) (ap id_of record-there) taken;
+              found = λ id. slot_under-remove key_of name_cmp nat_list_cmp_total exact_bytes (identity_at record_at) (identity_at new_record) slots new_slots store.keyed i within slot.0 event.id cut
+                  (λ n other. ap id_of (others n other)) (is_listed record_at slots times slot event store live) (ap id_of record-there) taken id
+                  ∙ ap (λ b. cond b None (slot_under name_cmp (identity_at record_at) slots id)) (is_eq-identity event.id id)
                   ∙ ap (λ o. cond (bytes_eq event.id id) None o) (store.found id)
-                  ∙ sym (slot_of-without_kept event.id (kept_of record_at times) id) ∙ ap (slot_of id) (sym kept_of-remove);
+                  ∙ number_of-cond (bytes_eq event.id id) None (slot_of id (kept_of record_at times))
+                  ∙ ap number_of (sym (slot_of-without_kept event.id (kept_of record_at times) id) ∙ ap (slot_of id) (sym kept_of-remove));
               history = ap is_history history_of-remove
                   ∙ is_history-without_event event.id (history_of rank (kept_of record_at times)) store.history;
             }

@@ -1,10 +1,7 @@
--- The order in which identities are searched: by a number that is read off them, and then by their bytes.
+-- The key by which identities are searched: a number that is read off them.
 use Rattle.std.specs.Prelude.{ℕ, ◌+◌, ◌-◌, ◌*◌, ◌^◌, ◌%◌, List, length, take, drop}
 use Rattle.std.specs.List.{fold}
-use Rattle.std.specs.declared.cmp.Ordering.{Ordering}
 use Rattle.std.specs.Hash.FoldHasher.{initial, write, finish}
-use Rattle.std.specs.Ordering.{nat_cmp, ordering_then}
-use Rattle.ec_terms.specs.Term.{name_cmp}
 
 -- the last six bytes of an identity, or all of a shorter one, and what is in front of them
 abbrev pub tail_of : List ℕ → List ℕ
@@ -25,7 +22,3 @@ hash_of bytes = finish (write initial bytes)
 -- So identities that are counted up have keys that go up for a million numbers.
 unfoldable pub key_of : List ℕ → ℕ
 key_of id = ((hash_of (head_of id) * 2 ^ 48) % 2 ^ 64 + number_of (tail_of id)) % 2 ^ 64
-
--- identities by their keys, and where keys are equal by their bytes
-abbrev pub identity_cmp : List ℕ → List ℕ → Ordering
-identity_cmp a b = ordering_then (nat_cmp (key_of a) (key_of b)) (name_cmp a b)

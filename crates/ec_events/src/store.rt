@@ -5,8 +5,9 @@ ghost use Rattle.ec_axioms.specs.Events.{event_of};
 ghost use Rattle.ec_events.specs.Store.{history_of, slot_of, event_at, kept_before, with_kept, without_kept};
 
 use crate::cursor::Cursor;
-use crate::identities::{Identities, key_of};
+use crate::identities::{SoughtIdentity, key_of};
 use ec_axioms::{Event, Steps};
+use ec_keyed::KeyedSlots;
 use ec_moment::Moment;
 use ec_rows::TimeRow;
 use ec_terms::{Name, NoMemory, Slot};
@@ -22,7 +23,7 @@ use std::sync::ledger::Ledger;
 #[derive(Drop)]
 pub struct EventStore<T: Moment, X: TimeRow<T>> {
     records: Slab<Event<T>>,
-    identities: Identities,
+    identities: KeyedSlots,
     times: X,
     moment: PhantomData<T>,
 }
@@ -51,7 +52,7 @@ impl<T: Moment, X: TimeRow<T>> EventStore<T, X> {
     {
         Ok(EventStore {
             records: Slab::new(alloc),
-            identities: Identities::new(alloc),
+            identities: KeyedSlots::new(alloc),
             times: X::new(alloc)?,
             moment: PhantomData,
         })
@@ -93,7 +94,14 @@ impl<T: Moment, X: TimeRow<T>> EventStore<T, X> {
         ensures live { IfSome result (λ slot. IsSome (event_at slot self.now.events)) }
         ensures event { IfSome result (λ slot. IfSome (event_at slot self.now.events) (λ event. event.id ≡ id.now)) }
     {
-        self.identities.find(id, &self.records)
+        let records = &self.records;
+        match self
+            .identities
+            .find(key_of(id), &SoughtIdentity { records, id })
+        {
+            Some(slot) => Some(Slot(slot)),
+            None => None,
+        }
     }
 
     /// The event under a slot. It takes one step.
@@ -121,9 +129,13 @@ impl<T: Moment, X: TimeRow<T>> EventStore<T, X> {
         let at = event.at;
         let id = event.id.copied();
         let key = key_of(&id);
-        let place = self.identities.place_of(key, &id, &self.records);
+        let sought = SoughtIdentity {
+            records: &self.records,
+            id: &id,
+        };
+        let place = self.identities.place_of(key, &sought);
         let slot = Slot(self.records.insert_reserved(event));
-        self.identities.insert(place, key, slot);
+        self.identities.insert(place, key, slot.0);
         self.times.put(at, id, slot);
         slot
     }
@@ -140,8 +152,11 @@ impl<T: Moment, X: TimeRow<T>> EventStore<T, X> {
         ensures steps { steps.new ≡ steps.old + 1 }
     {
         steps.tick(); // the record is taken out
-        let id = &self.records.get(slot.0).unwrap().id;
-        let place = self.identities.place_of(key_of(id), id, &self.records);
+        let records = &self.records;
+        let id = &records.get(slot.0).unwrap().id;
+        let place = self
+            .identities
+            .place_of(key_of(id), &SoughtIdentity { records, id });
         let event = self.records.try_remove(slot.0).unwrap();
         self.identities.remove(place);
         let _ = self.times.take_out(event.at, &event.id);

@@ -146,6 +146,12 @@ module _ (property_at new_property : ℕ → Option Property) (order new : List 
     pub term_at-inserted : term_at p.0 (kept_of new_property new) ≡ Some term
     term_at-inserted = ap (option_map (λ (k : KeptProp). k.term)) (IsTable-insert.found p.0 ∙ ap (option_map (kept_as p.0)) there)
 
+    pub prop_at-rest : (id : ℕ) → (id ≡ p.0 → ⊥) → prop_at id (kept_of new_property new) ≡ prop_at id (kept_of property_at order)
+    prop_at-rest id other =
+        ap (prop_at id) inserted ∙ prop_at-insert (unmentioned p.0 term) (kept_of property_at order) i id prop_at-free
+        ∙ ap (λ b. cond b (Some (unmentioned p.0 term)) (prop_at id (kept_of property_at order)))
+        (⊎_elim (λ e. absurd (other (sym (same_number p.0 id e)))) (λ e. e) (cases_Bool (p.0 == id)))
+
     pub prop_at-others : (id : ℕ) → is_some (prop_at id (kept_of property_at order)) ≡ true → prop_at id (kept_of new_property new) ≡ prop_at id (kept_of property_at order)
     prop_at-others id some =
         ap (prop_at id) inserted ∙ prop_at-insert (unmentioned p.0 term) (kept_of property_at order) i id prop_at-free

@@ -3,5 +3,4 @@ pub mod TableLemmas
 pub mod ChangeLemmas
 pub mod CompareLemmas
 pub mod ByTextLemmas
-pub mod NameLemmas
-pub mod TextLemmas
+pub mod FoundLemmas

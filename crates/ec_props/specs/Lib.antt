@@ -1,2 +1,3 @@
 pub mod ByText
+pub mod Keys
 pub mod Table

@@ -5,8 +5,10 @@ use Rattle.std.specs.declared.cmp.Ordering.{Ordering}
 use Rattle.std.specs.Ordering.{nat_cmp, is_lt, ordering_then}
 use Rattle.ec_terms.specs.declared.ground.Ground.{Ground}
 use Rattle.ec_terms.specs.declared.ids.PropId.{PropId}
-use Rattle.ec_terms.specs.Term.{name_cmp, names_are_names, term_cmp, term_eq, term_text}
-use Rattle.ec_terms.specs.TextLaws.{IsTerm}
+use Rattle.ec_terms.specs.Term.{name_cmp, names_are_names, term_cmp, term_eq}
+use Rattle.ec_keyed.specs.Held.{AreKeyed, place_to, slot_under}
+use Rattle.ec_keyed.specs.declared.slots.KeyedSlot.{KeyedSlot}
+use Rattle.ec_props.specs.Keys.{key_of}
 use Rattle.ec_rows.specs.Ordered.{is_ascending, with_member}
 use Rattle.ec_props.specs.declared.property.Property.{Property}
 
@@ -90,11 +92,16 @@ pub record IsTable (property_at : ℕ → Option Property) (order : List PropId)
   pub in_order : IsTrue (is_in_order (kept_of property_at order))
   pub found : (id : ℕ) → prop_at id (kept_of property_at order) ≡ option_map (kept_as id) (property_at id)
 
--- ---- how texts find them
+-- ---- how terms find them
 
--- Each kept property is the one under its number, the names in its term are names, and the text of a term finds the
--- number under which the term is kept, if it is.
-pub record IsFoundByText (number_at : List ℕ → Option PropId) (table : List KeptProp) : Type 0 where
+-- how the term under a number stands to one that is looked for
+abbrev pub term_place : List KeptProp → Ground → ℕ → Ordering
+term_place table sought number = place_to term_cmp sought (term_at number table)
+
+-- Each kept property is the one under its number, the names in its term are names, its number stands under the key of its term, and a
+-- term finds the number under which it is kept, if it is.
+pub record IsFoundByKey (slots : List KeyedSlot) (table : List KeptProp) : Type 0 where
   pub numbers : All (λ (kept : KeptProp). prop_at kept.id table ≡ Some kept) table
   pub names : All (λ (kept : KeptProp). IsTrue (names_are_names kept.term)) table
-  pub found : (term : Ground) → IsTerm term → option_map (λ p. p.0) (number_at (term_text term)) ≡ prop_of term table
+  pub keyed : AreKeyed key_of term_cmp (λ id. term_at id table) slots
+  pub found : (term : Ground) → slot_under term_cmp (λ id. term_at id table) slots term ≡ prop_of term table

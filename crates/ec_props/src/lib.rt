@@ -2,7 +2,7 @@
 //! its mentions.
 #![tactic(auto)]
 
-mod names;
+mod keys;
 mod property;
 mod records;
 mod search;

@@ -2,14 +2,15 @@ ghost use Rattle.std.specs.Prelude.{◌≡◌, ◌≢◌, ◌+◌, ◌<◌, ◌�
 ghost use Rattle.std.specs.List.Sorted.{IsPartitionPoint};
 ghost use Rattle.std.specs.Ordering.{is_lt};
 ghost use Rattle.ec_terms.specs.Term.{ground_of, names_are_names, term_cmp, term_eq};
-ghost use Rattle.ec_props.specs.Table.{prop_at, term_at, mentions_at, prop_of, is_in_order, number_of, with_prop, without_prop, with_mentions};
+ghost use Rattle.ec_props.specs.Table.{prop_at, term_at, term_place, mentions_at, prop_of, is_in_order, number_of, with_prop, without_prop, with_mentions};
 
 use crate::property::Property;
-use crate::search::count_before;
+use crate::search::{compare, count_before};
 use ec_blocks::Blocks;
 use ec_terms::{Ground, GroundRef, NoMemory, PropId};
 use slab::Slab;
 use std::alloc::Global;
+use std::cmp::Ordering;
 use std::marker::Model;
 
 /// The kept properties in term order, each under a number. Contracts see the list of them, and for how many more
@@ -80,6 +81,7 @@ impl Records {
     pub(crate) fn ground(&self, p: PropId) -> GroundRef<'_>
         requires { IsSome (prop_at p.0 self.now.items) }
         ensures term { term_at p.0 self.now.items ≡ Some (ground_of result) }
+        ensures number { prop_of (ground_of result) self.now.items ≡ Some p.0 }
         ensures names { IsTrue (names_are_names (ground_of result)) }
     {
         self.properties[p.0].term.borrow()
@@ -91,6 +93,16 @@ impl Records {
         ensures { mentions_at p.0 self.now.items ≡ Some result }
     {
         self.properties[p.0].mentions
+    }
+
+    /// How the term under a number stands to another one. Where there is none, it counts as behind it.
+    pub(crate) fn compare(&self, number: usize, term: &GroundRef<'_>) -> Ordering
+        ensures { result ≡ term_place self.now.items (ground_of term.now) number }
+    {
+        match self.properties.get(number) {
+            Some(property) => compare(&property.term, term),
+            None => Ordering::Greater,
+        }
     }
 
     /// How many properties stand before a term.
@@ -120,7 +132,7 @@ impl Records {
         ensures number { prop_of term self.new.items ≡ Some result.0 }
         ensures kept { IsSome (prop_at result.0 self.new.items) }
         ensures term { term_at result.0 self.new.items ≡ Some term }
-        ensures others { (q : ℕ) → IsSome (prop_at q self.old.items) → prop_at q self.new.items ≡ prop_at q self.old.items }
+        ensures others { (q : ℕ) → q ≢ result.0 → prop_at q self.new.items ≡ prop_at q self.old.items }
         ensures numbers { All (λ kept. prop_at kept.id self.new.items ≡ Some kept) self.new.items }
         ensures lookups { (other : Ground) → prop_of other self.new.items ≡ (if term_eq term other then Some result.0 else prop_of other self.old.items) }
     {

@@ -38,7 +38,7 @@ fn compare_args(args: &[Arg], others: &[ArgRef<'_>]) -> Ordering
 }
 
 /// How a term stands to a borrowed one, as `order` tells it of two borrowed ones.
-fn compare(term: &Ground, other: &GroundRef<'_>) -> Ordering
+pub(crate) fn compare(term: &Ground, other: &GroundRef<'_>) -> Ordering
     ensures { result ≡ term_cmp term.now (ground_of other.now) }
 {
     let others = other.args.as_slice();

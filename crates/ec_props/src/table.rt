@@ -2,32 +2,31 @@ ghost use Rattle.std.specs.Prelude.{◌≡◌, ◌≢◌, ◌+◌, ◌-◌, ◌^
 ghost use Rattle.ec_terms.specs.Term.{ground_of, names_are_names};
 ghost use Rattle.ec_props.specs.Table.{prop_at, term_at, mentions_at, prop_of, is_in_order, number_of, with_prop, without_prop, with_mentions};
 
-use crate::names::has_names;
+use crate::keys::{SoughtTerm, key_of, search};
 use crate::records::Records;
-use ec_terms::{GroundRef, NoMemory, PropId, text};
-use indexmap::IndexMap;
+use ec_keyed::KeyedSlots;
+use ec_terms::{GroundRef, NoMemory, PropId};
 use std::alloc::Global;
 use std::marker::Model;
 
 /// The properties that are kept, in term order, each under a number and with a count of its mentions. A number
-/// stays as long as its property does, and the text of a term finds it at once.
+/// stays as long as its property does. A look-up takes as long whatever the terms are.
 #[derive(Drop)]
 pub struct PropTable {
     records: Records,
-    by_text: IndexMap<Vec<u8>, PropId>,
+    by_key: KeyedSlots,
     alloc: Global,
 }
 
 impl Model for PropTable {
     ghost use Rattle.std.specs.Prelude.{List};
-    ghost use Rattle.ec_props.specs.ByText.{found_at};
-    ghost use Rattle.ec_props.specs.Table.{KeptProp, IsFoundByText};
+    ghost use Rattle.ec_props.specs.Table.{KeptProp, IsFoundByKey};
 
     ghost Value = { List KeptProp };
 
     ghost view = { λ table. table.records.items };
 
-    ghost invariant = { λ table. IsFoundByText (found_at table.by_text) table.records.items };
+    ghost invariant = { λ table. IsFoundByKey table.by_key.items table.records.items };
 }
 
 impl PropTable {
@@ -37,7 +36,7 @@ impl PropTable {
     {
         Ok(PropTable {
             records: Records::new(alloc),
-            by_text: IndexMap::new(alloc),
+            by_key: KeyedSlots::new(alloc),
             alloc,
         })
     }
@@ -96,11 +95,10 @@ impl PropTable {
         ensures kept { IfSome result (λ p. IsSome (prop_at p.0 self.now)) }
         ensures term { IfSome result (λ p. term_at p.0 self.now ≡ Some (ground_of term.now)) }
     {
-        let by_text = &self.by_text;
-        if !has_names(term) {
-            return None;
+        match search(&self.by_key, &self.records, key_of(term), term) {
+            Ok(number) => Some(PropId(number)),
+            Err(_) => None,
         }
-        by_text.get(text(term).as_bytes()).copied()
     }
 
     /// The number of a term, which is kept from then on. A term that is kept stays as it is, and takes no memory.
@@ -117,19 +115,17 @@ impl PropTable {
         ensures others { (q : ℕ) → IsSome (prop_at q self.old) → prop_at q self.new ≡ prop_at q self.old }
         ensures err { OnErr result (self.new ≡ self.old) }
     {
-        let spelt = text(term);
-        if let Some(p) = self.by_text.get(spelt.as_bytes()) {
-            return Ok(*p);
-        }
+        let key = key_of(term);
+        let place = match search(&self.by_key, &self.records, key, term) {
+            Ok(number) => return Ok(PropId(number)),
+            Err(place) => place,
+        };
         let kept = term.to_ground(self.alloc)?;
-        let key = Vec::from_slice(self.alloc, spelt.as_bytes())?;
         self.records.reserve()?;
-        self.by_text.reserve(1)?;
+        self.by_key.reserve(1)?;
         let p = self.records.put(kept);
-        match self.by_text.insert(key, p) {
-            Ok(_) => Ok(p),
-            Err(_) => unreachable!(),
-        }
+        self.by_key.insert(place, key, p.0);
+        Ok(p)
     }
 
     /// Counts `n` further mentions of a property. It takes no memory.
@@ -162,8 +158,14 @@ impl PropTable {
         ensures gone { prop_at p.0 self.new ≡ None }
         ensures others { (q : ℕ) → q ≢ p.0 → prop_at q self.new ≡ prop_at q self.old }
     {
-        let spelt = text(&self.records.ground(p));
-        let _ = self.by_text.swap_remove(spelt.as_bytes());
+        let term = self.records.ground(p);
+        let records = &self.records;
+        let sought = SoughtTerm {
+            records,
+            term: &term,
+        };
+        let place = self.by_key.place_of(key_of(&term), &sought);
+        self.by_key.remove(place);
         self.records.take_out(p);
     }
 }

@@ -1,11 +1,13 @@
 //! What no clause shows: that memory is given, the order of worked terms, and that many changes in mixed order leave
-//! the right table.
+//! the right table, also of terms that are chosen to have one key.
 ghost use Rattle.std.specs.Prelude.{IsSome, IsTrue};
 ghost use Rattle.ec_terms.specs.Term.{ground_of, names_are_names};
 ghost use Rattle.ec_props.specs.Table.{prop_at};
 
 use crate::PropTable;
+use crate::keys::key_of;
 use ec_terms::{GroundRef, NoMemory, PropId, order, read_ground};
+use std::hash::{FoldHasher, Hasher};
 use std::process::Abort;
 
 /// Terms in their order.
@@ -134,4 +136,35 @@ fn mixed_changes_leave_the_right_table(rt: HostRuntime) {
         }
     }
     assert_eq!(rt; place, table.len());
+}
+
+/// A number that leaves nothing of the hash of a name, so that the key of a term with this name and this argument is 0.
+fn cancelling(name: &[u8]) -> i64 {
+    let mut hasher = FoldHasher::default();
+    hasher.write(name);
+    hasher.finish().cast_signed()
+}
+
+#[test]
+fn terms_of_one_key_are_told_apart(rt: HostRuntime) {
+    let mut table = PropTable::new(rt.alloc()).expect(&rt, "memory");
+    let mut numbers: [Option<PropId>; 100] = [None; 100];
+    for step in 0..700 {
+        let number = step * 37 % 100;
+        let name = numbered(number);
+        let spelt = format!(in rt.alloc(); "p{:02}({})", number, cancelling(&name));
+        let spelt = spelt.expect(&rt, "memory");
+        let wanted = term(&rt, spelt.as_bytes());
+        assert_eq!(rt; key_of(&wanted), 0, "of {number}");
+        assert_eq!(rt; table.lookup(&wanted), numbers[number], "of {number}");
+        numbers[number] = match table.lookup(&wanted) {
+            Some(p) if step % 3 > 0 => {
+                let _ = change(&mut table, p, 0);
+                table.lookup(&wanted)
+            }
+            _ => Some(keep(&rt, &mut table, &wanted)),
+        };
+    }
+    let count = numbers.iter().filter(|p| p.is_some()).count();
+    assert_eq!(rt; table.len(), count);
 }

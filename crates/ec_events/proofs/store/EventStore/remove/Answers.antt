@@ -4,10 +4,10 @@ use Rattle.std.specs.Option.{option_copied}
 use Rattle.ec_axioms.specs.declared.event.Event.{Event}
 use Rattle.slab.specs.Slab.{get as record_at}
 use Rattle.ec_axioms.specs.Changes.{without_event}
-use Rattle.ec_events.specs.Records.{kept_of, listed_of}
+use Rattle.ec_events.specs.Records.{kept_of}
 use Rattle.ec_events.specs.Store.{Store, history_of, event_at, without_kept}
-use Rattle.ec_events.proofs.IdentityLemmas.{IsCutAt, place-within}
-use Rattle.ec_events.proofs.StoreLemmas.{is_listed, IsSome-from_copied, IsSome-record, event_at-record, has_entry-live, IsStore-remove, kept_of-remove, history_of-remove}
+use Rattle.ec_events.proofs.IdentityLemmas.{IsCutAt, IsCutAt-key, IsInOrder-identities}
+use Rattle.ec_events.proofs.StoreLemmas.{listed-within, IsSome-from_copied, IsSome-record, event_at-record, has_entry-live, IsStore-remove, kept_of-remove, history_of-remove}
 use Rattle.ec_events.proofs.store.EventStore.remove.Goals as goal
 use Rattle.ec_events.proofs.store.EventStore.remove.Goals.{After-unwrap-event}
 
@@ -32,20 +32,22 @@ live : (g : _) (c : After-unwrap-event g) →
 live g c = ap (λ (s : Store _). event_at c.args.slot s.events) c.self.view_is ∙ shown g c
 
 -- and the one whose identity was searched
-cut : (g : _) (c : After-unwrap-event g) →
-    IsCutAt c.unwrap-event.result.id (listed_of (record_at c.self.inside.records) c.self.inside.identities.items) c.place_of-place.result
+cut : (g : _) (c : After-unwrap-event g) → IsCutAt (record_at c.self.inside.records) c.self.inside.identities.items c.unwrap-event.result.id c.place_of-place.result
 cut g c =
     let both : Some c.unwrap.result.now ≡ Some c.unwrap-event.result = sym (ap option_copied c.unwrap.ensures) ∙ c.get.ensures ∙ sym c.try_remove.ensures.value ∙ c.unwrap-event.ensures in
     let same : c.unwrap.result.now ≡ c.unwrap-event.result = cc in
-    subst (λ (e : Event _). IsCutAt e.id (listed_of (record_at c.self.inside.records) c.self.inside.identities.items) c.place_of-place.result) same c.place_of-place.ensures.cut
+    IsCutAt-key (record_at c.self.inside.records) c.self.inside.identities.items c.key_of.result c.unwrap.result.now.id c.unwrap-event.result.id c.place_of-place.result
+    c.key_of.ensures (ap (λ (e : Event _). e.id) same) c.place_of-place.ensures.cut
+
+pub place_of-place-requires : goal.place_of-place-requires
+place_of-place-requires g c =
+    IsInOrder-identities (record_at c.self.inside.records) c.self.inside.identities.items c.self.invariant.keyed c.key_of.result c.unwrap.result.now.id c.key_of.ensures
 
 pub remove-requires : goal.remove-requires
 remove-requires g c =
     let at = (goal.at.remove-requires g c).After-unwrap-event in
-    place-within (record_at c.self.inside.records) (record_at c.self.inside.records) c.self.inside.identities.items c.self.inside.identities.items
-    c.self.invariant.listed c.place_of-place.result c.args.slot c.unwrap-event.result (cut g at)
-    (is_listed g.T.Moment.rank (record_at c.self.inside.records) c.self.inside.identities.items (g.X.TimeRow.times c.self.inside.times) c.args.slot c.unwrap-event.result
-    c.self.invariant (live g at))
+    listed-within g.T.Moment.rank _ _ _ _ c.self.invariant c.args.slot c.unwrap-event.result (live g at) c.try_remove.ensures.updates.others
+    c.place_of-place.result c.place_of-place.ensures.within (cut g at)
 
 pub take_out-requires : goal.take_out-requires
 take_out-requires g c = has_entry-live g.T.Moment.rank _ _ _ c.args.slot c.unwrap-event.result c.self.invariant (live g (goal.at.take_out-requires g c).After-unwrap-event)
@@ -53,7 +55,8 @@ take_out-requires g c = has_entry-live g.T.Moment.rank _ _ _ c.args.slot c.unwra
 pub invariant_of-self : goal.invariant_of-self
 invariant_of-self g c =
     IsStore-remove g.T.Moment.rank _ _ _ _ _ c.self.invariant c.args.slot c.unwrap-event.result (live g (goal.at.invariant_of-self g c).After-unwrap-event)
-    c.try_remove.ensures.updates.others c.take_out.ensures.times _ c.place_of-place.result (cut g (goal.at.invariant_of-self g c).After-unwrap-event) c.remove.ensures.items
+    c.try_remove.ensures.updates.others c.take_out.ensures.times _ c.place_of-place.result c.place_of-place.ensures.within
+    (cut g (goal.at.invariant_of-self g c).After-unwrap-event) c.remove.ensures.items
 
 pub returns-clause-event : goal.returns-clause-event
 returns-clause-event g c = shown g (goal.at.returns-clause-event g c).After-unwrap-event

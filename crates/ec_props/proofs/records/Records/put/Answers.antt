@@ -1,5 +1,5 @@
 -- A property and its number are put in their places.
-use Rattle.std.proofs.Common.{◌≡◌, None, sym, ap, ◌∙◌, subst, true, false, cond, Some, is_some}
+use Rattle.std.proofs.Common.{◌≡◌, None, sym, ap, ◌∙◌, subst, true, false, cond, Some}
 use Rattle.std.specs.List.{insert}
 use Rattle.std.specs.List.Sorted.{IsPartitionPoint}
 use Rattle.std.specs.Ordering.{is_lt}
@@ -8,7 +8,7 @@ use Rattle.ec_terms.specs.Term.{term_cmp, term_eq}
 use Rattle.ec_rows.proofs.OrderedLemmas.{with_member-free, take-partition}
 use Rattle.ec_props.specs.Table.{KeptProp, kept_of, prop_at, prop_of, prop_before, unmentioned, with_prop}
 use Rattle.ec_props.proofs.TableLemmas.{items_is, own_numbers, IsFree-absent, behind-free}
-use Rattle.ec_props.proofs.ChangeLemmas.{IsTable-insert, kept_of-insert, prop_of-inserted, kept-inserted, term_at-inserted, prop_at-others, prop_of-more}
+use Rattle.ec_props.proofs.ChangeLemmas.{IsTable-insert, kept_of-insert, prop_of-inserted, kept-inserted, term_at-inserted, prop_at-rest, prop_of-more}
 use Rattle.ec_props.proofs.records.Records.put.Goals as goal
 use Rattle.ec_props.proofs.records.Records.put.Goals.{After-insert}
 
@@ -73,11 +73,11 @@ returns-clause-term c =
     (placed (goal.at.returns-clause-term c).After-insert)
 
 pub returns-clause-others : goal.returns-clause-others
-returns-clause-others c = λ q kept.
-    prop_at-others (property_at c.self.inside.properties) (property_at c.insert_reserved.new.self) c.self.inside.order.items c.insert.new.self.items c.self.invariant
+returns-clause-others c = λ q other.
+    prop_at-rest (property_at c.self.inside.properties) (property_at c.insert_reserved.new.self) c.self.inside.order.items c.insert.new.self.items c.self.invariant
     (record { 0 = c.insert_reserved.result }) c.args.term c.place_of-place.result
     c.insert_reserved.ensures.was_vacant c.insert_reserved.ensures.updates.changed c.insert_reserved.ensures.updates.others c.insert.ensures.items
-    (placed (goal.at.returns-clause-others c).After-insert) q (subst (λ ks. is_some (prop_at q ks) ≡ true) (sym (items_is c.self.view_is)) kept)
+    (placed (goal.at.returns-clause-others c).After-insert) q other
     ∙ ap (prop_at q) (items_is c.self.view_is)
 
 pub returns-clause-lookups : goal.returns-clause-lookups

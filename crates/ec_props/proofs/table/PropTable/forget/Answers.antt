@@ -1,19 +1,28 @@
--- A property less leaves the others under their numbers, and their texts find them.
+-- A property less leaves the others under their numbers, and their keys find them.
 use Rattle.std.proofs.Common.{ap, ◌∙◌}
 use Rattle.ec_terms.specs.Term.{ground_of}
-use Rattle.ec_props.specs.ByText.{found_at}
 use Rattle.ec_props.specs.Table.{prop_at}
-use Rattle.ec_props.proofs.ByTextLemmas.{found_at-updates}
 use Rattle.ec_props.proofs.KeptLemmas.{prop_at-without_itself, prop_at-without_other}
-use Rattle.ec_props.proofs.TextLemmas.{IsFoundByText-less, if_term}
+use Rattle.ec_props.proofs.FoundLemmas.{IsInOrder-terms, IsCutAt-key, number-within, IsFoundByKey-less, if_term}
 use Rattle.ec_props.proofs.table.PropTable.forget.Goals as goal
+
+pub place_of-place-requires : goal.place_of-place-requires
+place_of-place-requires c = IsInOrder-terms c.self.inside.by_key.items c.self.inside.records.items c.self.invariant c.key_of.result (ground_of c.ground-term.result) c.key_of.ensures
+
+pub remove-requires : goal.remove-requires
+remove-requires c =
+    number-within c.self.inside.by_key.items c.self.inside.records.items c.self.invariant c.args.p.0 (ground_of c.ground-term.result) c.place_of-place.result c.place_of-place.ensures.within
+    (IsCutAt-key c.self.inside.by_key.items c.self.inside.records.items c.key_of.result (ground_of c.ground-term.result) c.place_of-place.result c.key_of.ensures c.place_of-place.ensures.cut)
+    c.ground-term.ensures.number
 
 pub invariant_of-self : goal.invariant_of-self
 invariant_of-self c =
-    IsFoundByText-less (found_at c.self.inside.by_text) _ c.self.inside.records.items c.take_out.new.self.items c.self.invariant c.take_out.ensures.numbers
-    c.args.p.0 (ground_of c.ground.result) c.as_bytes.result.now c.text-spelt.ensures.term (c.as_bytes.ensures.value ∙ c.text-spelt.ensures.exact) c.take_out.ensures.props
-    (if_term _ _ (ground_of c.ground.result) c.ground.ensures.term c.take_out.ensures.lookups)
-    (found_at-updates c.as_bytes.result.now c.self.inside.by_text c.swap_remove.new.self _ c.swap_remove.ensures.updates)
+    IsFoundByKey-less c.self.inside.by_key.items c.remove.new.self.items c.self.inside.records.items c.take_out.new.self.items c.self.invariant c.take_out.ensures.numbers
+    c.args.p.0 (ground_of c.ground-term.result) c.place_of-place.result c.place_of-place.ensures.within
+    (IsCutAt-key c.self.inside.by_key.items c.self.inside.records.items c.key_of.result (ground_of c.ground-term.result) c.place_of-place.result c.key_of.ensures c.place_of-place.ensures.cut)
+    c.ground-term.ensures.term c.ground-term.ensures.number c.take_out.ensures.props
+    (λ q other. ap (prop_at q) c.take_out.ensures.props ∙ prop_at-without_other c.args.p.0 q c.self.inside.records.items other)
+    (if_term _ _ (ground_of c.ground-term.result) c.ground-term.ensures.term c.take_out.ensures.lookups) c.remove.ensures.items
 
 pub returns-clause-gone : goal.returns-clause-gone
 returns-clause-gone c =
