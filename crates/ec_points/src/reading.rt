@@ -106,34 +106,6 @@ fn mark_and_next<T: Moment, M: MarkRow<T>>(
     }
 }
 
-/// What a row of marks says at a time, before which so many of its marks stand, read from a run of them.
-#[inline(always)]
-fn read_run<T: Moment, M: MarkRow<T>>(
-    row: &M,
-    run: &[Mark<T>],
-    from: usize,
-    at: T,
-    place: usize,
-    initial: bool,
-) -> Reading<T>
-    requires row { IsMarkRow T.rank (M.marks row.now) }
-    requires run { run.now ≡ take (length run.now) (drop from (M.marks row.now)) }
-    requires behind { from ≤ place - 1 }
-    requires place { place ≡ length (marks_before T.rank (T.rank at) (M.marks row.now)) }
-    ensures mark { result.mark ≡ mark_at T.rank (T.rank at) (M.marks row.now) }
-    ensures current { result.is_current ≡ current_after initial (last_mark_before (plain_marks T.rank (M.marks row.now)) (T.rank at)) }
-    ensures next { result.next ≡ slice_get (marks_after T.rank (T.rank at) (M.marks row.now)) 0 }
-    ensures place { result.place ≡ place }
-{
-    let (mark, next) = mark_and_next(row, run, from, at, place);
-    Reading {
-        mark,
-        is_current: current_behind(row, run, from, at, place, initial),
-        next,
-        place,
-    }
-}
-
 /// Whether a mark is before a time.
 fn is_before<T: Moment>(mark: &Mark<T>, at: T) -> bool
     ensures { result ≡ int_lt (T.rank mark.now.at) (T.rank at) }
@@ -155,19 +127,20 @@ fn first_from<T: Moment>(run: &[Mark<T>], at: T) -> Option<usize>
     None
 }
 
-/// What a row of marks says at a time, where the last mark before it, and one behind that, are among the few from the one in front
+/// How many marks of a row are before a time, and some of the marks from a place in front of that on.
+#[derive(Drop)]
+struct Found<'a, T> {
+    run: &'a [Mark<T>],
+    from: usize,
+    place: usize,
+}
+
+/// Finds how many marks are before a time, where the last of them, and one behind that, are among the few from the one in front
 /// of a place on. `None`: it is to be searched elsewhere.
-fn read_near<T: Moment, M: MarkRow<T>>(
-    row: &M,
-    at: T,
-    near: usize,
-    initial: bool,
-) -> Option<Reading<T>>
-    ensures mark { IfSome result (λ reading. reading.mark ≡ mark_at T.rank (T.rank at) (M.marks row.now)) }
-    ensures current { IfSome result (λ reading. reading.is_current ≡ current_after initial (last_mark_before (plain_marks T.rank (M.marks row.now)) (T.rank at))) }
-    ensures next { IfSome result (λ reading. reading.next ≡ slice_get (marks_after T.rank (T.rank at) (M.marks row.now)) 0) }
-    ensures place { IfSome result (λ reading. reading.place ≡ length (marks_before T.rank (T.rank at) (M.marks row.now))) }
-    ensures row { IsMarkRow T.rank (M.marks row.now) }
+fn find_near<T: Moment, M: MarkRow<T>>(row: &M, at: T, near: usize) -> Option<Found<'_, T>>
+    ensures run { IfSome result (λ found. found.run.now ≡ take (length found.run.now) (drop found.from (M.marks row.now))) }
+    ensures behind { IfSome result (λ found. found.from ≤ found.place - 1) }
+    ensures place { IfSome result (λ found. found.place ≡ length (marks_before T.rank (T.rank at) (M.marks row.now))) }
 {
     let len = row.len();
     if near == 0 || near >= len {
@@ -180,20 +153,31 @@ fn read_near<T: Moment, M: MarkRow<T>>(
         return None;
     }
     let place = from.checked_add(count)?;
-    Some(read_run(row, run, from, at, place, initial))
+    Some(Found { run, from, place })
 }
 
-/// What a row of marks says at a time, searched in the whole row.
-fn read_searched<T: Moment, M: MarkRow<T>>(row: &M, at: T, near: usize, initial: bool) -> Reading<T>
-    ensures mark { result.mark ≡ mark_at T.rank (T.rank at) (M.marks row.now) }
-    ensures current { result.is_current ≡ current_after initial (last_mark_before (plain_marks T.rank (M.marks row.now)) (T.rank at)) }
-    ensures next { result.next ≡ slice_get (marks_after T.rank (T.rank at) (M.marks row.now)) 0 }
+/// Finds how many marks are before a time, by a search in the whole row.
+fn find_anywhere<T: Moment, M: MarkRow<T>>(row: &M, at: T, near: usize) -> Found<'_, T>
+    ensures run { result.run.now ≡ take (length result.run.now) (drop result.from (M.marks row.now)) }
+    ensures behind { result.from ≤ result.place - 1 }
     ensures place { result.place ≡ length (marks_before T.rank (T.rank at) (M.marks row.now)) }
 {
     let place = row.count_before(at, near);
     let from = place.saturating_sub(1);
     let run = run_from(row, from);
-    read_run(row, run, from, at, place, initial)
+    Found { run, from, place }
+}
+
+/// Finds how many marks are before a time. `near` is a place to look at first.
+fn find_place<T: Moment, M: MarkRow<T>>(row: &M, at: T, near: usize) -> Found<'_, T>
+    ensures run { result.run.now ≡ take (length result.run.now) (drop result.from (M.marks row.now)) }
+    ensures behind { result.from ≤ result.place - 1 }
+    ensures place { result.place ≡ length (marks_before T.rank (T.rank at) (M.marks row.now)) }
+{
+    match find_near(row, at, near) {
+        Some(found) => found,
+        None => find_anywhere(row, at, near),
+    }
 }
 
 /// What a row of marks says at a time. `near` is a place to look at first; it does not change the answer.
@@ -209,8 +193,13 @@ pub(crate) fn read_row<T: Moment, M: MarkRow<T>>(
     ensures place { result.place ≡ length (marks_before T.rank (T.rank at) (M.marks row.now)) }
     ensures row { IsMarkRow T.rank (M.marks row.now) }
 {
-    match read_near(row, at, near, initial) {
-        Some(reading) => reading,
-        None => read_searched(row, at, near, initial),
+    let _ = row.len(); // the marks are a row
+    let here = find_place(row, at, near);
+    let (mark, next) = mark_and_next(row, here.run, here.from, at, here.place);
+    Reading {
+        mark,
+        is_current: current_behind(row, here.run, here.from, at, here.place, initial),
+        next,
+        place: here.place,
     }
 }
