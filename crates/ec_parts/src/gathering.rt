@@ -112,7 +112,7 @@ pub(crate) fn gather<T: Moment, M: MarkRow<T>>(
 {
     let mut marks = collect(alloc, initiations, list)?;
     sort_by_time(&mut marks);
-    points.reserve(p, 0)?;
+    points.reserve(p, marks.len())?;
     match marks.as_slice() {
         [first, rest @ ..] => push_clashes(points, p, *first, rest),
         [] => Ok(()),
