@@ -23,7 +23,7 @@ use Rattle.ec_changes.proofs.LiveMarks.{mark_same}
 use Rattle.ec_agenda.specs.Due.{Due, has_due, is_due as is_due_at}
 use Rattle.ec_changes.specs.QuietLaws.{current_behind}
 use Rattle.ec_props.specs.Table.{KeptProp, is_in_order, prop_at, prop_of, term_at}
-use Rattle.ec_props.proofs.TextLemmas.{found_own}
+use Rattle.ec_props.proofs.FoundLemmas.{found_own}
 use Rattle.ec_events.specs.Store.{history_of}
 use Rattle.ec_numbered.specs.PropSet.{has_number}
 use Rattle.ec_numbered.proofs.Numbers.{has_number-filter}
