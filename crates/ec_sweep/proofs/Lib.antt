@@ -38,6 +38,7 @@ pub mod HitActivity
 pub mod HitEffects
 pub mod HitEntries
 pub mod HitLemmas
+pub mod NoHits
 pub mod HitTurns
 pub mod NotedHits
 pub mod Oks
