@@ -3,3 +3,4 @@ pub mod Chain
 pub mod ChainParts
 pub mod Starts
 pub mod Tiers
+pub mod TiersLend

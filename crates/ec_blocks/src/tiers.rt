@@ -2,6 +2,7 @@
 ghost use Rattle.std.specs.Prelude.{◌≡◌, ℕ, ◌+◌, ◌-◌, ◌*◌, ◌/◌, ◌%◌, ◌^◌, ◌<◌, ◌≤◌, ◌++◌, ◌∷◌, [], Some, IsTrue, OnOk, length, nat_lt, take, drop, slice_get, slice_set, vec_len};
 ghost use Rattle.std.specs.List.{insert, remove, list_all};
 ghost use Rattle.std.specs.Vec.{vec_capacity};
+ghost use Rattle.std.specs.Borrow.{sem};
 ghost use Rattle.ec_blocks.specs.Tiers.{turned, unrolled, place_of};
 
 use crate::chain::insert_within;
@@ -37,6 +38,8 @@ impl<T> Model for Tiers<T> {
 }
 
 impl<T: Drop> Tiers<T> {
+    ghost use Rattle.ec_blocks.specs.TiersLend.{lends_member};
+
     /// No members. It takes no memory.
     pub(crate) fn new(alloc: Global) -> Tiers<T>
         ensures { result ≡ record { items = []; room = 0 } }
@@ -60,6 +63,16 @@ impl<T: Drop> Tiers<T> {
         ensures { slice_get self.now.items k ≡ Some result.now }
     {
         &self.members[place_of(&self.heads, k)]
+    }
+
+    /// The member at a place, to write to.
+    pub(crate) fn get_mut(&mut self, k: usize) -> &mut T
+        requires { k < length self.old.items }
+        ensures* lends { sem 𝓛 (lends_member T.row self.entry k result) }
+        ensures member { slice_get self.old.items k ≡ Some result.now }
+    {
+        let place = place_of(&self.heads, k);
+        &mut self.members[place]
     }
 
     /// Puts a member in place of the one at a place, and gives that one.
