@@ -168,22 +168,23 @@ impl<X: Copied + Drop> Chain<X> {
         start <= i && i - start < self.block(k).len()
     }
 
-    /// The block that a place is in. The one that was found last is looked at first.
-    pub(crate) fn locate(&self, i: usize) -> usize
+    /// The block that a place is in, and the place in that block. The one that was found last is looked at first.
+    #[inline(always)]
+    pub(crate) fn locate(&self, i: usize) -> (usize, usize)
         requires { i < length (joined self.now.blocks) }
-        ensures within { result < length self.now.blocks }
-        ensures from { start_of result self.now.blocks ≤ i }
-        ensures to { i < start_of result self.now.blocks + length (block_at result self.now.blocks) }
+        ensures within { result.0 < length self.now.blocks }
+        ensures place { start_of result.0 self.now.blocks + result.1 ≡ i }
+        ensures to { result.1 < length (block_at result.0 self.now.blocks) }
         ensures kept { IsTrue (list_all is_block self.now.blocks) }
         ensures few { length self.now.blocks ≤ 2 ^ 56 }
     {
         let near = self.found.get();
         if self.is_in(i, near) {
-            return near;
+            return (near, i - self.start(near));
         }
         let k = self.starts.count_up_to(i) - 1;
         self.found.set(k);
-        k
+        (k, i - self.start(k))
     }
 
     /// Whether all members pass a test, as the last one tells. Most of what is sought is at the end.

@@ -1,5 +1,5 @@
 -- The last block goes, and is a spare one.
-use Rattle.std.proofs.Common.{ap, sym, length, ◌∙◌, ◌++◌, ◌∷◌, [], ◌-◌, arith}
+use Rattle.std.proofs.Common.{ap, sym, length, ◌∙◌, ◌-◌, arith}
 use Rattle.std.specs.List.{list_all}
 use Rattle.std.specs.Vec.{vec_capacity}
 use Rattle.std.proofs.lemmas.Option.{get_or_from_slice_get}
