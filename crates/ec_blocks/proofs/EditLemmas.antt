@@ -1,28 +1,57 @@
 -- A chain of blocks after an edit of one of them, as the code makes it.
-use Rattle.std.proofs.Common.{◌≡◌, ℕ, ◌+◌, ◌-◌, ◌<◌, ◌≤◌, suc, true, List, [], ◌∷◌, ◌++◌, length, map, get_or, take, drop, set, Some, sym, ap, ap₂, ◌∙◌, add-one, zero-add, length-drop, arith}
-use Rattle.std.specs.List.{insert, remove, list_all}
-use Rattle.std.proofs.lemmas.List.{map-set, map_push, get_or-set_same, length-take-le}
+use Rattle.std.proofs.Common.{◌≡◌, ℕ, ◌+◌, ◌-◌, ◌<◌, ◌≤◌, suc, true, List, [], ◌∷◌, ◌++◌, length, map, get_or, take, drop, set, Some, sym, ap, ap₂, ◌∙◌, add-one, zero-add, length-drop, length-set, arith}
+use Rattle.std.specs.List.{slice_get, insert, remove, list_all}
+use Rattle.std.proofs.lemmas.List.{map-set, map_push, length-take-le}
 use Rattle.std.proofs.lemmas.Bool.Decides.{nat_tests}
+use Rattle.std.proofs.lemmas.Option.{get_or_from_slice_get}
 use Rattle.ec_blocks.specs.Chain.{joined, block_at, last_of, starts_from, is_block}
-use Rattle.ec_blocks.specs.ChainParts.{IsChain, is_kept, is_spare}
+use Rattle.ec_blocks.specs.ChainParts.{IsChain, HasRooms, is_kept, is_spare}
 use Rattle.ec_blocks.proofs.StartLemmas.{starts-append, starts-gone, starts-split, lasts-split}
 use Rattle.ec_blocks.proofs.ChainLemmas.{place-within, block-is, start-is, last_of-drop, list_all-at, list_all-push, list_all-set, list_all-insert, map-insert, map-remove, is_kept-from, is_kept-block, is_kept-room, is_block-some, is_block-most, IsChain-same, IsChain-more, IsChain-less}
 use Rattle.ec_lists.proofs.Tests.{list_all-remove}
 
+-- a block without members that has room is a spare one
+pub is_spare-now : {X B : Type 0} (items : B → List X) (capacity : B → ℕ) (b : B) → items b ≡ [] → 128 ≤ capacity b → is_spare items capacity b ≡ true
+is_spare-now items capacity b empty room = rw empty (grind (arith, nat_tests))
+
+-- there is room as before, where a block is edited
+pub rooms-set : {B : Type 0} (blocks : List B) (k : ℕ) (new : B) (spares blocks_room starts_room lasts_room spares_room starts_room' lasts_room' : ℕ) →
+    HasRooms (length blocks) spares blocks_room starts_room lasts_room spares_room → starts_room ≤ starts_room' → lasts_room ≤ lasts_room' →
+    HasRooms (length (set blocks k new)) spares blocks_room starts_room' lasts_room' spares_room
+rooms-set blocks k new spares blocks_room starts_room lasts_room spares_room starts_room' lasts_room' rooms starts lasts =
+    let few = rooms.few in
+    let blocks_fit = rooms.blocks_fit in
+    let starts_fit = rooms.starts_fit in
+    let lasts_fit = rooms.lasts_fit in
+    let spares_fit = rooms.spares_fit in
+    let same = length-set blocks k new in record {
+      few = omega (arith, same);
+      blocks_fit = omega (arith, same);
+      starts_fit = omega (arith, same);
+      lasts_fit = omega (arith, same);
+      spares_fit = omega (arith, same);
+    }
+
 module _ {X B : Type 0} (items : B → List X) (capacity : B → ℕ) (blocks : List B) (starts : List ℕ) (lasts : List X) (spares : List B)
     (chain : IsChain items capacity blocks starts lasts spares) (lists : List (List X)) (are : map items blocks ≡ lists) where
-  module _ (k : ℕ) (block : k < length lists) (old : B) (is : old ≡ get_or blocks k old) where
+  module _ (k : ℕ) (block : k < length lists) (old : B) (found : slice_get blocks k ≡ Some old) where
+    is : old ≡ get_or blocks k old
+    is = sym (get_or_from_slice_get blocks k old old found)
+
     within : k < length blocks
     within = place-within items capacity blocks lists k are block
 
     old-kept : is_kept items capacity old ≡ true
     old-kept = list_all-at (is_kept items capacity) blocks k old chain.kept within is
 
+    pub old-block : is_block (items old) ≡ true
+    old-block = is_kept-block items capacity old old-kept
+
     pub old-some : 1 ≤ length (items old)
-    old-some = is_block-some (items old) (is_kept-block items capacity old old-kept)
+    old-some = is_block-some (items old) old-block
 
     pub old-most : length (items old) ≤ 128
-    old-most = is_block-most (items old) (is_kept-block items capacity old old-kept)
+    old-most = is_block-most (items old) old-block
 
     pub old-room : 128 ≤ capacity old
     old-room = is_kept-room items capacity old old-kept
@@ -34,10 +63,10 @@ module _ {X B : Type 0} (items : B → List X) (capacity : B → ℕ) (blocks : 
     pub edited : (f : List X → List X) (new : B) → items new ≡ f (items old) → map items (set blocks k new) ≡ set lists k (f (block_at k lists))
     edited f new made = map-set items blocks k new ∙ ap₂ (λ bs b. set bs k b) are (made ∙ ap f old-list)
 
-    module _ (new read : B) (read_is : read ≡ get_or (set blocks k new) k read) (members : List X) (members_are : members ≡ items read)
+    module _ (new : B) (members : List X) (members_are : members ≡ items new)
         (lasts' : List X) (last : map Some lasts' ≡ set (map Some lasts) k (last_of members)) (room : capacity old ≤ capacity new) where
       last-new : map Some lasts' ≡ set (map Some lasts) k (last_of (items new))
-      last-new = last ∙ ap (λ ms. set (map Some lasts) k (last_of ms)) (members_are ∙ ap items (read_is ∙ get_or-set_same blocks k new read within))
+      last-new = last ∙ ap (λ ms. set (map Some lasts) k (last_of ms)) members_are
 
       -- it keeps its length
       pub edited-same : length (items new) ≡ length (items old) → IsChain items capacity (set blocks k new) starts lasts' spares
@@ -70,7 +99,7 @@ module _ {X B : Type 0} (items : B → List X) (capacity : B → ℕ) (blocks : 
   }
 
   pub is_spare-from : (b : B) → items b ≡ [] → 128 ≤ capacity b → is_spare items capacity b ≡ true
-  is_spare-from b empty room = rw empty (grind (arith, nat_tests))
+  is_spare-from b empty room = is_spare-now items capacity b empty room
 
   -- a block more at the end
   pub appended : (blocks' : List B) (starts' : List ℕ) (lasts' : List X) (spares' : List B) (new : B) (start : ℕ) (x : X) (members : List X) →
@@ -106,25 +135,24 @@ module _ {X B : Type 0} (items : B → List X) (capacity : B → ℕ) (blocks : 
       }
 
   -- a full block becomes two
-  pub halved : (k : ℕ) (block : k < length lists) (old : B) (is : old ≡ get_or blocks k old) (front behind read : B) (members : List X) (start : ℕ)
+  pub halved : (k : ℕ) (block : k < length lists) (old : B) (found : slice_get blocks k ≡ Some old) (front behind : B) (members : List X) (start : ℕ)
       (blocks' : List B) (starts' : List ℕ) (lasts' : List X) (spares' : List B) → length (block_at k lists) ≡ 128 →
       items front ≡ take 64 (items old) → items behind ≡ drop 64 (items old) → capacity front ≡ capacity old → 128 ≤ capacity behind →
-      read ≡ get_or (set blocks k front) k read → members ≡ items read → start ≡ get_or starts k 0 →
+      members ≡ items front → start ≡ get_or starts k 0 →
       blocks' ≡ insert (set blocks k front) (k + 1) behind → starts' ≡ insert starts (k + 1) (start + 64) →
       map Some lasts' ≡ insert (map Some lasts) k (last_of members) → list_all (is_spare items capacity) spares' ≡ true → IsChain items capacity blocks' starts' lasts' spares'
-  halved k block old is front behind read members start blocks' starts' lasts' spares' full is_front is_behind same room read_is members_are begins bs ss ls empty =
+  halved k block old found front behind members start blocks' starts' lasts' spares' full is_front is_behind same room members_are begins bs ss ls empty =
       let b : List X = block_at k lists in
-      let list : items old ≡ b = old-list k block old is in
+      let list : items old ≡ b = old-list k block old found in
       let u : items front ≡ take 64 b = is_front ∙ ap (take 64) list in
       let v : items behind ≡ drop 64 b = is_behind ∙ ap (drop 64) list in
       let u_length : length (items front) ≡ 64 = ap length u ∙ length-take-le 64 b (omega arith) in
       let v_length : length (items behind) ≡ 64 = ap length v ∙ length-drop 64 b ∙ (omega arith) in
-      let wide : 128 ≤ capacity old = old-room k block old is in
-      let inside : k < length blocks = within k block old is in
+      let wide : 128 ≤ capacity old = old-room k block old found in
       let there : map items blocks' ≡ insert (set lists k (items front)) (suc k) (items behind) =
       ap (map items) bs ∙ map-insert items (set blocks k front) (k + 1) behind
       ∙ ap₂ (λ us n. insert us n (items behind)) (map-set items blocks k front ∙ ap (λ us. set us k (items front)) are) (add-one k) in
-      let member : last_of members ≡ last_of (items front) = ap last_of (members_are ∙ ap items (read_is ∙ get_or-set_same blocks k front read inside)) in
+      let member : last_of members ≡ last_of (items front) = ap last_of members_are in
       let last : last_of (items behind) ≡ last_of b = ap last_of v ∙ last_of-drop 64 b (omega arith) in
       record {
         kept = ap (list_all (is_kept items capacity)) bs

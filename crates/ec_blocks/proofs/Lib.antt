@@ -8,3 +8,4 @@ pub mod NumberLemmas
 pub mod SearchLemmas
 pub mod SpliceLemmas
 pub mod StartLemmas
+pub mod TierLemmas

@@ -1,5 +1,5 @@
 -- Where blocks begin, and their last members, after an edit of one block.
-use Rattle.std.proofs.Common.{◌≡◌, ℕ, ◌+◌, ◌-◌, ◌<◌, ◌≤◌, zero, suc, List, [], ◌∷◌, ◌++◌, length, map, get_or, take, drop, set, refl, ap, ap₂, ◌∙◌, ⊎_elim, length-append, arith}
+use Rattle.std.proofs.Common.{◌≡◌, ℕ, ◌+◌, ◌-◌, ◌<◌, ◌≤◌, zero, suc, List, [], ◌∷◌, ◌++◌, length, map, get_or, take, drop, set, refl, ap, ap₂, subst, ◌∙◌, ⊎_elim, length-append, arith}
 use Rattle.std.specs.Prelude.{nat_le, true, false}
 use Rattle.std.specs.List.Sorted.{IsNonDecreasingBy, IsPartitionPoint}
 use Rattle.std.proofs.lemmas.Bool.{cases_lt}
@@ -145,3 +145,13 @@ module _ {X : Type 0} where
 
       same : (a b : ℕ) → b ≤ a → a ≤ b → a ≡ b
       same a b le ge = omega arith
+
+  -- the block that a place is in comes before the end of the starts up to the place
+  pub IsIn-found : (blocks : List (List X)) (starts : List ℕ) (i cut : ℕ) → i < length (joined blocks) → starts ≡ starts_from 0 blocks →
+      IsPartitionPoint (λ place. nat_le place i ≡ true) (λ place. nat_le place i ≡ false) starts cut → cut ≤ length starts → IsIn blocks i (cut - 1)
+  IsIn-found blocks starts i cut inside are point most =
+      let there = subst (λ (ps : List ℕ). IsPartitionPoint (λ place. nat_le place i ≡ true) (λ place. nat_le place i ≡ false) ps cut) are point in
+      let some : 1 ≤ cut = some-start blocks i cut inside there in
+      let more : cut ≡ suc (cut - 1) = omega arith in
+      IsIn-from_cut blocks i (cut - 1) inside (omega (arith, ap length are, starts-length 0 blocks))
+      (subst (λ (n : ℕ). IsPartitionPoint (λ place. nat_le place i ≡ true) (λ place. nat_le place i ≡ false) (starts_from 0 blocks) n) more there)

@@ -16,8 +16,7 @@ impl<X: Copied + Drop> Chain<X> {
         requires { i < length (joined self.now.blocks) }
         ensures { slice_get (joined self.now.blocks) i ≡ Some result.now }
     {
-        let k = self.locate(i);
-        let place = i - self.start(k);
+        let (k, place) = self.locate(i);
         &self.block(k)[place]
     }
 
@@ -27,19 +26,19 @@ impl<X: Copied + Drop> Chain<X> {
         ensures some { 1 ≤ length result.now }
         ensures run { result.now ≡ take (length result.now) (drop i (joined self.now.blocks)) }
     {
-        let k = self.locate(i);
-        let place = i - self.start(k);
+        let (k, place) = self.locate(i);
         &self.block(k)[place..]
     }
 
-    /// Whether a place in a block has members of this block on both sides, or else an end of the list.
-    fn is_enclosed(&self, k: usize, place: usize) -> bool
-        requires { k < length self.now.blocks }
+    /// Whether a place in a block of `len` members has members of this block on both sides, or else an end of the list.
+    fn is_enclosed(&self, k: usize, place: usize, len: usize) -> bool
+        requires block { k < length self.now.blocks }
+        requires len { len ≡ length (block_at k self.now.blocks) }
         ensures front { result ≡ true → (k ≡ 0) ⊎ (1 ≤ place) }
         ensures behind { result ≡ true → (k + 1 ≡ length self.now.blocks) ⊎ (place < length (block_at k self.now.blocks)) }
     {
         let front = k == 0 || 0 < place;
-        let behind = k == self.count() - 1 || place < self.block(k).len();
+        let behind = k == self.count() - 1 || place < len;
         front && behind
     }
 
@@ -53,8 +52,9 @@ impl<X: Copied + Drop> Chain<X> {
         if self.count() <= k {
             return None;
         }
-        let place = cut_round(self.block(k), near, pred)?;
-        if self.is_enclosed(k, place) {
+        let block = self.block(k);
+        let place = cut_round(block, near, pred)?;
+        if self.is_enclosed(k, place, block.len()) {
             self.note(k, place);
             return Some(self.start(k) + place);
         }
@@ -86,11 +86,12 @@ impl<X: Copied + Drop> Chain<X> {
         if self.total() <= near {
             return self.partition_point(pred);
         }
-        let k = self.locate(near);
-        let place = cut_near(self.block(k), near - self.start(k), pred);
-        if self.is_enclosed(k, place) {
+        let (k, within) = self.locate(near);
+        let block = self.block(k);
+        let place = cut_near(block, within, pred);
+        if self.is_enclosed(k, place, block.len()) {
             self.note(k, place);
-            return self.start(k) + place;
+            return near - within + place;
         }
         self.partition_all(pred)
     }
@@ -101,8 +102,7 @@ impl<X: Copied + Drop> Chain<X> {
         ensures members { joined self.new.blocks ≡ slice_set (joined self.old.blocks) i x }
         ensures room { room_of self.old.blocks self.old.spares ≤ room_of self.new.blocks self.new.spares }
     {
-        let k = self.locate(i);
-        let place = i - self.start(k);
+        let (k, place) = self.locate(i);
         self.set(k, place, x);
     }
 
@@ -113,11 +113,10 @@ impl<X: Copied + Drop> Chain<X> {
         ensures members { joined self.new.blocks ≡ remove (joined self.old.blocks) i }
         ensures room { room_of self.old.blocks self.old.spares ≤ room_of self.new.blocks self.new.spares }
     {
-        let k = self.locate(i);
+        let (k, place) = self.locate(i);
         if self.block(k).len() == 1 {
             return self.remove_block(k);
         }
-        let place = i - self.start(k);
         self.remove(k, place)
     }
 
@@ -172,8 +171,7 @@ impl<X: Copied + Drop> Chain<X> {
         ensures debt { debt self.new.blocks + 64 * self.old.spares ≤ debt self.old.blocks + 64 * self.new.spares + 1 }
         ensures spares { self.old.spares ≤ self.new.spares + 1 }
     {
-        let k = self.locate(i);
-        let place = i - self.start(k);
+        let (k, place) = self.locate(i);
         if self.block(k).len() < CAPACITY {
             self.insert(k, place, x);
             return;

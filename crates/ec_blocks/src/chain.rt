@@ -9,6 +9,7 @@ ghost use Rattle.ec_blocks.specs.ChainParts.{is_kept, is_spare};
 
 use crate::counts::Counts;
 use crate::starts::Starts;
+use crate::tiers::Tiers;
 use ec_rows::Copied;
 use ec_terms::NoMemory;
 use std::alloc::Global;
@@ -30,7 +31,7 @@ const LIMIT: usize = 1 << 56;
 /// Blocks one behind another, and empty ones that lie ready.
 #[derive(Drop)]
 pub(crate) struct Chain<X> {
-    blocks: Vec<Vec<X>>,
+    blocks: Tiers<Vec<X>>,
     /// How many members are in front of each block.
     starts: Starts,
     /// A copy of the last member of each block, so that a search reads one array.
@@ -44,7 +45,7 @@ pub(crate) struct Chain<X> {
 }
 
 impl<X> Model for Chain<X> {
-    ghost use Rattle.std.specs.Prelude.{map, vec_len};
+    ghost use Rattle.std.specs.Prelude.{length, map, vec_len};
     ghost use Rattle.std.specs.Vec.{vec_capacity};
     ghost use Rattle.ec_blocks.specs.Chain.{Chained};
     ghost use Rattle.ec_blocks.specs.ChainParts.{IsChain, HasRooms, IsCounted};
@@ -53,7 +54,7 @@ impl<X> Model for Chain<X> {
 
     ghost view = { λ chain. record { blocks = map (λ block. block.items) chain.blocks.items; spares = vec_len chain.spares } };
 
-    ghost invariant = { λ chain. IsChain (λ block. block.items) (λ block. vec_capacity block) chain.blocks.items chain.starts.items chain.lasts.items chain.spares.items × HasRooms (vec_len chain.blocks) (vec_len chain.spares) (vec_capacity chain.blocks) chain.starts.room (vec_capacity chain.lasts) (vec_capacity chain.spares) × IsCounted (map (λ block. block.items) chain.blocks.items) chain.counts.total chain.counts.owed };
+    ghost invariant = { λ chain. IsChain (λ block. block.items) (λ block. vec_capacity block) chain.blocks.items chain.starts.items chain.lasts.items chain.spares.items × HasRooms (length chain.blocks.items) (vec_len chain.spares) chain.blocks.room chain.starts.room (vec_capacity chain.lasts) (vec_capacity chain.spares) × IsCounted (map (λ block. block.items) chain.blocks.items) chain.counts.total chain.counts.owed };
 }
 
 impl<X: Copied + Drop> Chain<X> {
@@ -62,7 +63,7 @@ impl<X: Copied + Drop> Chain<X> {
         ensures { result ≡ record { blocks = []; spares = 0 } }
     {
         Chain {
-            blocks: Vec::new(alloc),
+            blocks: Tiers::new(alloc),
             starts: Starts::new(alloc),
             lasts: Vec::new(alloc),
             spares: Vec::new(alloc),
@@ -103,7 +104,7 @@ impl<X: Copied + Drop> Chain<X> {
         ensures block { result.now ≡ block_at k self.now.blocks }
         ensures kept { IsTrue (is_block result.now) }
     {
-        &self.blocks[k]
+        self.blocks.get(k)
     }
 
     /// Puts a member in place of one in a block.
@@ -113,8 +114,9 @@ impl<X: Copied + Drop> Chain<X> {
         ensures blocks { self.new.blocks ≡ slice_set self.old.blocks k (slice_set (block_at k self.old.blocks) place x) }
         ensures spares { self.new.spares ≡ self.old.spares }
     {
-        put_within(&mut self.blocks[k], place, x);
-        keep_last(&self.blocks[k], &mut self.lasts, k);
+        let block = self.blocks.get_mut(k);
+        put_within(block, place, x);
+        keep_last(block, &mut self.lasts, k);
     }
 
     /// Inserts a member in a block that is not full.
@@ -126,8 +128,9 @@ impl<X: Copied + Drop> Chain<X> {
         ensures spares { self.new.spares ≡ self.old.spares }
     {
         let len = self.block(k).len();
-        insert_within(&mut self.blocks[k], place, x);
-        keep_last(&self.blocks[k], &mut self.lasts, k);
+        let block = self.blocks.get_mut(k);
+        insert_within(block, place, x);
+        keep_last(block, &mut self.lasts, k);
         self.starts.raise_behind(k);
         self.counts.change(len, len + 1);
     }
@@ -165,22 +168,23 @@ impl<X: Copied + Drop> Chain<X> {
         start <= i && i - start < self.block(k).len()
     }
 
-    /// The block that a place is in. The one that was found last is looked at first.
-    pub(crate) fn locate(&self, i: usize) -> usize
+    /// The block that a place is in, and the place in that block. The one that was found last is looked at first.
+    #[inline(always)]
+    pub(crate) fn locate(&self, i: usize) -> (usize, usize)
         requires { i < length (joined self.now.blocks) }
-        ensures within { result < length self.now.blocks }
-        ensures from { start_of result self.now.blocks ≤ i }
-        ensures to { i < start_of result self.now.blocks + length (block_at result self.now.blocks) }
+        ensures within { result.0 < length self.now.blocks }
+        ensures place { start_of result.0 self.now.blocks + result.1 ≡ i }
+        ensures to { result.1 < length (block_at result.0 self.now.blocks) }
         ensures kept { IsTrue (list_all is_block self.now.blocks) }
         ensures few { length self.now.blocks ≤ 2 ^ 56 }
     {
         let near = self.found.get();
         if self.is_in(i, near) {
-            return near;
+            return (near, i - self.start(near));
         }
         let k = self.starts.count_up_to(i) - 1;
         self.found.set(k);
-        k
+        (k, i - self.start(k))
     }
 
     /// Whether all members pass a test, as the last one tells. Most of what is sought is at the end.
@@ -205,7 +209,7 @@ impl<X: Copied + Drop> Chain<X> {
         if k == self.blocks.len() {
             return self.total();
         }
-        let place = cut(&self.blocks[k], pred);
+        let place = cut(self.blocks.get(k), pred);
         self.note(k, place);
         self.starts.get(k) + place
     }
@@ -231,8 +235,9 @@ impl<X: Copied + Drop> Chain<X> {
         ensures spares { self.new.spares ≡ self.old.spares }
     {
         let len = self.block(k).len();
-        let x = remove_within(&mut self.blocks[k], place);
-        keep_last(&self.blocks[k], &mut self.lasts, k);
+        let block = self.blocks.get_mut(k);
+        let x = remove_within(block, place);
+        keep_last(block, &mut self.lasts, k);
         self.starts.lower_behind(k);
         self.counts.change(len, len - 1);
         x
@@ -265,11 +270,12 @@ impl<X: Copied + Drop> Chain<X> {
         ensures spares { self.new.spares + 1 ≡ self.old.spares }
     {
         let mut behind = take_spare(&mut self.spares);
-        move_half(&mut self.blocks[k], &mut behind);
-        insert_last(&self.blocks[k], &mut self.lasts, k);
+        let block = self.blocks.get_mut(k);
+        move_half(block, &mut behind);
+        insert_last(block, &mut self.lasts, k);
         let start = self.starts.get(k) + HALF;
         self.starts.insert(k + 1, start);
-        insert_within(&mut self.blocks, k + 1, behind);
+        self.blocks.insert(k + 1, behind);
         self.counts.change(CAPACITY, HALF);
         self.counts.change(0, HALF);
     }
@@ -287,7 +293,8 @@ impl<X: Copied + Drop> Chain<X> {
         self.starts.push(start);
         self.lasts
             .push_reserved(members[members.len() - 1].copied());
-        self.blocks.push_reserved(block);
+        let end = self.blocks.len();
+        self.blocks.insert(end, block);
         self.counts.change(0, members.len());
     }
 
@@ -303,7 +310,8 @@ impl<X: Copied + Drop> Chain<X> {
         block.push_reserved(x);
         self.starts.push(start);
         self.lasts.push_reserved(last);
-        self.blocks.push_reserved(block);
+        let end = self.blocks.len();
+        self.blocks.insert(end, block);
         self.counts.change(0, 1);
     }
 
@@ -322,7 +330,7 @@ impl<X: Copied + Drop> Chain<X> {
         self.starts.reserve(spares + 1)?;
         self.lasts.reserve(spares + 1)?;
         self.spares.reserve(count + 1)?;
-        let block = Vec::with_capacity(*self.blocks.allocator(), CAPACITY)?;
+        let block = Vec::with_capacity(*self.spares.allocator(), CAPACITY)?;
         self.spares.push_reserved(block);
         Ok(())
     }
@@ -490,17 +498,18 @@ fn take_spare<X: Drop>(spares: &mut Vec<Vec<X>>) -> Vec<X>
 }
 
 /// Makes all blocks spare ones.
-fn empty<X: Drop>(blocks: &mut Vec<Vec<X>>, spares: &mut Vec<Vec<X>>)
+fn empty<X: Drop>(blocks: &mut Tiers<Vec<X>>, spares: &mut Vec<Vec<X>>)
     requires kept { IsTrue (list_all (is_kept (λ block. block.items) (λ block. vec_capacity block)) blocks.old.items) }
     requires spare { IsTrue (list_all (is_spare (λ block. block.items) (λ block. vec_capacity block)) spares.old.items) }
-    requires room { vec_len blocks.old + vec_len spares.old ≤ vec_capacity spares.old }
+    requires room { length blocks.old.items + vec_len spares.old ≤ vec_capacity spares.old }
     ensures none { blocks.new.items ≡ [] }
     ensures spare { IsTrue (list_all (is_spare (λ block. block.items) (λ block. vec_capacity block)) spares.new.items) }
-    ensures len { vec_len spares.new ≡ vec_len blocks.old + vec_len spares.old }
-    ensures blocks_capacity { vec_capacity blocks.new ≡ vec_capacity blocks.old }
+    ensures len { vec_len spares.new ≡ length blocks.old.items + vec_len spares.old }
+    ensures blocks_room { blocks.new.room ≡ blocks.old.room }
     ensures spares_capacity { vec_capacity spares.new ≡ vec_capacity spares.old }
 {
-    while let Some(mut block) = blocks.pop() {
+    while blocks.len() > 0 {
+        let mut block = blocks.remove(blocks.len() - 1);
         block.clear();
         spares.push_reserved(block);
     }

@@ -13,6 +13,7 @@ mod chain;
 mod counts;
 mod search;
 mod starts;
+mod tiers;
 
 pub use block_marks::BlockMarks;
 pub use block_spans::BlockSpans;

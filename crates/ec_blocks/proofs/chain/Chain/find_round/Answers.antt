@@ -14,7 +14,7 @@ returns-then-is_enclosed-clause-bound g c =
       arith,
       c.start.ensures,
       c.in_ok-place.ensures.bound,
-      ap length c.block.ensures.block,
+      ap length c.block-block.ensures.block,
       start_of-suc c.args.self.now.blocks c.noted-k.result.0 within,
       start_of-le c.args.self.now.blocks (suc c.noted-k.result.0) (length c.args.self.now.blocks) (omega arith),
       start_of-all c.args.self.now.blocks,
@@ -27,7 +27,7 @@ overflow_add-result g c =
 pub returns-then-is_enclosed-clause-partitioned : goal.returns-then-is_enclosed-clause-partitioned
 returns-then-is_enclosed-clause-partitioned g c p computes parted =
     let within : c.noted-k.result.0 < length c.args.self.now.blocks = omega (arith, c.if-count-k.false, c.count.ensures.count) in
-    let block = c.block.ensures.block in
+    let block = c.block-block.ensures.block in
     let point = c.in_ok-place.ensures.partitioned p computes
     (subst (λ (xs : List _). IsPartitionedBy p xs) (sym block) (block-parted p c.args.self.now.blocks c.count.ensures.kept parted c.noted-k.result.0 within)) in
     subst (λ (n : ℕ). IsPartitionPoint (λ x. p x ≡ true) (λ x. p x ≡ false) (joined c.args.self.now.blocks) (n + c.in_ok-place.place)) (sym c.start.ensures)

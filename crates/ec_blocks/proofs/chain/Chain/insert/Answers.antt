@@ -4,7 +4,7 @@ use Rattle.std.specs.List.{insert}
 use Rattle.std.specs.Vec.{vec_capacity}
 use Rattle.std.proofs.lemmas.List.Edits.{length-insert}
 use Rattle.ec_blocks.proofs.ChainLemmas.{starts-count, starts-fit, place-within}
-use Rattle.ec_blocks.proofs.EditLemmas.{old-list, edited, edited-more}
+use Rattle.ec_blocks.proofs.EditLemmas.{rooms-set, old-list, old-room, edited, edited-more}
 use Rattle.ec_blocks.proofs.CountLemmas.{counted-same, counted-small, owed-small, counted-part, owed-part, counted-set}
 use Rattle.ec_blocks.specs.Chain.{block_at}
 use Rattle.ec_blocks.proofs.chain.Chain.insert.Goals as goal
@@ -16,8 +16,14 @@ raise_behind-requires-clause-within g c =
 pub raise_behind-requires-clause-fits : goal.raise_behind-requires-clause-fits
 raise_behind-requires-clause-fits g c = let few = c.self.invariant.1.few in starts-fit (λ b. b.items) (λ b. vec_capacity b) _ _ _ _ c.self.invariant.0 (c.args.k + 1) (omega arith)
 
+pub insert_within-requires-clause-room : goal.insert_within-requires-clause-room
+insert_within-requires-clause-room g c =
+    let wide = old-room (λ b. b.items) (λ b. vec_capacity b) c.self.inside.blocks.items c.self.inside.starts.items c.self.inside.lasts.items c.self.inside.spares.items c.self.invariant.0 c.args.self.now.blocks (ap (λ v. v.blocks) c.self.view_is) c.args.k c.requires.block c.get_mut-block.result.now c.get_mut-block.ensures.member in
+    let list = old-list (λ b. b.items) (λ b. vec_capacity b) c.self.inside.blocks.items c.self.inside.starts.items c.self.inside.lasts.items c.self.inside.spares.items c.self.invariant.0 c.args.self.now.blocks (ap (λ v. v.blocks) c.self.view_is) c.args.k c.requires.block c.get_mut-block.result.now c.get_mut-block.ensures.member in
+    omega (arith, ap length list, c.requires.room)
+
 pub returns-clause-blocks : goal.returns-clause-blocks
-returns-clause-blocks g c = edited (λ b. b.items) (λ b. vec_capacity b) c.self.inside.blocks.items c.self.inside.starts.items c.self.inside.lasts.items c.self.inside.spares.items c.self.invariant.0 c.args.self.now.blocks (ap (λ v. v.blocks) c.self.view_is) c.args.k c.requires.block c.index_mut.result.now c.index_mut.ensures.value (λ xs. insert xs c.args.place c.args.x) c.insert_within.new.block c.insert_within.ensures.items
+returns-clause-blocks g c = edited (λ b. b.items) (λ b. vec_capacity b) c.self.inside.blocks.items c.self.inside.starts.items c.self.inside.lasts.items c.self.inside.spares.items c.self.invariant.0 c.args.self.now.blocks (ap (λ v. v.blocks) c.self.view_is) c.args.k c.requires.block c.get_mut-block.result.now c.get_mut-block.ensures.member (λ xs. insert xs c.args.place c.args.x) c.insert_within.new.block c.insert_within.ensures.items
 
 pub change-requires-clause-counted : goal.change-requires-clause-counted
 change-requires-clause-counted g c = omega (arith, ap length c.block-len.ensures.block, counted-part c.args.self.now.blocks c.args.k c.self.inside.counts.total c.self.inside.counts.owed (counted-same _ _ _ _ (ap (λ v. v.blocks) c.self.view_is) c.self.invariant.2) c.requires.block)
@@ -33,17 +39,11 @@ change-requires-clause-owed_fits g c = omega (arith, ap length c.block-len.ensur
 
 pub invariant_of-self : goal.invariant_of-self
 invariant_of-self g c =
-    let list = old-list (λ b. b.items) (λ b. vec_capacity b) c.self.inside.blocks.items c.self.inside.starts.items c.self.inside.lasts.items c.self.inside.spares.items c.self.invariant.0 c.args.self.now.blocks (ap (λ v. v.blocks) c.self.view_is) c.args.k c.requires.block c.index_mut.result.now c.index_mut.ensures.value in (
-      edited-more (λ b. b.items) (λ b. vec_capacity b) c.self.inside.blocks.items c.self.inside.starts.items c.self.inside.lasts.items c.self.inside.spares.items c.self.invariant.0 c.args.self.now.blocks (ap (λ v. v.blocks) c.self.view_is) c.args.k c.requires.block c.index_mut.result.now c.index_mut.ensures.value c.insert_within.new.block c.index.result.now c.index.ensures c.deref.result.now c.deref.ensures.value c.keep_last.new.lasts.items c.keep_last.ensures.lasts c.insert_within.ensures.capacity c.raise_behind.new.self.items
-          (ap length c.insert_within.ensures.items ∙ length-insert c.index_mut.result.now.items c.args.place c.args.x (omega (arith, ap length list)))
+    let list = old-list (λ b. b.items) (λ b. vec_capacity b) c.self.inside.blocks.items c.self.inside.starts.items c.self.inside.lasts.items c.self.inside.spares.items c.self.invariant.0 c.args.self.now.blocks (ap (λ v. v.blocks) c.self.view_is) c.args.k c.requires.block c.get_mut-block.result.now c.get_mut-block.ensures.member in (
+      edited-more (λ b. b.items) (λ b. vec_capacity b) c.self.inside.blocks.items c.self.inside.starts.items c.self.inside.lasts.items c.self.inside.spares.items c.self.invariant.0 c.args.self.now.blocks (ap (λ v. v.blocks) c.self.view_is) c.args.k c.requires.block c.get_mut-block.result.now c.get_mut-block.ensures.member c.insert_within.new.block c.deref.result.now c.deref.ensures.value c.keep_last.new.lasts.items c.keep_last.ensures.lasts c.insert_within.ensures.capacity c.raise_behind.new.self.items
+          (ap length c.insert_within.ensures.items ∙ length-insert c.get_mut-block.result.now.items c.args.place c.args.x (omega (arith, ap length list)))
           (omega (arith, ap length list)) c.raise_behind.ensures.items,
-      record {
-        few = c.self.invariant.1.few;
-        blocks_fit = c.self.invariant.1.blocks_fit;
-        starts_fit = omega arith;
-        lasts_fit = omega arith;
-        spares_fit = c.self.invariant.1.spares_fit;
-      },
+      rooms-set c.self.inside.blocks.items c.args.k _ _ _ _ _ _ _ _ c.self.invariant.1 (omega arith) (omega arith),
       counted-set c.args.self.now.blocks _ c.args.k (insert (block_at c.args.k c.args.self.now.blocks) c.args.place c.args.x) c.self.inside.counts.total c.self.inside.counts.owed _ _ (counted-same _ _ _ _ (ap (λ v. v.blocks) c.self.view_is) c.self.invariant.2) c.requires.block (returns-clause-blocks g c)
           (omega (arith, c.change.ensures.total, ap length c.block-len.ensures.block, length-insert (block_at c.args.k c.args.self.now.blocks) c.args.place c.args.x c.requires.place))
           (omega (arith, c.change.ensures.owed, ap length c.block-len.ensures.block, length-insert (block_at c.args.k c.args.self.now.blocks) c.args.place c.args.x c.requires.place)),

@@ -13,30 +13,30 @@ use Rattle.ec_blocks.proofs.chain.Chain.insert_in_front.Goals as goal
 
 pub returns-then-block-lt-CAPACITY-clause-members : goal.returns-then-block-lt-CAPACITY-clause-members
 returns-then-block-lt-CAPACITY-clause-members g c =
-    ap joined c.insert.ensures.blocks ∙ joined-insert c.args.self.now.blocks c.locate-k.result (c.args.i - c.start.result) c.args.i c.args.x c.locate-k.ensures.within (omega arith) (omega arith)
+    ap joined c.insert.ensures.blocks ∙ joined-insert c.args.self.now.blocks c.locate-k.result.0 c.locate-k.result.1 c.args.i c.args.x c.locate-k.ensures.within (omega arith) (omega arith)
 
 pub returns-then-block-lt-CAPACITY-clause-debt : goal.returns-then-block-lt-CAPACITY-clause-debt
 returns-then-block-lt-CAPACITY-clause-debt g c =
     omega (
       arith,
       ap debt c.insert.ensures.blocks,
-      debt-set c.args.self.now.blocks c.locate-k.result 1 (insert (block_at c.locate-k.result c.args.self.now.blocks) (c.args.i - c.start.result) c.args.x) c.locate-k.ensures.within
-          (omega (arith, length-insert (block_at c.locate-k.result c.args.self.now.blocks) (c.args.i - c.start.result) c.args.x (omega arith))),
+      debt-set c.args.self.now.blocks c.locate-k.result.0 1 (insert (block_at c.locate-k.result.0 c.args.self.now.blocks) c.locate-k.result.1 c.args.x) c.locate-k.ensures.within
+          (omega (arith, length-insert (block_at c.locate-k.result.0 c.args.self.now.blocks) c.locate-k.result.1 c.args.x (omega arith))),
     )
 
 pub insert-requires-then-place-le-HALF-clause-place : goal.insert-requires-then-place-le-HALF-clause-place
 insert-requires-then-place-le-HALF-clause-place g c =
     let size = ap length c.block.ensures.block in
     let most = is_block-most c.block.result.now c.block.ensures.kept in
-    let there = ap (λ n. insert (slice_set c.args.self.now.blocks c.locate-k.result (take 64 (block_at c.locate-k.result c.args.self.now.blocks))) n (drop 64 (block_at c.locate-k.result c.args.self.now.blocks))) (add-one c.locate-k.result) in
-    omega (arith, ap (λ bs. length (block_at c.locate-k.result bs)) (c.split.ensures.blocks ∙ there), ap length (split-first c.args.self.now.blocks c.locate-k.result (take 64 (block_at c.locate-k.result c.args.self.now.blocks)) (drop 64 (block_at c.locate-k.result c.args.self.now.blocks)) c.locate-k.ensures.within), length-take-le 64 (block_at c.locate-k.result c.args.self.now.blocks) (omega arith))
+    let there = ap (λ n. insert (slice_set c.args.self.now.blocks c.locate-k.result.0 (take 64 (block_at c.locate-k.result.0 c.args.self.now.blocks))) n (drop 64 (block_at c.locate-k.result.0 c.args.self.now.blocks))) (add-one c.locate-k.result.0) in
+    omega (arith, ap (λ bs. length (block_at c.locate-k.result.0 bs)) (c.split.ensures.blocks ∙ there), ap length (split-first c.args.self.now.blocks c.locate-k.result.0 (take 64 (block_at c.locate-k.result.0 c.args.self.now.blocks)) (drop 64 (block_at c.locate-k.result.0 c.args.self.now.blocks)) c.locate-k.ensures.within), length-take-le 64 (block_at c.locate-k.result.0 c.args.self.now.blocks) (omega arith))
 
 pub insert-requires-then-place-le-HALF-clause-room : goal.insert-requires-then-place-le-HALF-clause-room
 insert-requires-then-place-le-HALF-clause-room g c =
     let size = ap length c.block.ensures.block in
     let most = is_block-most c.block.result.now c.block.ensures.kept in
-    let there = ap (λ n. insert (slice_set c.args.self.now.blocks c.locate-k.result (take 64 (block_at c.locate-k.result c.args.self.now.blocks))) n (drop 64 (block_at c.locate-k.result c.args.self.now.blocks))) (add-one c.locate-k.result) in
-    omega (arith, ap (λ bs. length (block_at c.locate-k.result bs)) (c.split.ensures.blocks ∙ there), ap length (split-first c.args.self.now.blocks c.locate-k.result (take 64 (block_at c.locate-k.result c.args.self.now.blocks)) (drop 64 (block_at c.locate-k.result c.args.self.now.blocks)) c.locate-k.ensures.within), length-take-le 64 (block_at c.locate-k.result c.args.self.now.blocks) (omega arith))
+    let there = ap (λ n. insert (slice_set c.args.self.now.blocks c.locate-k.result.0 (take 64 (block_at c.locate-k.result.0 c.args.self.now.blocks))) n (drop 64 (block_at c.locate-k.result.0 c.args.self.now.blocks))) (add-one c.locate-k.result.0) in
+    omega (arith, ap (λ bs. length (block_at c.locate-k.result.0 bs)) (c.split.ensures.blocks ∙ there), ap length (split-first c.args.self.now.blocks c.locate-k.result.0 (take 64 (block_at c.locate-k.result.0 c.args.self.now.blocks)) (drop 64 (block_at c.locate-k.result.0 c.args.self.now.blocks)) c.locate-k.ensures.within), length-take-le 64 (block_at c.locate-k.result.0 c.args.self.now.blocks) (omega arith))
 
 pub overflow_add-k : goal.overflow_add-k
 overflow_add-k g c = let few = c.locate-k.ensures.few in omega arith
@@ -45,72 +45,72 @@ pub insert-requires-else-place-le-HALF-clause-place : goal.insert-requires-else-
 insert-requires-else-place-le-HALF-clause-place g c =
     let size = ap length c.block.ensures.block in
     let most = is_block-most c.block.result.now c.block.ensures.kept in
-    let there = ap (λ n. insert (slice_set c.args.self.now.blocks c.locate-k.result (take 64 (block_at c.locate-k.result c.args.self.now.blocks))) n (drop 64 (block_at c.locate-k.result c.args.self.now.blocks))) (add-one c.locate-k.result) in
-    omega (arith, ap₂ (λ n bs. length (block_at n bs)) (add-one c.locate-k.result) (c.split.ensures.blocks ∙ there), ap length (split-second c.args.self.now.blocks c.locate-k.result (take 64 (block_at c.locate-k.result c.args.self.now.blocks)) (drop 64 (block_at c.locate-k.result c.args.self.now.blocks)) c.locate-k.ensures.within), length-drop 64 (block_at c.locate-k.result c.args.self.now.blocks))
+    let there = ap (λ n. insert (slice_set c.args.self.now.blocks c.locate-k.result.0 (take 64 (block_at c.locate-k.result.0 c.args.self.now.blocks))) n (drop 64 (block_at c.locate-k.result.0 c.args.self.now.blocks))) (add-one c.locate-k.result.0) in
+    omega (arith, ap₂ (λ n bs. length (block_at n bs)) (add-one c.locate-k.result.0) (c.split.ensures.blocks ∙ there), ap length (split-second c.args.self.now.blocks c.locate-k.result.0 (take 64 (block_at c.locate-k.result.0 c.args.self.now.blocks)) (drop 64 (block_at c.locate-k.result.0 c.args.self.now.blocks)) c.locate-k.ensures.within), length-drop 64 (block_at c.locate-k.result.0 c.args.self.now.blocks))
 
 pub insert-requires-else-place-le-HALF-clause-room : goal.insert-requires-else-place-le-HALF-clause-room
 insert-requires-else-place-le-HALF-clause-room g c =
     let size = ap length c.block.ensures.block in
     let most = is_block-most c.block.result.now c.block.ensures.kept in
-    let there = ap (λ n. insert (slice_set c.args.self.now.blocks c.locate-k.result (take 64 (block_at c.locate-k.result c.args.self.now.blocks))) n (drop 64 (block_at c.locate-k.result c.args.self.now.blocks))) (add-one c.locate-k.result) in
-    omega (arith, ap₂ (λ n bs. length (block_at n bs)) (add-one c.locate-k.result) (c.split.ensures.blocks ∙ there), ap length (split-second c.args.self.now.blocks c.locate-k.result (take 64 (block_at c.locate-k.result c.args.self.now.blocks)) (drop 64 (block_at c.locate-k.result c.args.self.now.blocks)) c.locate-k.ensures.within), length-drop 64 (block_at c.locate-k.result c.args.self.now.blocks))
+    let there = ap (λ n. insert (slice_set c.args.self.now.blocks c.locate-k.result.0 (take 64 (block_at c.locate-k.result.0 c.args.self.now.blocks))) n (drop 64 (block_at c.locate-k.result.0 c.args.self.now.blocks))) (add-one c.locate-k.result.0) in
+    omega (arith, ap₂ (λ n bs. length (block_at n bs)) (add-one c.locate-k.result.0) (c.split.ensures.blocks ∙ there), ap length (split-second c.args.self.now.blocks c.locate-k.result.0 (take 64 (block_at c.locate-k.result.0 c.args.self.now.blocks)) (drop 64 (block_at c.locate-k.result.0 c.args.self.now.blocks)) c.locate-k.ensures.within), length-drop 64 (block_at c.locate-k.result.0 c.args.self.now.blocks))
 
 pub returns-then-place-le-HALF-clause-members : goal.returns-then-place-le-HALF-clause-members
 returns-then-place-le-HALF-clause-members g c =
     let size = ap length c.block.ensures.block in
     let most = is_block-most c.block.result.now c.block.ensures.kept in
-    let there = c.split.ensures.blocks ∙ ap (λ n. insert (slice_set c.args.self.now.blocks c.locate-k.result (take 64 (block_at c.locate-k.result c.args.self.now.blocks))) n (drop 64 (block_at c.locate-k.result c.args.self.now.blocks))) (add-one c.locate-k.result) in
+    let there = c.split.ensures.blocks ∙ ap (λ n. insert (slice_set c.args.self.now.blocks c.locate-k.result.0 (take 64 (block_at c.locate-k.result.0 c.args.self.now.blocks))) n (drop 64 (block_at c.locate-k.result.0 c.args.self.now.blocks))) (add-one c.locate-k.result.0) in
     ap joined c.insert-then-place-le-HALF.ensures.blocks
-    ∙ joined-insert c.split.new.self.blocks c.locate-k.result (c.args.i - c.start.result) c.args.i c.args.x
-    (omega (arith, ap length there, split-count c.args.self.now.blocks c.locate-k.result (take 64 (block_at c.locate-k.result c.args.self.now.blocks)) (drop 64 (block_at c.locate-k.result c.args.self.now.blocks)) c.locate-k.ensures.within)) (omega (arith, ap (λ bs. length (block_at c.locate-k.result bs)) there, ap length (split-first c.args.self.now.blocks c.locate-k.result (take 64 (block_at c.locate-k.result c.args.self.now.blocks)) (drop 64 (block_at c.locate-k.result c.args.self.now.blocks)) c.locate-k.ensures.within), length-take-le 64 (block_at c.locate-k.result c.args.self.now.blocks) (omega arith)))
-    (omega (arith, ap (start_of c.locate-k.result) there, split-start c.args.self.now.blocks c.locate-k.result (take 64 (block_at c.locate-k.result c.args.self.now.blocks)) (drop 64 (block_at c.locate-k.result c.args.self.now.blocks)) c.locate-k.ensures.within))
-    ∙ ap (λ xs. insert xs c.args.i c.args.x) (ap joined there ∙ joined-split c.args.self.now.blocks c.locate-k.result 64 c.locate-k.ensures.within)
+    ∙ joined-insert c.split.new.self.blocks c.locate-k.result.0 c.locate-k.result.1 c.args.i c.args.x
+    (omega (arith, ap length there, split-count c.args.self.now.blocks c.locate-k.result.0 (take 64 (block_at c.locate-k.result.0 c.args.self.now.blocks)) (drop 64 (block_at c.locate-k.result.0 c.args.self.now.blocks)) c.locate-k.ensures.within)) (omega (arith, ap (λ bs. length (block_at c.locate-k.result.0 bs)) there, ap length (split-first c.args.self.now.blocks c.locate-k.result.0 (take 64 (block_at c.locate-k.result.0 c.args.self.now.blocks)) (drop 64 (block_at c.locate-k.result.0 c.args.self.now.blocks)) c.locate-k.ensures.within), length-take-le 64 (block_at c.locate-k.result.0 c.args.self.now.blocks) (omega arith)))
+    (omega (arith, ap (start_of c.locate-k.result.0) there, split-start c.args.self.now.blocks c.locate-k.result.0 (take 64 (block_at c.locate-k.result.0 c.args.self.now.blocks)) (drop 64 (block_at c.locate-k.result.0 c.args.self.now.blocks)) c.locate-k.ensures.within))
+    ∙ ap (λ xs. insert xs c.args.i c.args.x) (ap joined there ∙ joined-split c.args.self.now.blocks c.locate-k.result.0 64 c.locate-k.ensures.within)
 
 pub returns-then-place-le-HALF-clause-debt : goal.returns-then-place-le-HALF-clause-debt
 returns-then-place-le-HALF-clause-debt g c =
     let size = ap length c.block.ensures.block in
     let most = is_block-most c.block.result.now c.block.ensures.kept in
-    let there = c.split.ensures.blocks ∙ ap (λ n. insert (slice_set c.args.self.now.blocks c.locate-k.result (take 64 (block_at c.locate-k.result c.args.self.now.blocks))) n (drop 64 (block_at c.locate-k.result c.args.self.now.blocks))) (add-one c.locate-k.result) in
+    let there = c.split.ensures.blocks ∙ ap (λ n. insert (slice_set c.args.self.now.blocks c.locate-k.result.0 (take 64 (block_at c.locate-k.result.0 c.args.self.now.blocks))) n (drop 64 (block_at c.locate-k.result.0 c.args.self.now.blocks))) (add-one c.locate-k.result.0) in
     omega (
       arith,
       ap debt c.insert-then-place-le-HALF.ensures.blocks,
       ap debt there,
-      debt-split c.args.self.now.blocks c.locate-k.result (take 64 (block_at c.locate-k.result c.args.self.now.blocks)) (drop 64 (block_at c.locate-k.result c.args.self.now.blocks)) c.locate-k.ensures.within (omega arith) (length-take-le 64 (block_at c.locate-k.result c.args.self.now.blocks) (omega arith)) (length-drop 64 (block_at c.locate-k.result c.args.self.now.blocks) ∙ (omega arith)),
-      debt-set c.split.new.self.blocks c.locate-k.result 1 (insert (block_at c.locate-k.result c.split.new.self.blocks) (c.args.i - c.start.result) c.args.x)
-          (omega (arith, ap length there, split-count c.args.self.now.blocks c.locate-k.result (take 64 (block_at c.locate-k.result c.args.self.now.blocks)) (drop 64 (block_at c.locate-k.result c.args.self.now.blocks)) c.locate-k.ensures.within))
-          (omega (arith, length-insert (block_at c.locate-k.result c.split.new.self.blocks) (c.args.i - c.start.result) c.args.x (omega (arith, ap (λ bs. length (block_at c.locate-k.result bs)) there, ap length (split-first c.args.self.now.blocks c.locate-k.result (take 64 (block_at c.locate-k.result c.args.self.now.blocks)) (drop 64 (block_at c.locate-k.result c.args.self.now.blocks)) c.locate-k.ensures.within), length-take-le 64 (block_at c.locate-k.result c.args.self.now.blocks) (omega arith))))),
+      debt-split c.args.self.now.blocks c.locate-k.result.0 (take 64 (block_at c.locate-k.result.0 c.args.self.now.blocks)) (drop 64 (block_at c.locate-k.result.0 c.args.self.now.blocks)) c.locate-k.ensures.within (omega arith) (length-take-le 64 (block_at c.locate-k.result.0 c.args.self.now.blocks) (omega arith)) (length-drop 64 (block_at c.locate-k.result.0 c.args.self.now.blocks) ∙ (omega arith)),
+      debt-set c.split.new.self.blocks c.locate-k.result.0 1 (insert (block_at c.locate-k.result.0 c.split.new.self.blocks) c.locate-k.result.1 c.args.x)
+          (omega (arith, ap length there, split-count c.args.self.now.blocks c.locate-k.result.0 (take 64 (block_at c.locate-k.result.0 c.args.self.now.blocks)) (drop 64 (block_at c.locate-k.result.0 c.args.self.now.blocks)) c.locate-k.ensures.within))
+          (omega (arith, length-insert (block_at c.locate-k.result.0 c.split.new.self.blocks) c.locate-k.result.1 c.args.x (omega (arith, ap (λ bs. length (block_at c.locate-k.result.0 bs)) there, ap length (split-first c.args.self.now.blocks c.locate-k.result.0 (take 64 (block_at c.locate-k.result.0 c.args.self.now.blocks)) (drop 64 (block_at c.locate-k.result.0 c.args.self.now.blocks)) c.locate-k.ensures.within), length-take-le 64 (block_at c.locate-k.result.0 c.args.self.now.blocks) (omega arith))))),
     )
 
 pub returns-else-place-le-HALF-clause-members : goal.returns-else-place-le-HALF-clause-members
 returns-else-place-le-HALF-clause-members g c =
     let size = ap length c.block.ensures.block in
     let most = is_block-most c.block.result.now c.block.ensures.kept in
-    let there = c.split.ensures.blocks ∙ ap (λ n. insert (slice_set c.args.self.now.blocks c.locate-k.result (take 64 (block_at c.locate-k.result c.args.self.now.blocks))) n (drop 64 (block_at c.locate-k.result c.args.self.now.blocks))) (add-one c.locate-k.result) in
-    let count = split-count c.args.self.now.blocks c.locate-k.result (take 64 (block_at c.locate-k.result c.args.self.now.blocks)) (drop 64 (block_at c.locate-k.result c.args.self.now.blocks)) c.locate-k.ensures.within in
+    let there = c.split.ensures.blocks ∙ ap (λ n. insert (slice_set c.args.self.now.blocks c.locate-k.result.0 (take 64 (block_at c.locate-k.result.0 c.args.self.now.blocks))) n (drop 64 (block_at c.locate-k.result.0 c.args.self.now.blocks))) (add-one c.locate-k.result.0) in
+    let count = split-count c.args.self.now.blocks c.locate-k.result.0 (take 64 (block_at c.locate-k.result.0 c.args.self.now.blocks)) (drop 64 (block_at c.locate-k.result.0 c.args.self.now.blocks)) c.locate-k.ensures.within in
     ap joined c.insert-else-place-le-HALF.ensures.blocks
-    ∙ joined-insert c.split.new.self.blocks (c.locate-k.result + 1) ((c.args.i - c.start.result) - 64) c.args.i c.args.x
-    (omega (arith, ap length there, count)) (omega (arith, ap₂ (λ n bs. length (block_at n bs)) (add-one c.locate-k.result) there, ap length (split-second c.args.self.now.blocks c.locate-k.result (take 64 (block_at c.locate-k.result c.args.self.now.blocks)) (drop 64 (block_at c.locate-k.result c.args.self.now.blocks)) c.locate-k.ensures.within), length-drop 64 (block_at c.locate-k.result c.args.self.now.blocks)))
+    ∙ joined-insert c.split.new.self.blocks (c.locate-k.result.0 + 1) (c.locate-k.result.1 - 64) c.args.i c.args.x
+    (omega (arith, ap length there, count)) (omega (arith, ap₂ (λ n bs. length (block_at n bs)) (add-one c.locate-k.result.0) there, ap length (split-second c.args.self.now.blocks c.locate-k.result.0 (take 64 (block_at c.locate-k.result.0 c.args.self.now.blocks)) (drop 64 (block_at c.locate-k.result.0 c.args.self.now.blocks)) c.locate-k.ensures.within), length-drop 64 (block_at c.locate-k.result.0 c.args.self.now.blocks)))
     (omega (
       arith,
-      ap₂ start_of (add-one c.locate-k.result) there,
-      start_of-suc (insert (slice_set c.args.self.now.blocks c.locate-k.result (take 64 (block_at c.locate-k.result c.args.self.now.blocks))) (suc c.locate-k.result) (drop 64 (block_at c.locate-k.result c.args.self.now.blocks))) c.locate-k.result (omega (arith, count)),
-      ap length (split-first c.args.self.now.blocks c.locate-k.result (take 64 (block_at c.locate-k.result c.args.self.now.blocks)) (drop 64 (block_at c.locate-k.result c.args.self.now.blocks)) c.locate-k.ensures.within),
-      length-take-le 64 (block_at c.locate-k.result c.args.self.now.blocks) (omega arith),
-      split-start c.args.self.now.blocks c.locate-k.result (take 64 (block_at c.locate-k.result c.args.self.now.blocks)) (drop 64 (block_at c.locate-k.result c.args.self.now.blocks)) c.locate-k.ensures.within,
+      ap₂ start_of (add-one c.locate-k.result.0) there,
+      start_of-suc (insert (slice_set c.args.self.now.blocks c.locate-k.result.0 (take 64 (block_at c.locate-k.result.0 c.args.self.now.blocks))) (suc c.locate-k.result.0) (drop 64 (block_at c.locate-k.result.0 c.args.self.now.blocks))) c.locate-k.result.0 (omega (arith, count)),
+      ap length (split-first c.args.self.now.blocks c.locate-k.result.0 (take 64 (block_at c.locate-k.result.0 c.args.self.now.blocks)) (drop 64 (block_at c.locate-k.result.0 c.args.self.now.blocks)) c.locate-k.ensures.within),
+      length-take-le 64 (block_at c.locate-k.result.0 c.args.self.now.blocks) (omega arith),
+      split-start c.args.self.now.blocks c.locate-k.result.0 (take 64 (block_at c.locate-k.result.0 c.args.self.now.blocks)) (drop 64 (block_at c.locate-k.result.0 c.args.self.now.blocks)) c.locate-k.ensures.within,
     ))
-    ∙ ap (λ xs. insert xs c.args.i c.args.x) (ap joined there ∙ joined-split c.args.self.now.blocks c.locate-k.result 64 c.locate-k.ensures.within)
+    ∙ ap (λ xs. insert xs c.args.i c.args.x) (ap joined there ∙ joined-split c.args.self.now.blocks c.locate-k.result.0 64 c.locate-k.ensures.within)
 
 pub returns-else-place-le-HALF-clause-debt : goal.returns-else-place-le-HALF-clause-debt
 returns-else-place-le-HALF-clause-debt g c =
     let size = ap length c.block.ensures.block in
     let most = is_block-most c.block.result.now c.block.ensures.kept in
-    let there = c.split.ensures.blocks ∙ ap (λ n. insert (slice_set c.args.self.now.blocks c.locate-k.result (take 64 (block_at c.locate-k.result c.args.self.now.blocks))) n (drop 64 (block_at c.locate-k.result c.args.self.now.blocks))) (add-one c.locate-k.result) in
+    let there = c.split.ensures.blocks ∙ ap (λ n. insert (slice_set c.args.self.now.blocks c.locate-k.result.0 (take 64 (block_at c.locate-k.result.0 c.args.self.now.blocks))) n (drop 64 (block_at c.locate-k.result.0 c.args.self.now.blocks))) (add-one c.locate-k.result.0) in
     omega (
       arith,
       ap debt c.insert-else-place-le-HALF.ensures.blocks,
       ap debt there,
-      debt-split c.args.self.now.blocks c.locate-k.result (take 64 (block_at c.locate-k.result c.args.self.now.blocks)) (drop 64 (block_at c.locate-k.result c.args.self.now.blocks)) c.locate-k.ensures.within (omega arith) (length-take-le 64 (block_at c.locate-k.result c.args.self.now.blocks) (omega arith)) (length-drop 64 (block_at c.locate-k.result c.args.self.now.blocks) ∙ (omega arith)),
-      debt-set c.split.new.self.blocks (c.locate-k.result + 1) 1 (insert (block_at (c.locate-k.result + 1) c.split.new.self.blocks) ((c.args.i - c.start.result) - 64) c.args.x)
-          (omega (arith, ap length there, split-count c.args.self.now.blocks c.locate-k.result (take 64 (block_at c.locate-k.result c.args.self.now.blocks)) (drop 64 (block_at c.locate-k.result c.args.self.now.blocks)) c.locate-k.ensures.within))
-          (omega (arith, length-insert (block_at (c.locate-k.result + 1) c.split.new.self.blocks) ((c.args.i - c.start.result) - 64) c.args.x (omega (arith, ap₂ (λ n bs. length (block_at n bs)) (add-one c.locate-k.result) there, ap length (split-second c.args.self.now.blocks c.locate-k.result (take 64 (block_at c.locate-k.result c.args.self.now.blocks)) (drop 64 (block_at c.locate-k.result c.args.self.now.blocks)) c.locate-k.ensures.within), length-drop 64 (block_at c.locate-k.result c.args.self.now.blocks))))),
+      debt-split c.args.self.now.blocks c.locate-k.result.0 (take 64 (block_at c.locate-k.result.0 c.args.self.now.blocks)) (drop 64 (block_at c.locate-k.result.0 c.args.self.now.blocks)) c.locate-k.ensures.within (omega arith) (length-take-le 64 (block_at c.locate-k.result.0 c.args.self.now.blocks) (omega arith)) (length-drop 64 (block_at c.locate-k.result.0 c.args.self.now.blocks) ∙ (omega arith)),
+      debt-set c.split.new.self.blocks (c.locate-k.result.0 + 1) 1 (insert (block_at (c.locate-k.result.0 + 1) c.split.new.self.blocks) (c.locate-k.result.1 - 64) c.args.x)
+          (omega (arith, ap length there, split-count c.args.self.now.blocks c.locate-k.result.0 (take 64 (block_at c.locate-k.result.0 c.args.self.now.blocks)) (drop 64 (block_at c.locate-k.result.0 c.args.self.now.blocks)) c.locate-k.ensures.within))
+          (omega (arith, length-insert (block_at (c.locate-k.result.0 + 1) c.split.new.self.blocks) (c.locate-k.result.1 - 64) c.args.x (omega (arith, ap₂ (λ n bs. length (block_at n bs)) (add-one c.locate-k.result.0) there, ap length (split-second c.args.self.now.blocks c.locate-k.result.0 (take 64 (block_at c.locate-k.result.0 c.args.self.now.blocks)) (drop 64 (block_at c.locate-k.result.0 c.args.self.now.blocks)) c.locate-k.ensures.within), length-drop 64 (block_at c.locate-k.result.0 c.args.self.now.blocks))))),
     )

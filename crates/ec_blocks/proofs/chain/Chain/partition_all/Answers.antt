@@ -6,7 +6,8 @@ use Rattle.std.specs.Vec.{vec_capacity}
 use Rattle.std.proofs.lemmas.List.{length-map}
 use Rattle.ec_blocks.specs.Chain.{joined, is_block, last_of}
 use Rattle.ec_blocks.proofs.StartLemmas.{start_of-suc, start_of-le, start_of-all}
-use Rattle.ec_blocks.proofs.ChainLemmas.{starts-count, lasts-count, start-is, block-is, kept-blocks, joined-most}
+use Rattle.ec_blocks.proofs.ChainLemmas.{starts-count, lasts-count, start-is, kept-blocks, joined-most}
+use Rattle.ec_blocks.proofs.EditLemmas.{old-list}
 use Rattle.ec_blocks.proofs.SearchLemmas.{lasts-parted, block-parted, found-within, found-behind}
 use Rattle.ec_blocks.proofs.chain.Chain.partition_all.Goals as goal
 
@@ -24,12 +25,16 @@ pub get-requires : goal.get-requires
 get-requires g c =
     omega (arith, starts-count (λ b. b.items) (λ b. vec_capacity b) _ _ _ _ c.self.invariant.0, lasts-count (λ b. b.items) (λ b. vec_capacity b) _ _ _ _ c.self.invariant.0, ap length c.deref.ensures.value)
 
+pub get-requires-2 : goal.get-requires-2
+get-requires-2 g c =
+    omega (arith, starts-count (λ b. b.items) (λ b. vec_capacity b) _ _ _ _ c.self.invariant.0, lasts-count (λ b. b.items) (λ b. vec_capacity b) _ _ _ _ c.self.invariant.0, ap length c.deref.ensures.value)
+
 pub returns-clause-bound : goal.returns-clause-bound
 returns-clause-bound g c =
     let within : c.cut-k.result < length c.args.self.now.blocks =
     omega (arith, lasts-count (λ b. b.items) (λ b. vec_capacity b) _ _ _ _ c.self.invariant.0, ap (λ v. length v.blocks) (sym c.self.view_is), length-map c.self.inside.blocks.items (λ b. b.items), ap length c.deref.ensures.value) in
-    let start = start-is (λ b. b.items) (λ b. vec_capacity b) _ _ _ _ c.self.invariant.0 c.args.self.now.blocks c.cut-k.result c.get.result (ap (λ v. v.blocks) c.self.view_is) within c.get.ensures in
-    let block = c.deref-2.ensures.value ∙ block-is (λ b. b.items) (λ b. vec_capacity b) c.self.inside.blocks.items c.args.self.now.blocks c.cut-k.result c.index.result.now (ap (λ v. v.blocks) c.self.view_is) within c.index.ensures in
+    let start = start-is (λ b. b.items) (λ b. vec_capacity b) _ _ _ _ c.self.invariant.0 c.args.self.now.blocks c.cut-k.result c.get-2.result (ap (λ v. v.blocks) c.self.view_is) within c.get-2.ensures in
+    let block = c.deref-2.ensures.value ∙ old-list (λ b. b.items) (λ b. vec_capacity b) c.self.inside.blocks.items c.self.inside.starts.items c.self.inside.lasts.items c.self.inside.spares.items c.self.invariant.0 c.args.self.now.blocks (ap (λ v. v.blocks) c.self.view_is) c.cut-k.result within c.get.result.now c.get.ensures in
     omega (
       arith,
       start,
@@ -55,8 +60,8 @@ returns-clause-partitioned g c p computes parted =
     let cut = c.cut-k.ensures.partitioned p computes (lasts-parted p c.args.self.now.blocks all parted c.deref.result.now are) in
     let within : c.cut-k.result < length c.args.self.now.blocks =
     omega (arith, lasts-count (λ b. b.items) (λ b. vec_capacity b) _ _ _ _ c.self.invariant.0, ap (λ v. length v.blocks) (sym c.self.view_is), length-map c.self.inside.blocks.items (λ b. b.items), ap length c.deref.ensures.value) in
-    let start = start-is (λ b. b.items) (λ b. vec_capacity b) _ _ _ _ c.self.invariant.0 c.args.self.now.blocks c.cut-k.result c.get.result (ap (λ v. v.blocks) c.self.view_is) within c.get.ensures in
-    let block = c.deref-2.ensures.value ∙ block-is (λ b. b.items) (λ b. vec_capacity b) c.self.inside.blocks.items c.args.self.now.blocks c.cut-k.result c.index.result.now (ap (λ v. v.blocks) c.self.view_is) within c.index.ensures in
+    let start = start-is (λ b. b.items) (λ b. vec_capacity b) _ _ _ _ c.self.invariant.0 c.args.self.now.blocks c.cut-k.result c.get-2.result (ap (λ v. v.blocks) c.self.view_is) within c.get-2.ensures in
+    let block = c.deref-2.ensures.value ∙ old-list (λ b. b.items) (λ b. vec_capacity b) c.self.inside.blocks.items c.self.inside.starts.items c.self.inside.lasts.items c.self.inside.spares.items c.self.invariant.0 c.args.self.now.blocks (ap (λ v. v.blocks) c.self.view_is) c.cut-k.result within c.get.result.now c.get.ensures in
     let point = c.cut-place.ensures.partitioned p computes (subst (λ (xs : List _). IsPartitionedBy p xs) (sym block) (block-parted p c.args.self.now.blocks all parted c.cut-k.result within)) in
     subst (λ (n : ℕ). IsPartitionPoint (λ x. p x ≡ true) (λ x. p x ≡ false) (joined c.args.self.now.blocks) (n + c.cut-place.result)) (sym start)
     (found-within p c.args.self.now.blocks all parted c.deref.result.now are c.cut-k.result c.cut-place.result within

@@ -4,7 +4,7 @@ use Rattle.std.specs.List.{remove}
 use Rattle.std.specs.Vec.{vec_capacity}
 use Rattle.std.proofs.lemmas.List.Edits.{length-remove}
 use Rattle.ec_blocks.proofs.ChainLemmas.{starts-count, starts-some, place-within}
-use Rattle.ec_blocks.proofs.EditLemmas.{old-list, edited, edited-less}
+use Rattle.ec_blocks.proofs.EditLemmas.{rooms-set, old-list, edited, edited-less}
 use Rattle.ec_blocks.proofs.CountLemmas.{counted-same, counted-small, owed-small, counted-part, owed-part, counted-set}
 use Rattle.ec_blocks.specs.Chain.{block_at}
 use Rattle.ec_blocks.proofs.chain.Chain.remove.Goals as goal
@@ -17,7 +17,7 @@ pub lower_behind-requires-clause-some : goal.lower_behind-requires-clause-some
 lower_behind-requires-clause-some g c = starts-some (λ b. b.items) (λ b. vec_capacity b) _ _ _ _ c.self.invariant.0 c.args.k
 
 pub returns-clause-blocks : goal.returns-clause-blocks
-returns-clause-blocks g c = edited (λ b. b.items) (λ b. vec_capacity b) c.self.inside.blocks.items c.self.inside.starts.items c.self.inside.lasts.items c.self.inside.spares.items c.self.invariant.0 c.args.self.now.blocks (ap (λ v. v.blocks) c.self.view_is) c.args.k c.requires.block c.index_mut.result.now c.index_mut.ensures.value (λ xs. remove xs c.args.place) c.remove_within-x.new.block c.remove_within-x.ensures.items
+returns-clause-blocks g c = edited (λ b. b.items) (λ b. vec_capacity b) c.self.inside.blocks.items c.self.inside.starts.items c.self.inside.lasts.items c.self.inside.spares.items c.self.invariant.0 c.args.self.now.blocks (ap (λ v. v.blocks) c.self.view_is) c.args.k c.requires.block c.get_mut-block.result.now c.get_mut-block.ensures.member (λ xs. remove xs c.args.place) c.remove_within-x.new.block c.remove_within-x.ensures.items
 
 pub change-requires-clause-counted : goal.change-requires-clause-counted
 change-requires-clause-counted g c = omega (arith, ap length c.block-len.ensures.block, counted-part c.args.self.now.blocks c.args.k c.self.inside.counts.total c.self.inside.counts.owed (counted-same _ _ _ _ (ap (λ v. v.blocks) c.self.view_is) c.self.invariant.2) c.requires.block)
@@ -33,17 +33,11 @@ change-requires-clause-owed_fits g c = omega (arith, ap length c.block-len.ensur
 
 pub invariant_of-self : goal.invariant_of-self
 invariant_of-self g c =
-    let list = old-list (λ b. b.items) (λ b. vec_capacity b) c.self.inside.blocks.items c.self.inside.starts.items c.self.inside.lasts.items c.self.inside.spares.items c.self.invariant.0 c.args.self.now.blocks (ap (λ v. v.blocks) c.self.view_is) c.args.k c.requires.block c.index_mut.result.now c.index_mut.ensures.value in (
-      edited-less (λ b. b.items) (λ b. vec_capacity b) c.self.inside.blocks.items c.self.inside.starts.items c.self.inside.lasts.items c.self.inside.spares.items c.self.invariant.0 c.args.self.now.blocks (ap (λ v. v.blocks) c.self.view_is) c.args.k c.requires.block c.index_mut.result.now c.index_mut.ensures.value c.remove_within-x.new.block c.index.result.now c.index.ensures c.deref.result.now c.deref.ensures.value c.keep_last.new.lasts.items c.keep_last.ensures.lasts c.remove_within-x.ensures.capacity c.lower_behind.new.self.items
-          (omega (arith, ap length c.remove_within-x.ensures.items, length-remove c.index_mut.result.now.items c.args.place (omega (arith, ap length list))))
+    let list = old-list (λ b. b.items) (λ b. vec_capacity b) c.self.inside.blocks.items c.self.inside.starts.items c.self.inside.lasts.items c.self.inside.spares.items c.self.invariant.0 c.args.self.now.blocks (ap (λ v. v.blocks) c.self.view_is) c.args.k c.requires.block c.get_mut-block.result.now c.get_mut-block.ensures.member in (
+      edited-less (λ b. b.items) (λ b. vec_capacity b) c.self.inside.blocks.items c.self.inside.starts.items c.self.inside.lasts.items c.self.inside.spares.items c.self.invariant.0 c.args.self.now.blocks (ap (λ v. v.blocks) c.self.view_is) c.args.k c.requires.block c.get_mut-block.result.now c.get_mut-block.ensures.member c.remove_within-x.new.block c.deref.result.now c.deref.ensures.value c.keep_last.new.lasts.items c.keep_last.ensures.lasts c.remove_within-x.ensures.capacity c.lower_behind.new.self.items
+          (omega (arith, ap length c.remove_within-x.ensures.items, length-remove c.get_mut-block.result.now.items c.args.place (omega (arith, ap length list))))
           (omega (arith, ap length list)) c.lower_behind.ensures.items,
-      record {
-        few = c.self.invariant.1.few;
-        blocks_fit = c.self.invariant.1.blocks_fit;
-        starts_fit = omega arith;
-        lasts_fit = omega arith;
-        spares_fit = c.self.invariant.1.spares_fit;
-      },
+      rooms-set c.self.inside.blocks.items c.args.k _ _ _ _ _ _ _ _ c.self.invariant.1 (omega arith) (omega arith),
       counted-set c.args.self.now.blocks _ c.args.k (remove (block_at c.args.k c.args.self.now.blocks) c.args.place) c.self.inside.counts.total c.self.inside.counts.owed _ _ (counted-same _ _ _ _ (ap (λ v. v.blocks) c.self.view_is) c.self.invariant.2) c.requires.block (returns-clause-blocks g c)
           (omega (arith, c.change.ensures.total, c.requires.others, ap length c.block-len.ensures.block, length-remove (block_at c.args.k c.args.self.now.blocks) c.args.place c.requires.place))
           (omega (arith, c.change.ensures.owed, c.requires.others, ap length c.block-len.ensures.block, length-remove (block_at c.args.k c.args.self.now.blocks) c.args.place c.requires.place)),

@@ -38,19 +38,22 @@ change-requires-clause-owed_fits g c = omega (arith, owed-small (λ b. b.items) 
 pub invariant_of-self : goal.invariant_of-self
 invariant_of-self g c =
     let rooms = c.self.invariant.1 in
-    let list = old-list (λ b. b.items) (λ b. vec_capacity b) c.self.inside.blocks.items c.self.inside.starts.items c.self.inside.lasts.items c.self.inside.spares.items c.self.invariant.0 c.args.self.now.blocks (ap (λ v. v.blocks) c.self.view_is) c.args.k c.requires.block c.remove-block.result c.remove-block.ensures.value in
-    let wide = old-room (λ b. b.items) (λ b. vec_capacity b) c.self.inside.blocks.items c.self.inside.starts.items c.self.inside.lasts.items c.self.inside.spares.items c.self.invariant.0 c.args.self.now.blocks (ap (λ v. v.blocks) c.self.view_is) c.args.k c.requires.block c.remove-block.result c.remove-block.ensures.value in
+    let within = place-within (λ b. b.items) (λ b. vec_capacity b) c.self.inside.blocks.items _ c.args.k (ap (λ v. v.blocks) c.self.view_is) c.requires.block in
+    let less = ap length c.remove-block.ensures.items in
+    let fewer = length-remove c.self.inside.blocks.items c.args.k within in
+    let list = old-list (λ b. b.items) (λ b. vec_capacity b) c.self.inside.blocks.items c.self.inside.starts.items c.self.inside.lasts.items c.self.inside.spares.items c.self.invariant.0 c.args.self.now.blocks (ap (λ v. v.blocks) c.self.view_is) c.args.k c.requires.block c.remove-block.result c.remove-block.ensures.member in
+    let wide = old-room (λ b. b.items) (λ b. vec_capacity b) c.self.inside.blocks.items c.self.inside.starts.items c.self.inside.lasts.items c.self.inside.spares.items c.self.invariant.0 c.args.self.now.blocks (ap (λ v. v.blocks) c.self.view_is) c.args.k c.requires.block c.remove-block.result c.remove-block.ensures.member in
     let none : c.remove_within-x.new.block.items ≡ [] =
     nil_from_length c.remove_within-x.new.block.items
     (omega (arith, ap length c.remove_within-x.ensures.items, length-remove c.remove-block.result.items 0 (omega (arith, ap length list)), ap length list)) in (
       gone (λ b. b.items) (λ b. vec_capacity b) c.self.inside.blocks.items c.self.inside.starts.items c.self.inside.lasts.items c.self.inside.spares.items c.self.invariant.0 c.args.self.now.blocks (ap (λ v. v.blocks) c.self.view_is) c.args.k c.requires.block c.requires.alone _ _ _ _ _ c.remove_within-x.new.block c.remove-block.ensures.items c.lower_behind.ensures.items c.remove.ensures.items c.remove-2.ensures.items
           c.push_reserved.ensures.items (is_spare-from (λ b. b.items) (λ b. vec_capacity b) c.self.inside.blocks.items c.self.inside.starts.items c.self.inside.lasts.items c.self.inside.spares.items c.self.invariant.0 c.args.self.now.blocks (ap (λ v. v.blocks) c.self.view_is) c.remove_within-x.new.block none (omega arith)),
       record {
-        few = omega arith;
-        blocks_fit = omega arith;
-        starts_fit = omega arith;
-        lasts_fit = omega arith;
-        spares_fit = omega arith;
+        few = omega (arith, less, fewer);
+        blocks_fit = omega (arith, less, fewer);
+        starts_fit = omega (arith, less, fewer);
+        lasts_fit = omega (arith, less, fewer);
+        spares_fit = omega (arith, less, fewer);
       },
       counted-remove c.args.self.now.blocks _ c.args.k c.self.inside.counts.total c.self.inside.counts.owed _ _ (counted-same _ _ _ _ (ap (λ v. v.blocks) c.self.view_is) c.self.invariant.2) c.requires.block (returns-clause-blocks g c)
           (omega (arith, c.change.ensures.total, c.requires.alone)) (omega (arith, c.change.ensures.owed, c.requires.alone)),

@@ -1,25 +1,19 @@
 -- A block that changes, and keeps its length.
 use Rattle.std.proofs.Common.{length, length-set, set, ap, ◌∙◌, arith}
 use Rattle.std.specs.Vec.{vec_capacity}
-use Rattle.ec_blocks.proofs.EditLemmas.{edited, edited-same}
+use Rattle.ec_blocks.proofs.EditLemmas.{rooms-set, edited, edited-same}
 use Rattle.ec_blocks.proofs.CountLemmas.{counted-same, counted-set}
 use Rattle.ec_blocks.specs.Chain.{block_at}
 use Rattle.ec_blocks.proofs.chain.Chain.set.Goals as goal
 
 pub returns-clause-blocks : goal.returns-clause-blocks
-returns-clause-blocks g c = edited (λ b. b.items) (λ b. vec_capacity b) c.self.inside.blocks.items c.self.inside.starts.items c.self.inside.lasts.items c.self.inside.spares.items c.self.invariant.0 c.args.self.now.blocks (ap (λ v. v.blocks) c.self.view_is) c.args.k c.requires.block c.index_mut.result.now c.index_mut.ensures.value (λ xs. set xs c.args.place c.args.x) c.put_within.new.block c.put_within.ensures.items
+returns-clause-blocks g c = edited (λ b. b.items) (λ b. vec_capacity b) c.self.inside.blocks.items c.self.inside.starts.items c.self.inside.lasts.items c.self.inside.spares.items c.self.invariant.0 c.args.self.now.blocks (ap (λ v. v.blocks) c.self.view_is) c.args.k c.requires.block c.get_mut-block.result.now c.get_mut-block.ensures.member (λ xs. set xs c.args.place c.args.x) c.put_within.new.block c.put_within.ensures.items
 
 pub invariant_of-self : goal.invariant_of-self
 invariant_of-self g c = (
-  edited-same (λ b. b.items) (λ b. vec_capacity b) c.self.inside.blocks.items c.self.inside.starts.items c.self.inside.lasts.items c.self.inside.spares.items c.self.invariant.0 c.args.self.now.blocks (ap (λ v. v.blocks) c.self.view_is) c.args.k c.requires.block c.index_mut.result.now c.index_mut.ensures.value c.put_within.new.block c.index.result.now c.index.ensures c.deref.result.now c.deref.ensures.value c.keep_last.new.lasts.items c.keep_last.ensures.lasts c.put_within.ensures.capacity
-      (ap length c.put_within.ensures.items ∙ length-set c.index_mut.result.now.items c.args.place c.args.x),
-  record {
-    few = c.self.invariant.1.few;
-    blocks_fit = c.self.invariant.1.blocks_fit;
-    starts_fit = omega arith;
-    lasts_fit = omega arith;
-    spares_fit = c.self.invariant.1.spares_fit;
-  },
+  edited-same (λ b. b.items) (λ b. vec_capacity b) c.self.inside.blocks.items c.self.inside.starts.items c.self.inside.lasts.items c.self.inside.spares.items c.self.invariant.0 c.args.self.now.blocks (ap (λ v. v.blocks) c.self.view_is) c.args.k c.requires.block c.get_mut-block.result.now c.get_mut-block.ensures.member c.put_within.new.block c.deref.result.now c.deref.ensures.value c.keep_last.new.lasts.items c.keep_last.ensures.lasts c.put_within.ensures.capacity
+      (ap length c.put_within.ensures.items ∙ length-set c.get_mut-block.result.now.items c.args.place c.args.x),
+  rooms-set c.self.inside.blocks.items c.args.k _ _ _ _ _ _ _ _ c.self.invariant.1 (omega arith) (omega arith),
   counted-set c.args.self.now.blocks _ c.args.k (set (block_at c.args.k c.args.self.now.blocks) c.args.place c.args.x) c.self.inside.counts.total c.self.inside.counts.owed _ _ (counted-same _ _ _ _ (ap (λ v. v.blocks) c.self.view_is) c.self.invariant.2) c.requires.block (returns-clause-blocks g c)
       (omega (arith, length-set (block_at c.args.k c.args.self.now.blocks) c.args.place c.args.x)) (omega (arith, length-set (block_at c.args.k c.args.self.now.blocks) c.args.place c.args.x)),
 )

@@ -1,8 +1,9 @@
 -- A full block becomes two.
-use Rattle.std.proofs.Common.{◌≡◌, ◌+◌, true, length, take, drop, map, sym, ap, ap₂, ◌∙◌, arith, refl, set, length-drop}
+use Rattle.std.proofs.Common.{◌≡◌, ◌+◌, true, length, take, drop, map, sym, ap, ap₂, ◌∙◌, arith, refl, set, length-set, length-drop}
 use Rattle.std.specs.List.{insert, list_all}
 use Rattle.std.specs.Vec.{vec_capacity}
 use Rattle.std.proofs.lemmas.List.{length-map, length-take-le}
+use Rattle.std.proofs.lemmas.List.Edits.{length-insert}
 use Rattle.ec_blocks.proofs.StartLemmas.{start_of-le, start_of-all}
 use Rattle.ec_blocks.proofs.ChainLemmas.{starts-count, place-within, start-is, kept-blocks, joined-most, map-insert}
 use Rattle.ec_blocks.proofs.EditLemmas.{old-list, edited, halved}
@@ -36,9 +37,9 @@ insert-requires-clause-room g c = let rooms = c.self.invariant.1 in omega (arith
 
 pub returns-clause-blocks : goal.returns-clause-blocks
 returns-clause-blocks g c =
-    ap (map (λ b. b.items)) c.insert_within.ensures.items ∙ map-insert (λ b. b.items) _ (c.args.k + 1) c.move_half.new.behind
-    ∙ ap₂ (λ us v. insert us (c.args.k + 1) v) (edited (λ b. b.items) (λ b. vec_capacity b) c.self.inside.blocks.items c.self.inside.starts.items c.self.inside.lasts.items c.self.inside.spares.items c.self.invariant.0 c.args.self.now.blocks (ap (λ v. v.blocks) c.self.view_is) c.args.k c.requires.block c.index_mut.result.now c.index_mut.ensures.value (take 64) c.move_half.new.block c.move_half.ensures.front)
-    (c.move_half.ensures.back ∙ ap (drop 64) (old-list (λ b. b.items) (λ b. vec_capacity b) c.self.inside.blocks.items c.self.inside.starts.items c.self.inside.lasts.items c.self.inside.spares.items c.self.invariant.0 c.args.self.now.blocks (ap (λ v. v.blocks) c.self.view_is) c.args.k c.requires.block c.index_mut.result.now c.index_mut.ensures.value))
+    ap (map (λ b. b.items)) c.insert-2.ensures.items ∙ map-insert (λ b. b.items) _ (c.args.k + 1) c.move_half.new.behind
+    ∙ ap₂ (λ us v. insert us (c.args.k + 1) v) (edited (λ b. b.items) (λ b. vec_capacity b) c.self.inside.blocks.items c.self.inside.starts.items c.self.inside.lasts.items c.self.inside.spares.items c.self.invariant.0 c.args.self.now.blocks (ap (λ v. v.blocks) c.self.view_is) c.args.k c.requires.block c.get_mut-block.result.now c.get_mut-block.ensures.member (take 64) c.move_half.new.block c.move_half.ensures.front)
+    (c.move_half.ensures.back ∙ ap (drop 64) (old-list (λ b. b.items) (λ b. vec_capacity b) c.self.inside.blocks.items c.self.inside.starts.items c.self.inside.lasts.items c.self.inside.spares.items c.self.invariant.0 c.args.self.now.blocks (ap (λ v. v.blocks) c.self.view_is) c.args.k c.requires.block c.get_mut-block.result.now c.get_mut-block.ensures.member))
 
 pub change-requires-clause-counted : goal.change-requires-clause-counted
 change-requires-clause-counted g c = omega (arith, c.requires.full, counted-part c.args.self.now.blocks c.args.k c.self.inside.counts.total c.self.inside.counts.owed (counted-same _ _ _ _ (ap (λ v. v.blocks) c.self.view_is) c.self.invariant.2) c.requires.block)
@@ -61,16 +62,19 @@ change-requires-2-clause-owed_fits g c = omega (arith, c.change.ensures.owed, ow
 pub invariant_of-self : goal.invariant_of-self
 invariant_of-self g c =
     let rooms = c.self.invariant.1 in
+    let same = length-set c.self.inside.blocks.items c.args.k c.move_half.new.block in
+    let within = place-within (λ b. b.items) (λ b. vec_capacity b) c.self.inside.blocks.items _ c.args.k (ap (λ v. v.blocks) c.self.view_is) c.requires.block in
+    let more = ap length c.insert-2.ensures.items ∙ length-insert (set c.self.inside.blocks.items c.args.k c.move_half.new.block) (c.args.k + 1) c.move_half.new.behind (omega (arith, same, within)) in
     let spares = ap (λ v. v.spares) c.self.view_is in (
-      halved (λ b. b.items) (λ b. vec_capacity b) c.self.inside.blocks.items c.self.inside.starts.items c.self.inside.lasts.items c.self.inside.spares.items c.self.invariant.0 c.args.self.now.blocks (ap (λ v. v.blocks) c.self.view_is) c.args.k c.requires.block c.index_mut.result.now c.index_mut.ensures.value c.move_half.new.block c.move_half.new.behind c.index.result.now c.deref.result.now c.get-start.result _ _ _ _ c.requires.full
+      halved (λ b. b.items) (λ b. vec_capacity b) c.self.inside.blocks.items c.self.inside.starts.items c.self.inside.lasts.items c.self.inside.spares.items c.self.invariant.0 c.args.self.now.blocks (ap (λ v. v.blocks) c.self.view_is) c.args.k c.requires.block c.get_mut-block.result.now c.get_mut-block.ensures.member c.move_half.new.block c.move_half.new.behind c.deref.result.now c.get-start.result _ _ _ _ c.requires.full
           c.move_half.ensures.front c.move_half.ensures.back c.move_half.ensures.capacity (omega arith)
-          c.index.ensures c.deref.ensures.value c.get-start.ensures c.insert_within.ensures.items c.insert.ensures.items c.insert_last.ensures.lasts c.take_spare-behind.ensures.spare,
+          c.deref.ensures.value c.get-start.ensures c.insert-2.ensures.items c.insert.ensures.items c.insert_last.ensures.lasts c.take_spare-behind.ensures.spare,
       record {
-        few = omega arith;
-        blocks_fit = omega arith;
-        starts_fit = omega arith;
-        lasts_fit = omega arith;
-        spares_fit = omega arith;
+        few = omega (arith, same, more);
+        blocks_fit = omega (arith, same, more);
+        starts_fit = omega (arith, same, more);
+        lasts_fit = omega (arith, same, more);
+        spares_fit = omega (arith, same, more);
       },
       counted-insert (set c.args.self.now.blocks c.args.k (take 64 (block_at c.args.k c.args.self.now.blocks))) _ (c.args.k + 1) (drop 64 (block_at c.args.k c.args.self.now.blocks)) c.change.new.self.total c.change.new.self.owed _ _
           (counted-set c.args.self.now.blocks _ c.args.k (take 64 (block_at c.args.k c.args.self.now.blocks)) c.self.inside.counts.total c.self.inside.counts.owed _ _ (counted-same _ _ _ _ (ap (λ v. v.blocks) c.self.view_is) c.self.invariant.2) c.requires.block refl
