@@ -1,18 +1,15 @@
 -- What the groups say of the added properties, and what they are when a property comes or goes.
-use Rattle.std.proofs.Common.{◌≡◌, ◌≢◌, ℕ, Bool, true, false, not, cond, ◌&&◌, ◌||◌, IsSome, List, [], filter, Option, Some, None, Vec, is_some, refl, sym, ap, ap₂, subst, ◌∙◌, ◌⊎◌, inl, inr, ⊎_elim, arith}
+use Rattle.std.proofs.Common.{◌≡◌, ◌≢◌, ℕ, Bool, true, false, not, cond, ◌&&◌, ◌||◌, IsSome, List, [], filter, Option, Some, None, is_some, refl, sym, ap, ap₂, subst, ◌∙◌, ◌⊎◌, inl, inr, ⊎_elim, arith}
 use Rattle.std.specs.Prelude.{◌==◌, option_map, bytes_eq}
 use Rattle.std.specs.List.{list_any}
 use Rattle.std.proofs.lemmas.Bool.{cases_Bool, false≢true}
-use Rattle.std.specs.Map.{lookup}
 use Rattle.std.proofs.lemmas.List.{get_or_past}
 use Rattle.std.proofs.Math.Bool.{or-false}
-use Rattle.indexmap.specs.IndexMap.{IndexMap}
 use Rattle.ec_lists.proofs.Options.{is_some-option_map}
 use Rattle.ec_lists.proofs.Tests.{list_any-same, list_any-map, list_any-and}
 use Rattle.ec_terms.specs.declared.ids.PropId.{PropId}
 use Rattle.ec_terms.specs.declared.ground.Ground.{Ground}
 use Rattle.ec_terms.specs.declared.theory.Theory.{Theory}
-use Rattle.ec_rows.specs.Ordered.{Reserved}
 use Rattle.ec_props.specs.Table.{KeptProp, prop_at, term_at}
 use Rattle.ec_numbered.specs.ByNumber.{kept_at}
 use Rattle.ec_numbered.specs.PropSet.{has_number, are_ascending, with_number, without_number}
@@ -21,7 +18,7 @@ use Rattle.ec_exclusive.specs.declared.forms.Form.{Form}
 use Rattle.ec_exclusive.specs.declared.rows.Row.{Row}
 use Rattle.ec_exclusive.specs.Added.{added_props, is_added, added_of, AreMutual}
 use Rattle.ec_exclusive.specs.Forms.{TermForm, form_in, form_kept, stands_under}
-use Rattle.ec_exclusive.specs.Groups.{is_member, in_group, is_among}
+use Rattle.ec_exclusive.specs.Groups.{Grouped, in_group, is_among}
 use Rattle.ec_exclusive.specs.Keys.{own_keys, other_keys, is_key}
 use Rattle.ec_exclusive.specs.Kept.{numbers_in, list_at, lists_of, list_with, list_left, view_of, AreKept}
 use Rattle.ec_exclusive.specs.Neighbours.{AreNeighbours, Neighbourhoods, both_exclusive, exclusive_at, excludes_at}
@@ -43,12 +40,12 @@ stands_under-form key n forms form is =
     ap (λ o. stands_under key (option_map form_in o)) is ∙ list_any-map (λ (t : List ℕ). bytes_eq t key) (λ text. text.items) form.keys.items
 
 -- nothing is kept
-pub AreKept-none : {Z S : Type 0} (lists : List (Option Row)) (forms : List (Option Form)) (groups : IndexMap (Vec ℕ Z) (Reserved PropId) S) → lists ≡ [] → forms ≡ [] → groups.entries ≡ [] →
+pub AreKept-none : (lists : List (Option Row)) (forms : List (Option Form)) (groups : List Grouped) → lists ≡ [] → forms ≡ [] → groups ≡ [] →
     AreKept lists forms groups
 AreKept-none lists forms groups no_lists no_forms no_groups = record {
   lists = AreMutual-none lists no_lists;
   both = λ q. ap (λ fs. is_some (kept_at q.0 fs)) no_forms ∙ none q.0 ∙ sym (ap (λ ls. is_some (list_at q ls)) no_lists ∙ no_list q.0);
-  grouped = λ key n. ap (λ es. is_member n (lookup (λ k. bytes_eq key k.items) es)) no_groups ∙ sym (ap (λ fs. stands_under key (form_kept n fs)) no_forms ∙ no_form key n);
+  grouped = λ key n. ap (λ gs. in_group gs key n) no_groups ∙ sym (ap (λ fs. stands_under key (form_kept n fs)) no_forms ∙ no_form key n);
 }
   where
     none : (n : ℕ) → is_some (kept_at {X = Form} n []) ≡ false
@@ -60,7 +57,7 @@ AreKept-none lists forms groups no_lists no_forms no_groups = record {
     no_form : (key : List ℕ) (n : ℕ) → stands_under key (form_kept n []) ≡ false
     no_form key n = ap (λ o. stands_under key (option_map form_in o)) (get_or_past {X = Option Form} [] n None (omega arith))
 
-module _ {Z S : Type 0} (lists : List (Option Row)) (forms : List (Option Form)) (groups : IndexMap (Vec ℕ Z) (Reserved PropId) S) (kept : AreKept lists forms groups) where
+module _ (lists : List (Option Row)) (forms : List (Option Form)) (groups : List Grouped) (kept : AreKept lists forms groups) where
   module _ (added : Neighbourhoods) (shown : view_of lists forms ≡ added) where
     rows_are : added_of (lists_of lists) ≡ added.rows
     rows_are = ap (λ (v : Neighbourhoods). v.rows) shown
@@ -137,7 +134,7 @@ module _ {Z S : Type 0} (lists : List (Option Row)) (forms : List (Option Form))
   equal : (m n : ℕ) → (m == n) ≡ true → n ≡ m
   equal m n e = grind arith
 
-  pub AreKept-with : (p : PropId) (own : List PropId) (new : List (Option Row)) (more : List (Option Form)) (form : Form) (entered : IndexMap (Vec ℕ Z) (Reserved PropId) S) →
+  pub AreKept-with : (p : PropId) (own : List PropId) (new : List (Option Row)) (more : List (Option Form)) (form : Form) (entered : List Grouped) →
       AreMutual (added_of (lists_of new)) → ((key : List ℕ) → in_group groups key p.0 ≡ false) → ((q : PropId) → list_at q new ≡ list_with p own q (list_at q lists)) →
       kept_at p.0 more ≡ Some form → ((n : ℕ) → n ≢ p.0 → kept_at n more ≡ kept_at n forms) →
       ((key : List ℕ) (n : ℕ) → in_group entered key n ≡ (((p.0 == n) && is_among form.keys.items key) || in_group groups key n)) → AreKept new more entered
@@ -166,7 +163,7 @@ module _ {Z S : Type 0} (lists : List (Option Row)) (forms : List (Option Form))
       inside true (Some ps) = refl
       inside false o = refl
 
-  pub AreKept-less : (p : PropId) (own : List PropId) (new : List (Option Row)) (less : List (Option Form)) (form : Form) (left : IndexMap (Vec ℕ Z) (Reserved PropId) S) →
+  pub AreKept-less : (p : PropId) (own : List PropId) (new : List (Option Row)) (less : List (Option Form)) (form : Form) (left : List Grouped) →
       AreMutual (added_of (lists_of new)) → ((q : PropId) → list_at q new ≡ list_left p own q (list_at q lists)) →
       kept_at p.0 forms ≡ Some form → kept_at p.0 less ≡ None → ((n : ℕ) → n ≢ p.0 → kept_at n less ≡ kept_at n forms) →
       ((key : List ℕ) (n : ℕ) → in_group left key n ≡ (not ((p.0 == n) && is_among form.keys.items key) && in_group groups key n)) → AreKept new less left
@@ -191,7 +188,7 @@ module _ {Z S : Type 0} (lists : List (Option Row)) (forms : List (Option Form))
       never false = refl
 
   -- rows and groups that say the same
-  pub AreKept-same : (new : List (Option Row)) (more : List (Option Form)) (other : IndexMap (Vec ℕ Z) (Reserved PropId) S) → added_of (lists_of new) ≡ added_of (lists_of lists) →
+  pub AreKept-same : (new : List (Option Row)) (more : List (Option Form)) (other : List Grouped) → added_of (lists_of new) ≡ added_of (lists_of lists) →
       ((q : PropId) → list_at q new ≡ list_at q lists) → ((n : ℕ) → kept_at n more ≡ kept_at n forms) → ((key : List ℕ) (n : ℕ) → in_group other key n ≡ in_group groups key n) → AreKept new more other
   AreKept-same new more other rows same_lists same_forms same_groups = record {
     lists = subst AreMutual (sym rows) kept.lists;

@@ -1,15 +1,13 @@
 -- Rows that are kept by number: the neighbours in them, and when one takes a number more.
-use Rattle.std.specs.Prelude.{◌≡◌, ℕ, Vec, is_some, ◌≤◌, ◌==◌, List, map, Option, Some, None, if◌then◌else◌, option_map}
+use Rattle.std.specs.Prelude.{◌≡◌, ℕ, is_some, ◌≤◌, ◌==◌, List, map, Option, Some, None, if◌then◌else◌, option_map}
 use Rattle.ec_terms.specs.declared.ids.PropId.{PropId}
 use Rattle.ec_numbered.specs.ByNumber.{kept_at}
 use Rattle.ec_numbered.specs.PropSet.{has_number, with_number, without_number}
 use Rattle.ec_exclusive.specs.declared.forms.Form.{Form}
 use Rattle.ec_exclusive.specs.declared.rows.Row.{Row}
-use Rattle.indexmap.specs.IndexMap.{IndexMap}
-use Rattle.ec_rows.specs.Ordered.{Reserved}
 use Rattle.ec_exclusive.specs.Added.{AreMutual, added_of, added_props}
 use Rattle.ec_exclusive.specs.Forms.{forms_of, form_kept, stands_under}
-use Rattle.ec_exclusive.specs.Groups.{in_group}
+use Rattle.ec_exclusive.specs.Groups.{Grouped, in_group}
 use Rattle.ec_exclusive.specs.Neighbours.{Neighbourhoods}
 
 -- the neighbours in a row
@@ -35,7 +33,7 @@ HasRoom (Some row) = 1 ≤ row.neighbours.spare
 
 -- What is kept of added properties: the neighbours are mutual, each added property has a form, and it stands in the groups
 -- of the keys of its form and in no other.
-pub record AreKept {Z S : Type 0} (rows : List (Option Row)) (forms : List (Option Form)) (groups : IndexMap (Vec ℕ Z) (Reserved PropId) S) : Type 0 where
+pub record AreKept (rows : List (Option Row)) (forms : List (Option Form)) (groups : List Grouped) : Type 0 where
   pub lists : AreMutual (added_of (lists_of rows))
   pub both : (q : PropId) → is_some (kept_at q.0 forms) ≡ is_some (list_at q rows)
   pub grouped : (key : List ℕ) (n : ℕ) → in_group groups key n ≡ stands_under key (form_kept n forms)

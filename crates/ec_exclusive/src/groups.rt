@@ -1,50 +1,76 @@
 //! Groups of properties by keys, in which the neighbours of a new property are found.
-ghost use Rattle.std.specs.Prelude.{◌≡◌, ◌==◌, ◌&&◌, ◌||◌, not, ℕ, List, true, false, IsSome, OnOk, OnErr, bytes_eq, if◌then◌else◌};
-ghost use Rattle.ec_props.specs.ByText.{found_at};
+ghost use Rattle.std.specs.Prelude.{◌≡◌, ◌==◌, ◌&&◌, ◌||◌, not, ℕ, [], List, true, false, OnOk, OnErr, bytes_eq, if◌then◌else◌};
 ghost use Rattle.ec_numbered.specs.PropSet.{has_number};
 ghost use Rattle.ec_exclusive.specs.Groups.{in_group, is_among};
 
-use ec_numbered::PropSet;
+use crate::group::{
+    Group, group_of, hash_of, is_empty_under, place_of, put_under, search, take_out_under,
+};
+use ec_keyed::KeyedSlots;
 use ec_terms::{NoMemory, PropId};
-use indexmap::IndexMap;
+use slab::Slab;
 use std::alloc::Global;
+use std::marker::Model;
 
-/// The properties of each group. A group that has none need not be there.
-pub(crate) type Groups = IndexMap<Vec<u8>, PropSet>;
+/// The properties of each group. A group that has none need not be there. The groups are found in the order of a hash of their
+/// keys, and where hashes are equal, of the keys: so no choice of keys makes a look-up slow.
+#[derive(Drop)]
+pub(crate) struct Groups {
+    records: Slab<Group>,
+    slots: KeyedSlots,
+}
+
+impl Model for Groups {
+    ghost use Rattle.std.specs.Prelude.{List};
+    ghost use Rattle.ec_exclusive.specs.Groups.{Grouped, groups_of, group_at, AreFoundByKey};
+
+    ghost Value = { List Grouped };
+
+    ghost view = { λ groups. groups_of (group_at groups.records) groups.slots.items };
+
+    ghost invariant = { λ groups. AreFoundByKey (group_at groups.records) groups.slots.items };
+}
+
+/// No groups.
+pub(crate) fn no_groups(alloc: Global) -> Groups
+    ensures { result ≡ [] }
+{
+    Groups {
+        records: Slab::new(alloc),
+        slots: KeyedSlots::new(alloc),
+    }
+}
 
 /// The properties in the group of a key, in the order of their numbers.
 pub(crate) fn members<'a>(groups: &'a Groups, key: &[u8]) -> &'a [PropId]
     ensures { (n : ℕ) → has_number n result.now ≡ in_group groups.now key.now n }
 {
-    match groups.get(key) {
-        Some(group) => group.as_slice(),
-        None => &[],
+    match search(&groups.records, &groups.slots, key) {
+        Ok(slot) => match groups.records.get(slot) {
+            Some(group) => group.members.as_slice(),
+            None => &[],
+        },
+        Err(_) => &[],
     }
 }
 
-/// Makes a group for a key, if there is none.
-fn open(groups: &mut Groups, alloc: Global, key: &[u8]) -> Result<(), NoMemory>
-    ensures same { (k : List ℕ) (n : ℕ) → in_group groups.new k n ≡ in_group groups.old k n }
-    ensures there { OnOk result (IsSome (found_at groups.new key.now)) }
-{
-    if groups.get(key).is_none() {
-        groups.insert(Vec::from_slice(alloc, key)?, PropSet::new(alloc))?;
-    }
-    Ok(())
-}
-
-/// Puts a property into the group of a key.
+/// Puts a property into the group of a key, which is opened if there is none.
 fn put(groups: &mut Groups, alloc: Global, key: &[u8], p: PropId) -> Result<(), NoMemory>
     ensures ok { OnOk result ((k : List ℕ) (n : ℕ) →
         in_group groups.new k n ≡ (if bytes_eq key.now k then (p.0 == n) || in_group groups.old k n else in_group groups.old k n)) }
     ensures err { OnErr result ((k : List ℕ) (n : ℕ) → in_group groups.new k n ≡ in_group groups.old k n) }
 {
-    open(groups, alloc, key)?;
-    if let Some(group) = groups.get_mut(key) {
-        group.reserve(1)?;
-        group.insert(p);
+    match search(&groups.records, &groups.slots, key) {
+        Ok(slot) => put_under(&mut groups.records, slot, p),
+        Err(place) => {
+            let group = group_of(alloc, key, p)?;
+            groups.records.reserve(1)?;
+            groups.slots.reserve(1)?;
+            let slot = groups.records.insert_reserved(group);
+            groups.slots.insert(place, hash_of(key), slot);
+            Ok(())
+        }
     }
-    Ok(())
 }
 
 /// Takes a property out of the group of a key.
@@ -52,8 +78,9 @@ fn take_out(groups: &mut Groups, key: &[u8], p: PropId)
     ensures { (k : List ℕ) (n : ℕ) →
         in_group groups.new k n ≡ (if bytes_eq key.now k then not (p.0 == n) && in_group groups.old k n else in_group groups.old k n) }
 {
-    if let Some(group) = groups.get_mut(key) {
-        group.remove(p);
+    match search(&groups.records, &groups.slots, key) {
+        Ok(slot) => take_out_under(&mut groups.records, slot, p),
+        Err(_) => (),
     }
 }
 
@@ -61,8 +88,12 @@ fn take_out(groups: &mut Groups, key: &[u8], p: PropId)
 fn close(groups: &mut Groups, key: &[u8])
     ensures { (k : List ℕ) (n : ℕ) → in_group groups.new k n ≡ in_group groups.old k n }
 {
-    if members(groups, key).is_empty() {
-        let _ = groups.swap_remove(key);
+    if let Ok(slot) = search(&groups.records, &groups.slots, key) {
+        if is_empty_under(&groups.records, slot) {
+            let place = place_of(&groups.records, &groups.slots, key);
+            let _ = groups.records.try_remove(slot);
+            groups.slots.remove(place);
+        }
     }
 }
 

@@ -2,6 +2,7 @@
 #![tactic(auto)]
 
 mod forms;
+mod group;
 mod groups;
 mod keys;
 mod laws;

@@ -10,13 +10,12 @@ ghost use Rattle.ec_exclusive.specs.Forms.{has_form as of_some_form};
 ghost use Rattle.ec_exclusive.specs.Neighbours.{AreNeighbours, exclusive_at};
 
 use crate::forms::{Form, form_of};
-use crate::groups::{Groups, enter, leave};
+use crate::groups::{Groups, enter, leave, no_groups};
 use crate::rows::{Row, add_row, make_room, remove_row};
 use crate::search::find_neighbours;
 use ec_numbered::ByNumber;
 use ec_props::PropTable;
 use ec_terms::{NoMemory, PropId, Theory};
-use indexmap::IndexMap;
 use std::alloc::Global;
 use std::marker::Model;
 
@@ -50,7 +49,7 @@ impl Neighbours {
         Ok(Neighbours {
             rows: ByNumber::new(alloc),
             forms: ByNumber::new(alloc),
-            groups: IndexMap::new(alloc),
+            groups: no_groups(alloc),
             alloc,
         })
     }
