@@ -75,17 +75,6 @@ impl<T: Drop> Tiers<T> {
         &mut self.members[place]
     }
 
-    /// Puts a member in place of the one at a place, and gives that one.
-    pub(crate) fn replace(&mut self, k: usize, x: T) -> T
-        requires { k < length self.old.items }
-        ensures member { slice_get self.old.items k ≡ Some result }
-        ensures items { self.new.items ≡ slice_set self.old.items k x }
-        ensures room { self.new.room ≡ self.old.room }
-    {
-        let place = place_of(&self.heads, k);
-        mem::replace(&mut self.members[place], x)
-    }
-
     /// Puts a member into a full group, and gives the one that is then beyond the end of the group.
     fn shift_in(&mut self, k: usize, x: T) -> T
         requires { 64 * (k / 64) + 64 ≤ length self.old.items }
