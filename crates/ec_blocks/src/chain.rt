@@ -127,8 +127,8 @@ impl<X: Copied + Drop> Chain<X> {
         ensures blocks { self.new.blocks ≡ slice_set self.old.blocks k (insert (block_at k self.old.blocks) place x) }
         ensures spares { self.new.spares ≡ self.old.spares }
     {
-        let len = self.block(k).len();
         let block = self.blocks.get_mut(k);
+        let len = block.len();
         insert_within(block, place, x);
         keep_last(block, &mut self.lasts, k);
         self.starts.raise_behind(k);
@@ -234,8 +234,8 @@ impl<X: Copied + Drop> Chain<X> {
         ensures blocks { self.new.blocks ≡ slice_set self.old.blocks k (remove (block_at k self.old.blocks) place) }
         ensures spares { self.new.spares ≡ self.old.spares }
     {
-        let len = self.block(k).len();
         let block = self.blocks.get_mut(k);
+        let len = block.len();
         let x = remove_within(block, place);
         keep_last(block, &mut self.lasts, k);
         self.starts.lower_behind(k);

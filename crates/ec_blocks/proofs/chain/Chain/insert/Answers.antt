@@ -26,16 +26,16 @@ pub returns-clause-blocks : goal.returns-clause-blocks
 returns-clause-blocks g c = edited (λ b. b.items) (λ b. vec_capacity b) c.self.inside.blocks.items c.self.inside.starts.items c.self.inside.lasts.items c.self.inside.spares.items c.self.invariant.0 c.args.self.now.blocks (ap (λ v. v.blocks) c.self.view_is) c.args.k c.requires.block c.get_mut-block.result.now c.get_mut-block.ensures.member (λ xs. insert xs c.args.place c.args.x) c.insert_within.new.block c.insert_within.ensures.items
 
 pub change-requires-clause-counted : goal.change-requires-clause-counted
-change-requires-clause-counted g c = omega (arith, ap length c.block-len.ensures.block, counted-part c.args.self.now.blocks c.args.k c.self.inside.counts.total c.self.inside.counts.owed (counted-same _ _ _ _ (ap (λ v. v.blocks) c.self.view_is) c.self.invariant.2) c.requires.block)
+change-requires-clause-counted g c = omega (arith, ap length (old-list (λ b. b.items) (λ b. vec_capacity b) c.self.inside.blocks.items c.self.inside.starts.items c.self.inside.lasts.items c.self.inside.spares.items c.self.invariant.0 c.args.self.now.blocks (ap (λ v. v.blocks) c.self.view_is) c.args.k c.requires.block c.get_mut-block.result.now c.get_mut-block.ensures.member), counted-part c.args.self.now.blocks c.args.k c.self.inside.counts.total c.self.inside.counts.owed (counted-same _ _ _ _ (ap (λ v. v.blocks) c.self.view_is) c.self.invariant.2) c.requires.block)
 
 pub change-requires-clause-owing : goal.change-requires-clause-owing
-change-requires-clause-owing g c = omega (arith, ap length c.block-len.ensures.block, owed-part c.args.self.now.blocks c.args.k c.self.inside.counts.total c.self.inside.counts.owed (counted-same _ _ _ _ (ap (λ v. v.blocks) c.self.view_is) c.self.invariant.2) c.requires.block)
+change-requires-clause-owing g c = omega (arith, ap length (old-list (λ b. b.items) (λ b. vec_capacity b) c.self.inside.blocks.items c.self.inside.starts.items c.self.inside.lasts.items c.self.inside.spares.items c.self.invariant.0 c.args.self.now.blocks (ap (λ v. v.blocks) c.self.view_is) c.args.k c.requires.block c.get_mut-block.result.now c.get_mut-block.ensures.member), owed-part c.args.self.now.blocks c.args.k c.self.inside.counts.total c.self.inside.counts.owed (counted-same _ _ _ _ (ap (λ v. v.blocks) c.self.view_is) c.self.invariant.2) c.requires.block)
 
 pub change-requires-clause-fits : goal.change-requires-clause-fits
-change-requires-clause-fits g c = omega (arith, ap length c.block-len.ensures.block, c.requires.room, counted-small (λ b. b.items) (λ b. vec_capacity b) _ _ _ c.self.invariant.0.kept (let few = c.self.invariant.1.few in omega arith) c.self.invariant.2)
+change-requires-clause-fits g c = omega (arith, ap length (old-list (λ b. b.items) (λ b. vec_capacity b) c.self.inside.blocks.items c.self.inside.starts.items c.self.inside.lasts.items c.self.inside.spares.items c.self.invariant.0 c.args.self.now.blocks (ap (λ v. v.blocks) c.self.view_is) c.args.k c.requires.block c.get_mut-block.result.now c.get_mut-block.ensures.member), c.requires.room, counted-small (λ b. b.items) (λ b. vec_capacity b) _ _ _ c.self.invariant.0.kept (let few = c.self.invariant.1.few in omega arith) c.self.invariant.2)
 
 pub change-requires-clause-owed_fits : goal.change-requires-clause-owed_fits
-change-requires-clause-owed_fits g c = omega (arith, ap length c.block-len.ensures.block, c.requires.room, owed-small (λ b. b.items) (λ b. vec_capacity b) _ _ _ c.self.invariant.0.kept (let few = c.self.invariant.1.few in omega arith) c.self.invariant.2)
+change-requires-clause-owed_fits g c = omega (arith, ap length (old-list (λ b. b.items) (λ b. vec_capacity b) c.self.inside.blocks.items c.self.inside.starts.items c.self.inside.lasts.items c.self.inside.spares.items c.self.invariant.0 c.args.self.now.blocks (ap (λ v. v.blocks) c.self.view_is) c.args.k c.requires.block c.get_mut-block.result.now c.get_mut-block.ensures.member), c.requires.room, owed-small (λ b. b.items) (λ b. vec_capacity b) _ _ _ c.self.invariant.0.kept (let few = c.self.invariant.1.few in omega arith) c.self.invariant.2)
 
 pub invariant_of-self : goal.invariant_of-self
 invariant_of-self g c =
@@ -45,6 +45,6 @@ invariant_of-self g c =
           (omega (arith, ap length list)) c.raise_behind.ensures.items,
       rooms-set c.self.inside.blocks.items c.args.k _ _ _ _ _ _ _ _ c.self.invariant.1 (omega arith) (omega arith),
       counted-set c.args.self.now.blocks _ c.args.k (insert (block_at c.args.k c.args.self.now.blocks) c.args.place c.args.x) c.self.inside.counts.total c.self.inside.counts.owed _ _ (counted-same _ _ _ _ (ap (λ v. v.blocks) c.self.view_is) c.self.invariant.2) c.requires.block (returns-clause-blocks g c)
-          (omega (arith, c.change.ensures.total, ap length c.block-len.ensures.block, length-insert (block_at c.args.k c.args.self.now.blocks) c.args.place c.args.x c.requires.place))
-          (omega (arith, c.change.ensures.owed, ap length c.block-len.ensures.block, length-insert (block_at c.args.k c.args.self.now.blocks) c.args.place c.args.x c.requires.place)),
+          (omega (arith, c.change.ensures.total, ap length (old-list (λ b. b.items) (λ b. vec_capacity b) c.self.inside.blocks.items c.self.inside.starts.items c.self.inside.lasts.items c.self.inside.spares.items c.self.invariant.0 c.args.self.now.blocks (ap (λ v. v.blocks) c.self.view_is) c.args.k c.requires.block c.get_mut-block.result.now c.get_mut-block.ensures.member), length-insert (block_at c.args.k c.args.self.now.blocks) c.args.place c.args.x c.requires.place))
+          (omega (arith, c.change.ensures.owed, ap length (old-list (λ b. b.items) (λ b. vec_capacity b) c.self.inside.blocks.items c.self.inside.starts.items c.self.inside.lasts.items c.self.inside.spares.items c.self.invariant.0 c.args.self.now.blocks (ap (λ v. v.blocks) c.self.view_is) c.args.k c.requires.block c.get_mut-block.result.now c.get_mut-block.ensures.member), length-insert (block_at c.args.k c.args.self.now.blocks) c.args.place c.args.x c.requires.place)),
     )
