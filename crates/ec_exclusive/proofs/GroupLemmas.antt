@@ -24,13 +24,6 @@ use Rattle.ec_numbered.proofs.Numbers.{has_number-filter, has_number-with_number
 use Rattle.ec_exclusive.proofs.KeptLists.{numbered}
 use Rattle.ec_exclusive.specs.Groups.{Grouped, is_member, in_group, is_among, with_member, without_member, key_at, groups_of, hash_of, slot_by_key, AreFoundByKey}
 
--- where two keys are the same
-is_eq-key : (a b : List ℕ) → is_eq (name_cmp a b) ≡ bytes_eq a b
-is_eq-key a b = sym (texts_ties a b)
-
-same-key : (a b : List ℕ) → bytes_eq a b ≡ true → a ≡ b
-same-key a b is = (bytes_eq-Decides a b).0 is
-
 -- the group under a slot that there may be
 abbrev group_under : (ℕ → Option Grouped) → Option ℕ → Option Grouped
 group_under at None = None
@@ -66,7 +59,7 @@ module _ (at : ℕ → Option Grouped) where
       of_group None is behind = behind
       of_group (Some g) is behind =
           of_same g (is_eq (name_cmp g.key key)) is
-          ∙ ap₂ (λ b o. cond b (Some g) o) (is_eq-key g.key key) behind
+          ∙ ap₂ (λ b o. cond b (Some g) o) (sym (texts_ties g.key key)) behind
 
   in_group-under : (key : List ℕ) (n : ℕ) (slots : List KeyedSlot) → in_group (groups_of at slots) key n ≡ is_member n (group_under at (slot_by_key at slots key))
   in_group-under key n slots = ap (is_member n) (sym (under-found key slots))
@@ -90,7 +83,7 @@ module _ (at : ℕ → Option Grouped) where
           (slot_by_key at ms key ≡ Some slot → key_at at slot ≡ Some key) → key_at at slot ≡ Some key
       of_same name true there same is behind =
           let slots_same : m.slot ≡ slot = cc in
-          ap (key_at at) (sym slots_same) ∙ there ∙ ap Some (same-key name key (sym (is_eq-key name key) ∙ same))
+          ap (key_at at) (sym slots_same) ∙ there ∙ ap Some ((bytes_eq-Decides name key).0 (texts_ties name key ∙ same))
       of_same name false there same is behind = behind is
 
       of_key : (o : Option (List ℕ)) → key_at at m.slot ≡ o →
@@ -104,7 +97,7 @@ module _ (at : ℕ → Option Grouped) where
       in_group (groups_of at slots) k n ≡ cond (bytes_eq key k) (not (p.0 == n) && in_group (groups_of at slots) k n) (in_group (groups_of at slots) k n)
   in_group-missing key p slots absent k n =
       missing (bytes_eq key k) (in_group (groups_of at slots) k n) (p.0 == n)
-      (λ e. ap (λ t. in_group (groups_of at slots) t n) (sym (same-key key k e)) ∙ in_group-absent_key key n slots absent)
+      (λ e. ap (λ t. in_group (groups_of at slots) t n) (sym ((bytes_eq-Decides key k).0 e)) ∙ in_group-absent_key key n slots absent)
     where
       missing : (b x t : Bool) → (b ≡ true → x ≡ false) → x ≡ cond b (not t && x) x
       missing true true t none = absurd (false≢true (sym (none refl)))
@@ -161,7 +154,7 @@ module _ (at : ℕ → Option Grouped) (slots : List KeyedSlot) (are : AreFoundB
         same_slot k =
             ap (λ (f : ℕ → Option (List ℕ)). slot_under name_cmp f slots k) (λ i n. keys n i)
             ∙ ⊎_elim
-            (λ e. ap (slot_by_key at slots) (sym (same-key key k e)) ∙ there ∙ sym (ap (λ b. cond b (Some slot) (slot_by_key at slots k)) e))
+            (λ e. ap (slot_by_key at slots) (sym ((bytes_eq-Decides key k).0 e)) ∙ there ∙ sym (ap (λ b. cond b (Some slot) (slot_by_key at slots k)) e))
             (λ e. sym (ap (λ b. cond b (Some slot) (slot_by_key at slots k)) e))
             (cases_Bool (bytes_eq key k))
 
@@ -172,7 +165,7 @@ module _ (at : ℕ → Option Grouped) (slots : List KeyedSlot) (are : AreFoundB
 
         -- what stood in the group of the key
         was : (k : List ℕ) (n : ℕ) → bytes_eq key k ≡ true → is_member n (at slot) ≡ in_group (groups_of at slots) k n
-        was k n e = sym (in_group-at at key n slots slot there) ∙ ap (λ t. in_group (groups_of at slots) t n) (same-key key k e)
+        was k n e = sym (in_group-at at key n slots slot there) ∙ ap (λ t. in_group (groups_of at slots) t n) ((bytes_eq-Decides key k).0 e)
 
         -- of two choices the first may rest on the test
         chosen : (b x y z : Bool) → (b ≡ true → x ≡ y) → cond b x z ≡ cond b y z
@@ -241,9 +234,9 @@ module _ (at : ℕ → Option Grouped) (slots : List KeyedSlot) (are : AreFoundB
           in_group-opened k n =
               in_group-under new k n new_slots
               ∙ ap (λ o. is_member n (group_under new o)) (slot_under-insert hash_of name_cmp nat_list_cmp_total exact_bytes (key_at at) (key_at new) slots new_slots are i within slot key cut other_keys absent key_free key_there is k
-              ∙ ap (λ b. cond b (Some slot) (slot_by_key at slots k)) (is_eq-key key k))
+              ∙ ap (λ b. cond b (Some slot) (slot_by_key at slots k)) (sym (texts_ties key k)))
               ∙ by_test k n (bytes_eq key k) (Some slot) ((p.0 == n) || false) (ap (is_member n) there ∙ has_number-with_number (numbered n) p []) (λ e. apart-free k)
-              ∙ of_none (bytes_eq key k) (λ e. ap (λ t. in_group (groups_of at slots) t n) (sym (same-key key k e)) ∙ in_group-absent_key at key n slots absent)
+              ∙ of_none (bytes_eq key k) (λ e. ap (λ t. in_group (groups_of at slots) t n) (sym ((bytes_eq-Decides key k).0 e)) ∙ in_group-absent_key at key n slots absent)
             where
               of_none : (b : Bool) → (b ≡ true → in_group (groups_of at slots) k n ≡ false) →
                   cond b ((p.0 == n) || false) (in_group (groups_of at slots) k n) ≡ cond b ((p.0 == n) || in_group (groups_of at slots) k n) (in_group (groups_of at slots) k n)
@@ -264,9 +257,9 @@ module _ (at : ℕ → Option Grouped) (slots : List KeyedSlot) (are : AreFoundB
             in_group-closed empty k n =
                 in_group-under new k n new_slots
                 ∙ ap (λ o. is_member n (group_under new o)) (slot_under-remove hash_of name_cmp nat_list_cmp_total exact_bytes (key_at at) (key_at new) slots new_slots are i within slot key cut other_keys (ap is_some there) (key-live at key slots slot there) is k
-                ∙ ap (λ b. cond b None (slot_by_key at slots k)) (is_eq-key key k))
+                ∙ ap (λ b. cond b None (slot_by_key at slots k)) (sym (texts_ties key k)))
                 ∙ by_test k n (bytes_eq key k) None false refl (apart-live key k (key-live at key slots slot there))
-                ∙ of_none (bytes_eq key k) (λ e. ap (λ t. in_group (groups_of at slots) t n) (sym (same-key key k e)) ∙ in_group-at at key n slots slot there ∙ empty n)
+                ∙ of_none (bytes_eq key k) (λ e. ap (λ t. in_group (groups_of at slots) t n) (sym ((bytes_eq-Decides key k).0 e)) ∙ in_group-at at key n slots slot there ∙ empty n)
               where
                 of_none : (b : Bool) → (b ≡ true → in_group (groups_of at slots) k n ≡ false) → cond b false (in_group (groups_of at slots) k n) ≡ in_group (groups_of at slots) k n
                 of_none true none = sym (none refl)

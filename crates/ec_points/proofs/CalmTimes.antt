@@ -12,11 +12,9 @@ use Rattle.ec_lists.proofs.Partitions.{IsCut}
 use Rattle.ec_lists.proofs.Tests.{list_any-none}
 use Rattle.ec_rows.proofs.OrderedLemmas.{IsPartitionedBy-ascending}
 use Rattle.ec_points.specs.declared.clashes.Clash.{Clash}
+use Rattle.ec_rows.proofs.TimeLemmas.{before_too-then}
 use Rattle.ec_points.specs.Clashes.{are_clashes, clash_cmp, has_clash, is_clash_of}
 use Rattle.ec_points.proofs.ClashLemmas.{IsPartitionedBy-up_to}
-
-earlier-before : (a b t : ℤ) (o : Ordering) → is_lt (ordering_then (int_cmp a b) o) ≡ true → int_lt b t ≡ true → int_lt a t ≡ true
-earlier-before a b t o = grind (arith, ints)
 
 -- a clash at another time
 not-earlier : (a t : ℤ) (m n : ℕ) → int_lt a t ≡ true → not ((m == n) && int_eq a t) ≡ true
@@ -33,7 +31,7 @@ module _ {T : Type 0} (rank : T → ℤ) (t : ℤ) (cs : List (Clash T)) (order 
   -- the earlier clashes come first
   pub IsPartitionedBy-earlier : IsPartitionedBy (λ c. int_lt (rank c.at) t) cs
   IsPartitionedBy-earlier =
-      IsPartitionedBy-ascending (λ c d. is_lt (clash_cmp rank c d)) (λ c. int_lt (rank c.at) t) (λ x y. earlier-before (rank x.at) (rank y.at) t (nat_cmp x.p.0 y.p.0)) cs order
+      IsPartitionedBy-ascending (λ c d. is_lt (clash_cmp rank c d)) (λ c. int_lt (rank c.at) t) (λ x y. before_too-then (rank x.at) (rank y.at) t (nat_cmp x.p.0 y.p.0)) cs order
 
   module _ (i : ℕ) (cut : IsCut (λ c. int_lt (rank c.at) t) cs i) where
     -- all are earlier

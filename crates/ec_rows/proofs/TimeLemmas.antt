@@ -26,7 +26,7 @@ pub place_cmp-total : IsTotalOrder place_cmp
 place_cmp-total = then_total (on_total (λ (p : ℤ × List ℕ). p.0) int_cmp_total) (on_total (λ (p : ℤ × List ℕ). p.1) nat_list_cmp_total)
 
 -- what comes no later than what is before t is before t
-before_too-then : (a b t : ℤ) (o : Ordering) → is_lt (ordering_then (int_cmp a b) o) ≡ true → int_lt b t ≡ true → int_lt a t ≡ true
+pub before_too-then : (a b t : ℤ) (o : Ordering) → is_lt (ordering_then (int_cmp a b) o) ≡ true → int_lt b t ≡ true → int_lt a t ≡ true
 before_too-then a b t o = grind (arith, ints)
 
 module _ {T : Type 0} (rank : T → ℤ) where
