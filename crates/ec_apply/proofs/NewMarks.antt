@@ -31,11 +31,11 @@ use Rattle.ec_points.specs.Clashes.{is_clash, new_clashes}
 use Rattle.ec_points.specs.Table.{PointTable, marks_at, marks_in, row_at}
 use Rattle.ec_numbered.specs.PropSet.{has_number}
 use Rattle.ec_props.specs.Table.{KeptProp, prop_at, term_at}
-use Rattle.ec_parts.specs.Caches.{AreInitiationsOf, AreMarksOf, initiations_of}
+use Rattle.ec_parts.specs.Caches.{AreInitiationsOf, AreMarksOf, kept_initiations}
 use Rattle.ec_parts.proofs.Mentioned.{kept_term}
 use Rattle.ec_delta.specs.declared.delta.Planned.{Planned}
 use Rattle.ec_delta.specs.Ready.{AreMarksPlanned, initiation_at, mark_made}
-use Rattle.ec_apply.proofs.PlainRows.{AreInOrder-marks_of, AreInOrder-initiations_of, plain_at-marks_of, plain_at-initiations_of}
+use Rattle.ec_apply.proofs.PlainRows.{AreInOrder-marks_of, AreInOrder-kept_initiations, plain_at-marks_of, plain_at-kept_initiations}
 use Rattle.ec_apply.proofs.ChangedRows.{IsMarkRow-marks_of, count_of-none, row-changed}
 
 -- the times of some marks, and of some changes, as whole numbers
@@ -78,9 +78,9 @@ module _ {T : Type 0} (rank : T → ℤ) (law : ChangesAreMade rank) (theory : T
       → AreInitiationsOf rank theory new table points'
   AreInitiationsOf-changed points points' apart marks made others = record {
     marks = λ n p kept. ap (plain_marks rank) (made n)
-        ∙ row-changed rank law planned.initiations apart n (marks_at n points) (initiations_of theory old p) (initiations_of theory new p) (initiation_at theory old p) (initiation_at theory new p)
-        (marks.marks n p kept) (AreInOrder-initiations_of theory old p history_old) (AreInOrder-initiations_of theory new p history_new)
-        (plain_at-initiations_of theory old p history_old) (plain_at-initiations_of theory new p history_new) (λ t. marks_planned.initiations n p t kept);
+        ∙ row-changed rank law planned.initiations apart n (marks_at n points) (kept_initiations theory old p) (kept_initiations theory new p) (initiation_at theory old p) (initiation_at theory new p)
+        (marks.marks n p kept) (AreInOrder-kept_initiations theory old p history_old) (AreInOrder-kept_initiations theory new p history_new)
+        (plain_at-kept_initiations theory old p history_old) (plain_at-kept_initiations theory new p history_new) (λ t. marks_planned.initiations n p t kept);
     none = none-changed table planned.initiations points points' marks_planned.starts_of_kept others marks.none;
   }
 

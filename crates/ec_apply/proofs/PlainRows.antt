@@ -15,9 +15,10 @@ use Rattle.ec_axioms.proofs.HistoryMarks.{AreAllMarked-mark_at, instant-mark_at}
 use Rattle.ec_axioms.proofs.Instants.{IsPairwise-from_ascending, is_ascending-instants_of}
 use Rattle.ec_axioms.proofs.Members.{IsMember, IsMember-filter, IsMember-from_filter, IsMember-from_map, IsMember-map, IsPairwise, IsPairwise-filter, IsPairwise-map, IsPairwise-weaker, find-None, find-Some}
 use Rattle.ec_axioms.proofs.MarkLaws.{is_marked-initiates}
+use Rattle.ec_exclusive.specs.Forms.{breaks_by_initiation}
 use Rattle.ec_rows.proofs.KnownByTimes.{by_time-ext}
 use Rattle.ec_rows.proofs.OrderedPairs.{ascending-from_pairwise}
-use Rattle.ec_parts.specs.Caches.{initiations_of, initiations_of_mark}
+use Rattle.ec_parts.specs.Caches.{initiations_of, initiations_of_mark, kept_initiations}
 use Rattle.ec_delta.specs.Ready.{initiation_at}
 
 -- the plain mark at an instant, if there is one
@@ -141,13 +142,32 @@ module _ (theory : Theory) (events : List PlainEvent) (p : Ground) (history : Is
 
   -- ---- the initiations of a history
 
-  pub AreInOrder-initiations_of : AreInOrder (initiations_of theory events p)
+  AreInOrder-initiations_of : AreInOrder (initiations_of theory events p)
   AreInOrder-initiations_of =
       IsPairwise-map (λ (m n : PlainMark). IsTrue (int_lt m.instant n.instant)) initiations_of_mark (filter mark_initiates (marks_of theory events p))
       (IsPairwise-filter (λ (m n : PlainMark). IsTrue (int_lt m.instant n.instant)) mark_initiates (marks_of theory events p) AreInOrder-marks_of)
 
-  pub plain_at-initiations_of : (t : ℤ) → plain_at t (initiations_of theory events p) ≡ if_marked (initiation_at theory events p t)
+  -- an initiation alone, of so many, where they are kept
+  abbrev bare_if : Bool → ℤ → PlainMark
+  bare_if kept t = record { instant = t; inits = cond kept (mark_at theory events p t).inits 0; terms = 0; clashes = 0 }
+
+  plain_at-initiations_of : (t : ℤ) → plain_at t (initiations_of theory events p) ≡ if_marked (bare_if true t)
   plain_at-initiations_of t =
       find-map (λ (m : PlainMark). int_eq m.instant t) initiations_of_mark (filter mark_initiates (marks_of theory events p))
       ∙ ap (option_map initiations_of_mark) (plain_at-initiating t (marks_of theory events p) AreInOrder-marks_of ∙ ap keep_initiating (plain_at-marks_of t))
       ∙ initiation_kept (mark_at theory events p t) t (instant-mark_at theory events p t)
+
+  -- they are kept, or none are
+  pub AreInOrder-kept_initiations : AreInOrder (kept_initiations theory events p)
+  AreInOrder-kept_initiations = each (breaks_by_initiation theory p)
+    where
+      each : (b : Bool) → AreInOrder (cond b (initiations_of theory events p) [])
+      each true = AreInOrder-initiations_of
+      each false = tt
+
+  pub plain_at-kept_initiations : (t : ℤ) → plain_at t (kept_initiations theory events p) ≡ if_marked (initiation_at theory events p t)
+  plain_at-kept_initiations t = each (breaks_by_initiation theory p)
+    where
+      each : (b : Bool) → plain_at t (cond b (initiations_of theory events p) []) ≡ if_marked (bare_if b t)
+      each true = plain_at-initiations_of t
+      each false = refl

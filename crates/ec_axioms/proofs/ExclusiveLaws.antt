@@ -1,11 +1,12 @@
--- A property is broken wherever one that is exclusive to it begins, in both directions.
-use Rattle.std.proofs.Common.{◌≡◌, ℤ, Bool, List, filter, flat_map, IsTrue, sym, subst, arith}
+-- A property is broken wherever one that is exclusive to it begins, in both directions; and what nothing is exclusive to is ended by terminations alone,
+-- unless it is strong.
+use Rattle.std.proofs.Common.{◌≡◌, ℤ, Bool, List, filter, flat_map, IsTrue, IsFalse, sym, subst, arith}
 use Rattle.std.specs.Ordering.{int_eq}
-use Rattle.std.proofs.lemmas.Bool.{and_parts, and_from}
+use Rattle.std.proofs.lemmas.Bool.{and_parts, and_from, both_ways, false_from_ne_true}
 use Rattle.ec_terms.specs.declared.ground.Ground.{Ground}
 use Rattle.ec_terms.specs.declared.theory.Theory.{Theory}
 use Rattle.ec_terms.specs.Term.{term_eq}
-use Rattle.ec_terms.specs.Domain.{GroundEntry, are_exclusive}
+use Rattle.ec_terms.specs.Domain.{GroundEntry, are_exclusive, is_strong}
 use Rattle.ec_axioms.specs.Calculus.{PlainEvent, Effect, Currency, effects_of, effects_at, has_effect, has_break, is_active, is_initiated, timeline_by, timeline_of, is_current, is_initiating, is_clashing}
 use Rattle.ec_axioms.proofs.Members.{IsMember-filter, IsMember-from_filter, length_member, member_length}
 use Rattle.ec_axioms.proofs.TimelineLaws.{IsBrokenBy, initiated_at}
@@ -54,3 +55,26 @@ pub IsBrokenBy-timeline_of : (theory : Theory) (events : List PlainEvent) (p q :
 unfolding timeline_of timeline_by
 IsBrokenBy-timeline_of theory events p q exclusive s begin =
     (begin.0, has_break-exclusive theory events (is_current theory events) p q s exclusive (initiated_at (timeline_of theory events q) s begin))
+
+-- ---- what nothing is exclusive to
+
+-- what nothing is exclusive to has no clash
+has_no_clash : (theory : Theory) (events : List PlainEvent) (current : Currency) (p : Ground) (t : ℤ) → ((q : Ground) → IsFalse (are_exclusive theory p q))
+    → IsFalse (has_effect theory events current (is_clashing theory p) t)
+unfolding has_effect effects_at is_clashing
+has_no_clash theory events current p t none =
+    false_from_ne_true (has_effect theory events current (is_clashing theory p) t) clash
+  where
+    clash : IsTrue (has_effect theory events current (is_clashing theory p) t) → ⊥
+    clash some =
+        let all = flat_map (effects_of theory) (filter (λ e. int_eq e.rank t) events) in
+        let found = member_length (effects_at theory events current (is_clashing theory p) t) some in
+        let active = IsMember-from_filter (is_active current) (filter (λ effect. is_clashing theory p effect.entry) all) found.0 found.1 in
+        let kept = IsMember-from_filter (λ (effect : Effect). is_clashing theory p effect.entry) all found.0 active.0 in
+        both_ways (are_exclusive theory p found.0.entry.head) (none found.0.entry.head) (and_parts _ (are_exclusive theory p found.0.entry.head) kept.1).1
+
+-- so where it is not strong, each of its breaks is a termination
+pub break-terminated : (theory : Theory) (events : List PlainEvent) (p : Ground) → ((q : Ground) → IsFalse (are_exclusive theory p q)) → IsFalse (is_strong theory p)
+    → (t : ℤ) → IsTrue ((timeline_of theory events p).breaks t) → IsTrue ((timeline_of theory events p).terminated t)
+unfolding timeline_of timeline_by has_break
+break-terminated theory events p none weak t breaks = let clash = has_no_clash theory events (is_current theory events) p t none in grind arith

@@ -1,12 +1,12 @@
 -- The laws of one timeline: its intervals are disjoint, at most one covers an instant, holding is the reason yes, holding through a stretch is holding at each
 -- whole number of it; and of two: if each breaks where the other begins, their intervals share only a beginning.
-use Rattle.std.proofs.Common.{◌≡◌, ◌⊎◌, ◌↔◌, ℤ, pos, ◌+ℤ◌, Bool, true, false, not, ◌&&◌, ◌||◌, List, ◌++◌, map, filter, Option, Some, None, IsTrue, IsFalse, IsSomeAnd, refl, ap, ap₂, sym, subst, ◌∙◌, inl, inr, ⊎_elim, arith}
+use Rattle.std.proofs.Common.{◌≡◌, ◌⊎◌, ◌↔◌, ℤ, pos, ◌+ℤ◌, Bool, true, false, cond, not, ◌&&◌, ◌||◌, List, [], ◌∷◌, ◌++◌, map, filter, Option, Some, None, IsTrue, IsFalse, IsSomeAnd, refl, ap, ap₂, sym, subst, ◌∙◌, inl, inr, ⊎_elim, arith}
 use Rattle.std.specs.Prelude.{int_lt, int_le}
-use Rattle.std.specs.List.{list_all, list_any}
+use Rattle.std.specs.List.{list_all, list_any, cons_option}
 use Rattle.std.specs.Option.{option_map_or}
 use Rattle.std.proofs.lemmas.Bool.{cond_both, and_parts, and_from, and_right, or_cases, or_parts, not-true, both_ways, false≢true}
 use Rattle.std.proofs.lemmas.Option.{cond_some, same_Some}
-use Rattle.ec_axioms.specs.Timeline.{Timeline, Begin, before_all, begin_at, Interval, instants_before, instants_between, carries, carries_initially, is_current_on, is_after, begins_at, is_start, initial_begins, begins_of, next_break, interval_from, intervals_on, is_within_end, covers, is_held_at, has_begin, is_followed, is_held_through, last_begin, reason_from, reason_by, reason_on}
+use Rattle.ec_axioms.specs.Timeline.{Timeline, Begin, before_all, begin_at, Interval, instants_before, instants_between, carries, carries_initially, is_current_on, is_after, begins_at, is_start, initial_begins, begins_of, next_break, interval_from, intervals_from, intervals_on, is_within_end, covers, is_held_at, has_begin, is_followed, is_held_through, last_begin, reason_from, reason_by, reason_on}
 use Rattle.ec_axioms.specs.Laws.{is_yes}
 use Rattle.ec_lists.proofs.Integers.{cases_int, int_lt-trans, int_le-same, int_le-from_lt, int_le_lt-trans, int_le-not_before, int_lt-next, int_le-next, int_eq-is, int_eq-same, cases_next, cases_int_le, each_of_stretch}
 use Rattle.ec_lists.proofs.Finds.{find-filter}
@@ -112,6 +112,21 @@ module _ (line : Timeline) where
       made : (begin : Begin) (next : Option ℤ) → interval_from line begin next ≡ Some interval → (begin ≡ interval.from) × (next ≡ interval.until)
       made begin None is = let same = same_Some _ interval is in (ap (λ i. i.from) same, ap (λ i. i.until) same)
       made begin (Some x) is = let same = (cond_some (line.terminated x) _ interval is).1 in (ap (λ i. i.from) same, ap (λ i. i.until) same)
+
+  -- where each break is a termination, each begin begins an interval
+  pub begins-of_intervals : ((t : ℤ) → IsTrue (line.breaks t) → IsTrue (line.terminated t)) → map (λ interval. interval.from) (intervals_on line) ≡ begins_of line
+  begins-of_intervals ended = each (begins_of line)
+    where
+      one : (begin : Begin) (next : Option ℤ) → next_break line begin ≡ next → (rest : List Interval)
+          → map (λ interval. interval.from) (cons_option (interval_from line begin next) rest) ≡ begin ∷ map (λ interval. interval.from) rest
+      one begin None is rest = refl
+      one begin (Some x) is rest =
+          ap (λ b. map (λ interval. interval.from) (cons_option (cond b (Some (record { from = begin; until = Some x })) None) rest))
+          (ended x (next_break-is begin x is).2)
+
+      each : (begins : List Begin) → map (λ interval. interval.from) (intervals_from line begins) ≡ begins
+      each [] = refl
+      each (begin ∷ begins) = one begin (next_break line begin) refl (intervals_from line begins) ∙ ap (λ rest. begin ∷ rest) (each begins)
 
 -- ---- reasons
 

@@ -1,9 +1,10 @@
 -- Chains of blocks: what holds of each block, and what an edit leaves.
-use Rattle.std.proofs.Common.{◌≡◌, ℕ, ◌+◌, ◌-◌, ◌*◌, ◌^◌, ◌<◌, ◌≤◌, zero, suc, Bool, true, ◌&&◌, List, [], ◌∷◌, ◌++◌, length, map, get_or, take, drop, set, Some, refl, sym, ap, ap₂, subst, ◌∙◌, length-append, length-drop, add-one, zero-add, arith}
-use Rattle.std.specs.Prelude.{nat_lt, nat_le, slice_get}
+use Rattle.std.proofs.Common.{◌≡◌, ℕ, ◌+◌, ◌-◌, ◌*◌, ◌^◌, ◌<◌, ◌≤◌, zero, suc, Bool, true, false, ◌&&◌, List, [], ◌∷◌, ◌++◌, length, map, get_or, take, drop, set, Option, Some, None, refl, sym, ap, ap₂, subst, ◌∙◌, length-append, length-drop, length-set, add-one, zero-add, arith}
+use Rattle.std.specs.Prelude.{nat_lt, nat_le, nat_eq, slice_get}
 use Rattle.std.specs.List.{insert, remove, list_all}
 use Rattle.std.proofs.lemmas.List.{length-map, get_or-map, get_or-drop, map-set}
 use Rattle.std.proofs.lemmas.Bool.Decides.{nat_tests}
+use Rattle.std.proofs.lemmas.List.Edits.{length-insert, length-remove}
 use Rattle.std.proofs.lemmas.List.Folds.{list_all-append}
 use Rattle.ec_rows.proofs.OrderedLemmas.{and-left, and-right}
 use Rattle.ec_blocks.specs.Chain.{joined, block_at, start_of, last_of, starts_from, is_block}
@@ -79,6 +80,56 @@ slice_get-drop (suc n) i (suc j) (x ∷ xs) is = slice_get-drop n i j xs (omega 
 pub last_of-drop : {X : Type 0} (n : ℕ) (block : List X) → n < length block → last_of (drop n block) ≡ last_of block
 last_of-drop n block within =
     slice_get-drop n (length (drop n block) - 1) (length block - 1) block (omega (arith, length-drop n block))
+
+-- it stays where one that is not it goes, comes or changes
+slice_get-set : {X : Type 0} (xs : List X) (i j : ℕ) (y : X) → i < j → slice_get (set xs i y) j ≡ slice_get xs j
+slice_get-set [] i j y less = refl
+slice_get-set (x ∷ xs) i zero y less = absurd (omega arith)
+slice_get-set (x ∷ xs) zero (suc j) y less = refl
+slice_get-set (x ∷ xs) (suc i) (suc j) y less = slice_get-set xs i j y (omega arith)
+
+slice_get-insert : {X : Type 0} (xs : List X) (i j : ℕ) (y : X) → i ≤ j → slice_get (insert xs i y) (suc j) ≡ slice_get xs j
+slice_get-insert xs zero j y le = refl
+slice_get-insert [] (suc i) j y le = refl
+slice_get-insert (x ∷ xs) (suc i) zero y le = absurd (omega arith)
+slice_get-insert (x ∷ xs) (suc i) (suc j) y le = slice_get-insert xs i j y (omega arith)
+
+slice_get-remove : {X : Type 0} (xs : List X) (i j : ℕ) → i ≤ j → slice_get (remove xs i) j ≡ slice_get xs (suc j)
+slice_get-remove [] zero j le = refl
+slice_get-remove [] (suc i) j le = refl
+slice_get-remove (x ∷ xs) zero j le = refl
+slice_get-remove (x ∷ xs) (suc i) zero le = absurd (omega arith)
+slice_get-remove (x ∷ xs) (suc i) (suc j) le = slice_get-remove xs i j (omega arith)
+
+unequal : (m n : ℕ) → nat_eq m n ≡ false → m ≤ n → m < n
+unequal m n test le = grind (arith, nat_tests)
+
+pub last_of-set : {X : Type 0} (xs : List X) (i : ℕ) (y : X) → i < length xs → nat_eq (i + 1) (length xs) ≡ false → last_of (set xs i y) ≡ last_of xs
+last_of-set xs i y within other =
+    ap (λ n. slice_get (set xs i y) (n - 1)) (length-set xs i y)
+    ∙ slice_get-set xs i (length xs - 1) y (omega (arith, unequal (i + 1) (length xs) other (omega arith)))
+
+pub last_of-insert : {X : Type 0} (xs : List X) (i : ℕ) (y : X) → i ≤ length xs → nat_eq i (length xs) ≡ false → last_of (insert xs i y) ≡ last_of xs
+last_of-insert xs i y within other =
+    let less = unequal i (length xs) other within in
+    ap (slice_get (insert xs i y)) (omega (arith, length-insert xs i y within, less)) ∙ slice_get-insert xs i (length xs - 1) y (omega (arith, less))
+
+pub last_of-remove : {X : Type 0} (xs : List X) (i : ℕ) → i < length xs → nat_eq (i + 1) (length xs) ≡ false → last_of (remove xs i) ≡ last_of xs
+last_of-remove xs i within other =
+    let less = unequal (i + 1) (length xs) other (omega arith) in
+    slice_get-remove xs i (length (remove xs i) - 1) (omega (arith, length-remove xs i within, less))
+    ∙ ap (slice_get xs) (omega (arith, length-remove xs i within, less))
+
+-- a member read with `Some` round it
+pub some-at : {X : Type 0} (xs : List X) (k : ℕ) → get_or (map Some xs) k None ≡ slice_get xs k
+some-at [] k = refl
+some-at (x ∷ xs) zero = refl
+some-at (x ∷ xs) (suc k) = some-at xs k
+
+pub set-some : {X : Type 0} (xs : List X) (k : ℕ) (o : Option X) → slice_get xs k ≡ o → k < length xs → map Some xs ≡ set (map Some xs) k o
+set-some [] k o is within = refl
+set-some (x ∷ xs) zero o is within = ap (λ o. o ∷ map Some xs) is
+set-some (x ∷ xs) (suc k) o is within = ap (λ os. Some x ∷ os) (set-some xs k o is (omega arith))
 
 -- ---- blocks
 

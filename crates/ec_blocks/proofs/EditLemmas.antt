@@ -1,13 +1,13 @@
 -- A chain of blocks after an edit of one of them, as the code makes it.
-use Rattle.std.proofs.Common.{◌≡◌, ℕ, ◌+◌, ◌-◌, ◌<◌, ◌≤◌, suc, true, List, [], ◌∷◌, ◌++◌, length, map, get_or, take, drop, set, Some, sym, ap, ap₂, ◌∙◌, add-one, zero-add, length-drop, length-set, arith}
+use Rattle.std.proofs.Common.{◌≡◌, ℕ, ◌+◌, ◌-◌, ◌<◌, ◌≤◌, suc, true, List, [], ◌∷◌, ◌++◌, length, map, get_or, take, drop, set, Some, None, sym, ap, ap₂, ◌∙◌, add-one, zero-add, length-drop, length-set, arith}
 use Rattle.std.specs.List.{slice_get, insert, remove, list_all}
-use Rattle.std.proofs.lemmas.List.{map-set, map_push, length-take-le}
+use Rattle.std.proofs.lemmas.List.{map-set, map_push, length-take-le, get_or-map}
 use Rattle.std.proofs.lemmas.Bool.Decides.{nat_tests}
 use Rattle.std.proofs.lemmas.Option.{get_or_from_slice_get}
 use Rattle.ec_blocks.specs.Chain.{joined, block_at, last_of, starts_from, is_block}
 use Rattle.ec_blocks.specs.ChainParts.{IsChain, HasRooms, is_kept, is_spare}
 use Rattle.ec_blocks.proofs.StartLemmas.{starts-append, starts-gone, starts-split, lasts-split}
-use Rattle.ec_blocks.proofs.ChainLemmas.{place-within, block-is, start-is, last_of-drop, list_all-at, list_all-push, list_all-set, list_all-insert, map-insert, map-remove, is_kept-from, is_kept-block, is_kept-room, is_block-some, is_block-most, IsChain-same, IsChain-more, IsChain-less}
+use Rattle.ec_blocks.proofs.ChainLemmas.{place-within, block-is, start-is, last_of-drop, some-at, list_all-at, list_all-push, list_all-set, list_all-insert, map-insert, map-remove, is_kept-from, is_kept-block, is_kept-room, is_block-some, is_block-most, IsChain-same, IsChain-more, IsChain-less}
 use Rattle.ec_lists.proofs.Tests.{list_all-remove}
 
 -- a block without members that has room is a spare one
@@ -58,6 +58,12 @@ module _ {X B : Type 0} (items : B → List X) (capacity : B → ℕ) (blocks : 
 
     pub old-list : items old ≡ block_at k lists
     old-list = block-is items capacity blocks lists k old are block is
+
+    -- its last member is the one that is kept
+    pub old-last : slice_get lasts k ≡ last_of (items old)
+    old-last =
+        sym (some-at lasts k) ∙ ap (λ os. get_or os k None) (chain.lasts_are ∙ ap (map last_of) are) ∙ get_or-map last_of lists k [] None block
+        ∙ ap last_of (sym old-list)
 
     -- the members of all blocks, where those of one are edited
     pub edited : (f : List X → List X) (new : B) → items new ≡ f (items old) → map items (set blocks k new) ≡ set lists k (f (block_at k lists))

@@ -8,7 +8,7 @@ use Rattle.std.proofs.lemmas.List.{length-map, length-take-le, take_at, get_or-t
 use Rattle.std.proofs.lemmas.List.Edits.{length-insert, length-remove, get_or-insert_below, get_or-insert_at, get_or-insert_above, get_or-remove_below, get_or-remove_above}
 use Rattle.std.proofs.lemmas.List.FromFn.{length-map-range_with_len, get_or-map-range_with_len, fill_by_all}
 use Rattle.ec_rows.proofs.OrderedLemmas.{and-left, and-right}
-use Rattle.ec_blocks.specs.Starts.{number_at, numbers_of}
+use Rattle.ec_blocks.specs.Starts.{number_at, numbers_of, lifted}
 
 -- ---- sums modulo 2 ^ 64
 
@@ -44,6 +44,16 @@ whole-slice n xs ys same = take_at xs (drop (length xs) ys) n same
 pub behind-length : (f : ℕ → ℕ) (xs : List ℕ) (n : ℕ) → n ≤ length xs → length (take n xs ++ map f (drop n xs)) ≡ length xs
 behind-length f xs n within =
     omega (arith, length-append (take n xs) (map f (drop n xs)), length-take-le n xs within, length-map (drop n xs) f, length-drop n xs)
+
+-- a lift that is more for all, and less in front
+pub sum-lift : (p l n m : ℕ) → (m + n) % 2 ^ 64 ≡ 0 → ((p + m) % 2 ^ 64 + (l + n) % 2 ^ 64) % 2 ^ 64 ≡ (p + l) % 2 ^ 64
+sum-lift p l n m none = omega (arith, none)
+
+pub lifted-length : (lift : ℕ) (kept : List ℕ) → length (lifted lift kept) ≡ length kept
+lifted-length lift kept = length-map kept (λ n. (n + lift) % 2 ^ 64)
+
+pub lifted-at : (lift : ℕ) (kept : List ℕ) (k : ℕ) → k < length kept → get_or (lifted lift kept) k 0 ≡ (get_or kept k 0 + lift) % 2 ^ 64
+lifted-at lift kept k within = get_or-map (λ n. (n + lift) % 2 ^ 64) kept k 0 0 within
 
 -- ---- all numbers
 

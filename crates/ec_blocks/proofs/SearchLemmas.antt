@@ -1,6 +1,6 @@
 -- A search over blocks: first among their last members, then within one of them.
-use Rattle.std.proofs.Common.{◌≡◌, ℕ, ◌+◌, ◌-◌, ◌<◌, ◌≤◌, zero, suc, Bool, true, false, List, [], ◌∷◌, length, map, get_or, take, drop, Some, None, refl, sym, ap, ◌∙◌, ◌⊎◌, ⊎_elim, true≢false, add-one, length-drop, arith}
-use Rattle.std.specs.List.{list_all}
+use Rattle.std.proofs.Common.{◌≡◌, ℕ, ◌+◌, ◌-◌, ◌/◌, ◌<◌, ◌≤◌, zero, suc, Bool, true, false, List, [], ◌∷◌, length, map, get_or, take, drop, Some, None, refl, sym, ap, ◌∙◌, ◌⊎◌, inl, inr, ⊎_elim, true≢false, if◌then◌else◌, add-one, length-drop, arith}
+use Rattle.std.specs.List.{list_all, slice_get}
 use Rattle.std.specs.List.Sorted.{IsPartitionedBy, IsPartitionPoint}
 use Rattle.std.proofs.lemmas.Bool.{cases_Bool, cases_lt}
 use Rattle.std.proofs.lemmas.List.{get_or-map, get_or-drop, get_or-take, length-map, length-take-le}
@@ -17,6 +17,39 @@ IsPartitionPoint-from_edges p xs r parted front behind within = (
   λ k d low high. parted k (r - 1) d (omega arith) (omega arith) (front d (omega arith)),
   λ k d low high. ⊎_elim (λ passes. absurd (true≢false (sym (parted r k d low high passes) ∙ behind d (omega arith)))) (λ fails. fails) (cases_Bool (p (get_or xs k d))),
 )
+
+-- What is left of a search that halves it: the member in front of what is left passes, or there is none, and the one behind fails.
+pub record Halving {X : Type 0} (p : X → Bool) (xs : List X) (low size : ℕ) : Type 0 where
+  pub front : (d : X) → (low ≡ 0) ⊎ (p (get_or xs low d) ≡ true)
+  pub behind : (d : X) → low + size < length xs → p (get_or xs (low + size) d) ≡ false
+
+module _ {X : Type 0} (p : X → Bool) (xs : List X) (parted : IsPartitionedBy p xs) where
+  -- the one in the middle was looked at
+  pub halving-step : (low size half middle chosen : ℕ) (x : X) (test : Bool) → Halving p xs low size → low + size ≤ length xs → half ≡ size / 2 → middle ≡ low + half →
+      slice_get xs middle ≡ Some x → test ≡ p x → chosen ≡ (if test then middle else low) → Halving p xs chosen (size - half)
+  halving-step low size half middle chosen x true halving within is at found passes same = record {
+    front = λ d. inr (ap (λ n. p (get_or xs n d)) same ∙ ap p (get_or_from_slice_get xs middle x d found) ∙ sym passes);
+    behind = λ d inside. ap (λ n. p (get_or xs n d)) (omega (arith, same, at, is)) ∙ halving.behind d (omega (arith, same, at, is, inside));
+  }
+  halving-step low size half middle chosen x false halving within is at found fails same = record {
+    front = λ d. ⊎_elim (λ none. inl (omega (arith, same, none))) (λ passed. inr (ap (λ n. p (get_or xs n d)) same ∙ passed)) (halving.front d);
+    behind = λ d inside. ⊎_elim
+        (λ yes. absurd (true≢false (sym (parted middle (chosen + (size - half)) d (omega (arith, same, at, is)) inside yes) ∙ ap p (get_or_from_slice_get xs middle x d found) ∙ sym fails)))
+        (λ no. no) (cases_Bool (p (get_or xs (chosen + (size - half)) d)));
+  }
+
+  -- and one that was not
+  pub halving-cut : (low size chosen : ℕ) (x : X) (test : Bool) → Halving p xs low size → size ≡ 1 → low < length xs → slice_get xs low ≡ Some x → test ≡ p x →
+      chosen ≡ (if test then low + 1 else low) → IsPartitionPoint (λ x. p x ≡ true) (λ x. p x ≡ false) xs chosen
+  halving-cut low size chosen x true halving one within found passes same =
+      IsPartitionPoint-from_edges p xs chosen parted
+      (λ d some. ap (λ n. p (get_or xs n d)) (omega (arith, same)) ∙ ap p (get_or_from_slice_get xs low x d found) ∙ sym passes)
+      (λ d inside. ap (λ n. p (get_or xs n d)) (omega (arith, same, one)) ∙ halving.behind d (omega (arith, same, one, inside))) (omega (arith, same))
+  halving-cut low size chosen x false halving one within found fails same =
+      IsPartitionPoint-from_edges p xs chosen parted
+      (λ d some. ⊎_elim (λ none. absurd (omega (arith, same, none, some)))
+      (λ passed. absurd (true≢false (sym passed ∙ ap p (get_or_from_slice_get xs low x d found) ∙ sym fails))) (halving.front d))
+      (λ d inside. ap (λ n. p (get_or xs n d)) same ∙ ap p (get_or_from_slice_get xs low x d found) ∙ sym fails) (omega (arith, same))
 
 -- the end of what passes, found among some members that have others of them on both sides of it, or else an end of the list
 pub found-between : {X : Type 0} (p : X → Bool) (xs some : List X) (from to c : ℕ) → from ≤ to → to ≤ length xs → some ≡ take (to - from) (drop from xs) → IsPartitionedBy p xs →
@@ -149,19 +182,3 @@ module _ {X : Type 0} (p : X → Bool) (blocks : List (List X)) (all : list_all 
         IsPartitionPoint-from_edges p (joined blocks) (length (joined blocks)) parted
         (λ d some. ap (λ n. p (get_or (joined blocks) n d)) (omega (arith, start_of-all blocks, ap (λ n. start_of n blocks) end)) ∙ ap p (last-stands m d (omega arith)) ∙ front m d refl)
         (λ d inside. absurd (omega arith)) (omega arith)
-
-    -- as the last of all tells
-    pub found-passed : (count c : ℕ) (tail : List X) → count ≡ length blocks → 1 ≤ count → tail ≡ drop (count - 1) lasts → c ≡ 1 →
-        (IsPartitionedBy p tail → IsPartitionPoint (λ x. p x ≡ true) (λ x. p x ≡ false) tail c) →
-        IsPartitionPoint (λ x. p x ≡ true) (λ x. p x ≡ false) (joined blocks) (length (joined blocks))
-    found-passed count c tail count_is some tail_is one cut =
-        found-behind (length blocks) refl (λ m d end. ap p (sym (at m d end)) ∙ (cut alone).0 0 d (omega arith) (omega arith))
-      where
-        tail-length : length tail ≡ 1
-        tail-length = ap length tail_is ∙ length-drop (count - 1) lasts ∙ (omega (arith, lasts-length))
-
-        at : (m : ℕ) (d : X) → length blocks ≡ suc m → get_or tail 0 d ≡ get_or lasts m d
-        at m d end = ap (λ xs. get_or xs 0 d) tail_is ∙ get_or-drop (count - 1) lasts 0 d ∙ ap (λ j. get_or lasts j d) (omega arith)
-
-        alone : IsPartitionedBy p tail
-        alone i j d le inside passes = ap (λ n. p (get_or tail n d)) (omega (arith, tail-length)) ∙ passes

@@ -52,13 +52,13 @@ module _ {X : Type 0} where
           ∙ ap₂ (λ us vs. us ++ vs) (sym (drop-set-lt h ring (j - (64 - h)) x (omega arith))) (sym (take-set-in h ring (j - (64 - h)) x))
           ∙ ap (λ n. turned h (set ring n x)) (omega arith)
 
-  -- in a straight ring, one comes in, and the last goes
-  pub ring-in : (ring behind put : List X) (at : ℕ) (x out e : X) → length ring ≡ 64 → at < 64 →
+  -- in a part that lies straight, one comes in, and the last goes
+  pub ring-in : (ring behind put : List X) (at : ℕ) (x out e : X) → at < length ring →
       behind ≡ drop (length (drop at ring) - 1) (drop at ring) ++ take (length (drop at ring) - 1) (drop at ring) →
       put ≡ take at ring ++ (behind ++ drop (at + (length ring - at)) ring) → out ≡ get_or put at e → insert ring at x ≡ set put at x ++ out ∷ []
-  ring-in ring behind put at x out e full within turned_is put_is out_is =
+  ring-in ring behind put at x out e within turned_is put_is out_is =
       let m : ℕ = length (drop at ring) in
-      let count : m ≡ 64 - at = omega (arith, length-drop at ring) in
+      let count : m ≡ length ring - at = length-drop at ring in
       let last : X = get_or (drop at ring) (m - 1) x in
       let front : List X = take (m - 1) (drop at ring) in
       let end : drop (m - 1) (drop at ring) ≡ last ∷ [] =
@@ -70,6 +70,24 @@ module _ {X : Type 0} where
       let member : out ≡ last = out_is ∙ ap (λ us. get_or us at e) here ∙ get_or_at (take at ring) last front e at (length-take-le at ring (omega arith)) in
       sym (ap₂ (λ us o. us ++ o ∷ []) (ap (λ us. set us at x) here ∙ set_at (take at ring) last front x at (length-take-le at ring (omega arith))) member
       ∙ append_assoc (take at ring) (x ∷ front) (last ∷ []) ∙ ap (λ us. take at ring ++ x ∷ us) all)
+
+  -- in a ring, one comes in among those before the first
+  pub ring-in-front : (h : ℕ) (ring front : List X) (at : ℕ) (x out : X) → length ring ≡ 64 → h < 64 → 64 - h ≤ at → length front ≡ h →
+      insert (take h ring) (at - (64 - h)) x ≡ front ++ out ∷ [] → insert (turned h ring) at x ≡ turned h (front ++ drop h ring) ++ out ∷ []
+  ring-in-front h ring front at x out full head from same made =
+      insert-append_right (drop h ring) (take h ring) (64 - h) at x (omega (arith, length-drop h ring)) from
+      ∙ ap (λ us. drop h ring ++ us) made ∙ sym (append_assoc (drop h ring) front (out ∷ []))
+      ∙ ap₂ (λ us vs. (us ++ vs) ++ out ∷ []) (sym (drop_at front (drop h ring) h same)) (sym (take_at front (drop h ring) h same))
+
+  -- or among those from the first on, the last of which then comes in before it
+  pub ring-in-behind : (h : ℕ) (ring front behind : List X) (at : ℕ) (x mid out : X) → length ring ≡ 64 → h < 64 → at < 64 - h → length front ≡ h →
+      insert (drop h ring) at x ≡ behind ++ mid ∷ [] → insert (take h ring) 0 mid ≡ front ++ out ∷ [] →
+      insert (turned h ring) at x ≡ turned h (front ++ behind) ++ out ∷ []
+  ring-in-behind h ring front behind at x mid out full head before same made carried =
+      insert-append_left (drop h ring) (take h ring) at x (omega (arith, length-drop h ring))
+      ∙ ap (λ us. us ++ take h ring) made ∙ append_assoc behind (mid ∷ []) (take h ring)
+      ∙ ap (λ us. behind ++ us) carried ∙ sym (append_assoc behind front (out ∷ []))
+      ∙ ap₂ (λ us vs. (us ++ vs) ++ out ∷ []) (sym (drop_at front behind h same)) (sym (take_at front behind h same))
 
   -- one goes, and one comes in at the end
   pub ring-out : (ring behind put : List X) (at : ℕ) (x out e : X) → length ring ≡ 64 → at < 64 → behind ≡ drop 1 (drop at ring) ++ take 1 (drop at ring) →
@@ -128,6 +146,15 @@ module _ {X : Type 0} where
   part-put ms ring first within full =
       ap (λ us. take 64 (drop first us)) (group-put ms ring first full)
       ∙ ap (take 64) (drop_at (take first ms) (ring ++ drop (first + 64) ms) first (length-take-le first ms (omega arith))) ∙ take_at ring (drop (first + 64) ms) 64 full
+
+  -- what a ring holds after those from a place on were written, or those before it
+  pub behind-put : (h : ℕ) (ring behind : List X) → h ≤ length ring → length behind ≡ length ring - h → put_mid h (length ring - h) ring behind ≡ take h ring ++ behind
+  behind-put h ring behind within same =
+      put-is h (length ring - h) ring behind same
+      ∙ ap (λ us. take h ring ++ us) (ap (λ us. behind ++ us) (drop_all (h + (length ring - h)) ring (omega arith)) ∙ append-nil behind)
+
+  pub front-put : (h : ℕ) (ring front : List X) → length front ≡ h → put_mid 0 (h - 0) ring front ≡ front ++ drop h ring
+  front-put h ring front same = put-is 0 (h - 0) ring front (omega (arith, same)) ∙ ap (λ n. front ++ drop n ring) (omega arith)
 
   -- what a vector holds after its last group was turned
   pub turned-last : (ms read new : List X) (h n m : ℕ) → read ≡ ms → new ≡ take (length read - 64) read ++ turned h (drop (length read - 64) read) → n ≡ length ms - 64 → m ≡ length ms →

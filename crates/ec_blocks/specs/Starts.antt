@@ -14,3 +14,7 @@ number_at parts bases k = (slice_index_or parts k 0 + slice_index_or bases (k / 
 -- all numbers
 abbrev pub numbers_of : List ℕ → List ℕ → List ℕ
 numbers_of parts bases = map (number_at parts bases) (range_with_len 0 (length parts))
+
+-- numbers that are kept less a lift for all
+abbrev pub lifted : ℕ → List ℕ → List ℕ
+lifted lift kept = map (λ n. (n + lift) % 2 ^ 64) kept

@@ -9,7 +9,7 @@ ghost use Rattle.ec_blocks.specs.ChainParts.{is_kept, is_spare};
 
 use crate::counts::Counts;
 use crate::starts::Starts;
-use crate::tiers::Tiers;
+use crate::tiers::{Tiers, passes};
 use ec_rows::Copied;
 use ec_terms::NoMemory;
 use std::alloc::Global;
@@ -34,8 +34,8 @@ pub(crate) struct Chain<X> {
     blocks: Tiers<Vec<X>>,
     /// How many members are in front of each block.
     starts: Starts,
-    /// A copy of the last member of each block, so that a search reads one array.
-    lasts: Vec<X>,
+    /// A copy of the last member of each block, so that a search reads these alone.
+    lasts: Tiers<X>,
     spares: Vec<Vec<X>>,
     counts: Counts,
     /// The block that was found last, where the next search begins. It changes no answer.
@@ -54,7 +54,7 @@ impl<X> Model for Chain<X> {
 
     ghost view = { λ chain. record { blocks = map (λ block. block.items) chain.blocks.items; spares = vec_len chain.spares } };
 
-    ghost invariant = { λ chain. IsChain (λ block. block.items) (λ block. vec_capacity block) chain.blocks.items chain.starts.items chain.lasts.items chain.spares.items × HasRooms (length chain.blocks.items) (vec_len chain.spares) chain.blocks.room chain.starts.room (vec_capacity chain.lasts) (vec_capacity chain.spares) × IsCounted (map (λ block. block.items) chain.blocks.items) chain.counts.total chain.counts.owed };
+    ghost invariant = { λ chain. IsChain (λ block. block.items) (λ block. vec_capacity block) chain.blocks.items chain.starts.items chain.lasts.items chain.spares.items × HasRooms (length chain.blocks.items) (vec_len chain.spares) chain.blocks.room chain.starts.room chain.lasts.room (vec_capacity chain.spares) × IsCounted (map (λ block. block.items) chain.blocks.items) chain.counts.total chain.counts.owed };
 }
 
 impl<X: Copied + Drop> Chain<X> {
@@ -65,7 +65,7 @@ impl<X: Copied + Drop> Chain<X> {
         Chain {
             blocks: Tiers::new(alloc),
             starts: Starts::new(alloc),
-            lasts: Vec::new(alloc),
+            lasts: Tiers::new(alloc),
             spares: Vec::new(alloc),
             counts: Counts::new(),
             found: Cell::new(0),
@@ -115,8 +115,9 @@ impl<X: Copied + Drop> Chain<X> {
         ensures spares { self.new.spares ≡ self.old.spares }
     {
         let block = self.blocks.get_mut(k);
+        let len = block.len();
         put_within(block, place, x);
-        keep_last(block, &mut self.lasts, k);
+        keep_last(block, &mut self.lasts, k, place + 1 == len);
     }
 
     /// Inserts a member in a block that is not full.
@@ -130,7 +131,7 @@ impl<X: Copied + Drop> Chain<X> {
         let block = self.blocks.get_mut(k);
         let len = block.len();
         insert_within(block, place, x);
-        keep_last(block, &mut self.lasts, k);
+        keep_last(block, &mut self.lasts, k, place == len);
         self.starts.raise_behind(k);
         self.counts.change(len, len + 1);
     }
@@ -196,7 +197,7 @@ impl<X: Copied + Drop> Chain<X> {
         if count == 0 {
             return false;
         }
-        cut(&self.lasts[count - 1..], pred) == 1
+        passes(self.lasts.get(count - 1), pred)
     }
 
     /// The place where the members that pass a test end, sought among all.
@@ -205,7 +206,7 @@ impl<X: Copied + Drop> Chain<X> {
         ensures bound { result ≤ length (joined self.now.blocks) }
         ensures partitioned { (p : X → Bool) → ComputesKey F.FnMut p pred.now → IsPartitionedBy p (joined self.now.blocks) → IsPartitionPoint (λ x. p x ≡ true) (λ x. p x ≡ false) (joined self.now.blocks) result }
     {
-        let k = cut(&self.lasts, pred);
+        let k = self.lasts.partition_point(pred);
         if k == self.blocks.len() {
             return self.total();
         }
@@ -237,7 +238,7 @@ impl<X: Copied + Drop> Chain<X> {
         let block = self.blocks.get_mut(k);
         let len = block.len();
         let x = remove_within(block, place);
-        keep_last(block, &mut self.lasts, k);
+        keep_last(block, &mut self.lasts, k, place + 1 == len);
         self.starts.lower_behind(k);
         self.counts.change(len, len - 1);
         x
@@ -291,10 +292,8 @@ impl<X: Copied + Drop> Chain<X> {
         let mut block = take_spare(&mut self.spares);
         fill(&mut block, members);
         self.starts.push(start);
-        self.lasts
-            .push_reserved(members[members.len() - 1].copied());
-        let end = self.blocks.len();
-        self.blocks.insert(end, block);
+        self.lasts.push(members[members.len() - 1].copied());
+        self.blocks.push(block);
         self.counts.change(0, members.len());
     }
 
@@ -309,9 +308,8 @@ impl<X: Copied + Drop> Chain<X> {
         let last = x.copied();
         block.push_reserved(x);
         self.starts.push(start);
-        self.lasts.push_reserved(last);
-        let end = self.blocks.len();
-        self.blocks.insert(end, block);
+        self.lasts.push(last);
+        self.blocks.push(block);
         self.counts.change(0, 1);
     }
 
@@ -422,15 +420,18 @@ pub(crate) fn insert_within<X: Drop>(block: &mut Vec<X>, place: usize, x: X)
     }
 }
 
-/// Keeps a copy of the last member of a block in its place.
-fn keep_last<X: Copied + Drop>(block: &[X], lasts: &mut Vec<X>, k: usize)
+/// Keeps a copy of the last member of a block in its place, if it is another one than before.
+fn keep_last<X: Copied + Drop>(block: &[X], lasts: &mut Tiers<X>, k: usize, is_other: bool)
     requires some { 1 ≤ length block.now }
-    requires within { k < vec_len lasts.old }
+    requires within { k < length lasts.old.items }
+    requires same { is_other ≡ false → slice_get lasts.old.items k ≡ last_of block.now }
     ensures lasts { map Some lasts.new.items ≡ slice_set (map Some lasts.old.items) k (last_of block.now) }
-    ensures len { vec_len lasts.new ≡ vec_len lasts.old }
-    ensures capacity { vec_capacity lasts.new ≡ vec_capacity lasts.old }
+    ensures room { lasts.new.room ≡ lasts.old.room }
 {
-    lasts[k] = block[block.len() - 1].copied();
+    if !is_other {
+        return;
+    }
+    *lasts.get_mut(k) = block[block.len() - 1].copied();
 }
 
 /// Takes out the member at a place.
@@ -445,15 +446,14 @@ fn remove_within<X: Drop>(block: &mut Vec<X>, place: usize) -> X
 }
 
 /// Puts a copy of the last member of a block in front of the one of the block behind it.
-fn insert_last<X: Copied + Drop>(block: &[X], lasts: &mut Vec<X>, k: usize)
+fn insert_last<X: Copied + Drop>(block: &[X], lasts: &mut Tiers<X>, k: usize)
     requires some { 1 ≤ length block.now }
-    requires within { k ≤ vec_len lasts.old }
-    requires room { vec_len lasts.old < vec_capacity lasts.old }
+    requires within { k ≤ length lasts.old.items }
+    requires room { length lasts.old.items < lasts.old.room }
     ensures lasts { map Some lasts.new.items ≡ insert (map Some lasts.old.items) k (last_of block.now) }
-    ensures len { vec_len lasts.new ≡ vec_len lasts.old + 1 }
-    ensures capacity { vec_capacity lasts.old ≤ vec_capacity lasts.new }
+    ensures room { lasts.old.room ≤ lasts.new.room }
 {
-    insert_within(lasts, k, block[block.len() - 1].copied());
+    lasts.insert(k, block[block.len() - 1].copied());
 }
 
 /// Adds copies of members at the end of a block that has room for them.

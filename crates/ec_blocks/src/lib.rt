@@ -4,6 +4,7 @@
 //! made beforehand; an edit with room takes no memory.
 #![tactic(auto)]
 
+mod bases;
 mod block_marks;
 mod block_spans;
 mod block_times;

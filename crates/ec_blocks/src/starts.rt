@@ -4,6 +4,7 @@ ghost use Rattle.std.specs.List.{insert, remove, list_all};
 ghost use Rattle.std.specs.List.Sorted.{IsNonDecreasingBy, IsPartitionPoint};
 ghost use Rattle.ec_blocks.specs.Starts.{number_at};
 
+use crate::bases::{Bases, add};
 use crate::chain::insert_within;
 use ec_terms::NoMemory;
 use std::alloc::Global;
@@ -12,11 +13,23 @@ use std::marker::Model;
 /// How many numbers have a base together.
 const GROUP: usize = 64;
 
+/// So few numbers are searched without a guess.
+const FEW: usize = 8;
+
+/// So many numbers are searched by a guess that is mended.
+const MANY: usize = 512;
+
 /// How far on both sides of a guess a search looks at first, in a short list.
 const ROUND: usize = 2;
 
 /// For so many numbers more a search looks one further, since a rise that is not quite steady strays the more the longer it is.
 const STRAY: usize = 256;
+
+/// The same round a guess that is mended, which strays less.
+const MENDED_STRAY: usize = 2048;
+
+/// By about how much a number is above the one in front of it.
+const STEP: usize = 96;
 
 /// A list of numbers, in which all behind a place are raised or lowered by one at little cost. Each group of 64 has
 /// a base, and a number is the sum of its own part and of the base of its group, modulo 2^64: so a part
@@ -25,19 +38,19 @@ const STRAY: usize = 256;
 pub(crate) struct Starts {
     parts: Vec<usize>,
     /// One for each group, and for groups to come.
-    bases: Vec<usize>,
+    bases: Bases,
 }
 
 impl Model for Starts {
-    ghost use Rattle.std.specs.Prelude.{◌*◌, ◌≤◌, min, vec_len};
+    ghost use Rattle.std.specs.Prelude.{◌*◌, ◌≤◌, length, min, vec_len};
     ghost use Rattle.std.specs.Vec.{vec_capacity};
     ghost use Rattle.ec_blocks.specs.Starts.{Listed, numbers_of};
 
     ghost Value = { Listed };
 
-    ghost view = { λ starts. record { items = numbers_of starts.parts.items starts.bases.items; room = min (vec_capacity starts.parts) (64 * vec_len starts.bases) } };
+    ghost view = { λ starts. record { items = numbers_of starts.parts.items starts.bases; room = min (vec_capacity starts.parts) (64 * length starts.bases) } };
 
-    ghost invariant = { λ starts. vec_len starts.parts ≤ 64 * vec_len starts.bases };
+    ghost invariant = { λ starts. vec_len starts.parts ≤ 64 * length starts.bases };
 }
 
 impl Starts {
@@ -47,7 +60,7 @@ impl Starts {
     {
         Starts {
             parts: Vec::new(alloc),
-            bases: Vec::new(alloc),
+            bases: Bases::new(alloc),
         }
     }
 
@@ -56,7 +69,23 @@ impl Starts {
         requires { k < length self.now.items }
         ensures { result ≡ slice_index_or self.now.items k 0 }
     {
-        self.parts[k].wrapping_add(self.bases[k / GROUP])
+        self.parts[k].wrapping_add(self.bases.get(k / GROUP))
+    }
+
+    /// A place about where the numbers up to one end, and how far on both sides of it a search looks at first. It is the place
+    /// that a steady rise would give, and in a long list so much further as the number there tells.
+    fn guess(&self, i: usize, last: usize) -> (usize, usize)
+        requires some { 1 ≤ length self.now.items }
+        requires above { i < last }
+    {
+        let end = self.parts.len() - 1;
+        let steady = (i.wrapping_mul(end) / last).min(end);
+        if end < MANY {
+            return (steady, ROUND + end / STRAY);
+        }
+        let there = self.get(steady);
+        let mended = steady.saturating_add(i / STEP).saturating_sub(there / STEP);
+        (mended, ROUND + end / MENDED_STRAY)
     }
 
     /// Two places between which the numbers up to one end, where it lies below the last number and they never fall. Both stand
@@ -70,8 +99,10 @@ impl Starts {
         ensures behind { (result.1 + 1 ≡ length self.now.items) ⊎ (i < slice_index_or self.now.items result.1 0) }
     {
         let end = self.parts.len() - 1;
-        let guess = i.wrapping_mul(end) / last;
-        let round = ROUND + end / STRAY;
+        if end <= FEW {
+            return (0, end);
+        }
+        let (guess, round) = self.guess(i, last);
         let low = guess.saturating_sub(round).min(end);
         let high = guess.saturating_add(round).min(end);
         (
@@ -134,10 +165,9 @@ impl Starts {
         ensures room { self.new.room ≡ self.old.room }
     {
         let count = self.parts.len();
-        let groups = self.bases.len();
         let group = k / GROUP + 1;
         add(&mut self.parts, k + 1, count.min(group * GROUP), more);
-        add(&mut self.bases, group, groups, more);
+        self.bases.add_from(group, more);
     }
 
     /// Inserts a number at a place, where there is room for it.
@@ -148,7 +178,7 @@ impl Starts {
         ensures room { self.old.room ≤ self.new.room }
     {
         let group = k / GROUP;
-        insert_within(&mut self.parts, k, rebased(start, 0, self.bases[group]));
+        insert_within(&mut self.parts, k, rebased(start, 0, self.bases.get(group)));
         carry_up(&mut self.parts, &self.bases, group + 1);
     }
 
@@ -181,7 +211,7 @@ impl Starts {
     {
         self.parts.reserve(more)?;
         let groups = (self.parts.len() + more).div_ceil(GROUP);
-        extend(&mut self.bases, groups)
+        self.bases.extend(groups)
     }
 
     /// Takes out all numbers.
@@ -194,35 +224,10 @@ impl Starts {
 }
 
 /// One of two numbers.
-fn choose(first: bool, one: usize, other: usize) -> usize
+pub(crate) fn choose(first: bool, one: usize, other: usize) -> usize
     ensures { result ≡ (if first then one else other) }
 {
     if first { one } else { other }
-}
-
-/// Adds a number, modulo 2^64, to those from one place up to another.
-fn add(numbers: &mut [usize], from: usize, to: usize, more: usize)
-    requires ordered { from ≤ to }
-    requires within { to ≤ length numbers.old }
-    ensures len { length numbers.new ≡ length numbers.old }
-    ensures within { (k : ℕ) → from ≤ k → k < to → slice_index_or numbers.new k 0 ≡ (slice_index_or numbers.old k 0 + more) % 2 ^ 64 }
-    ensures others { (k : ℕ) → (k < from) ⊎ (to ≤ k) → slice_index_or numbers.new k 0 ≡ slice_index_or numbers.old k 0 }
-{
-    for k in from..to {
-        numbers[k] = numbers[k].wrapping_add(more);
-    }
-}
-
-/// Adds bases until there are as many as groups. `Err`: memory ran out.
-fn extend(bases: &mut Vec<usize>, groups: usize) -> Result<(), NoMemory>
-    ensures same { (g : ℕ) → g < vec_len bases.old → slice_index_or bases.new.items g 0 ≡ slice_index_or bases.old.items g 0 }
-    ensures more { vec_len bases.old ≤ vec_len bases.new }
-    ensures ok { OnOk result (groups ≤ vec_len bases.new) }
-{
-    while bases.len() < groups {
-        bases.push(0)?;
-    }
-    Ok(())
 }
 
 /// What a part beside one base is beside another.
@@ -233,7 +238,7 @@ fn rebased(part: usize, from: usize, to: usize) -> usize
 }
 
 /// Moves the first part of each group from one on, which comes from the group in front, to the base of its group.
-fn carry_up(parts: &mut [usize], bases: &[usize], from: usize)
+fn carry_up(parts: &mut [usize], bases: &Bases, from: usize)
     requires some { 1 ≤ from }
     requires based { length parts.old ≤ 64 * length bases.now }
     ensures len { length parts.new ≡ length parts.old }
@@ -242,12 +247,12 @@ fn carry_up(parts: &mut [usize], bases: &[usize], from: usize)
 {
     for group in from..parts.len().div_ceil(GROUP) {
         let first = group * GROUP;
-        parts[first] = rebased(parts[first], bases[group - 1], bases[group]);
+        parts[first] = rebased(parts[first], bases.get(group - 1), bases.get(group));
     }
 }
 
 /// Moves the last part of each full group from one on, which comes from the group behind, to the base of its group.
-fn carry_down(parts: &mut [usize], bases: &[usize], from: usize)
+fn carry_down(parts: &mut [usize], bases: &Bases, from: usize)
     requires based { length parts.old < 64 * length bases.now }
     ensures len { length parts.new ≡ length parts.old }
     ensures moved { (k : ℕ) → k < length parts.old → from ≤ k / 64 → k % 64 ≡ 63 → number_at parts.new bases.now k ≡ (slice_index_or parts.old k 0 + slice_index_or bases.now (k / 64 + 1) 0) % 2 ^ 64 }
@@ -255,6 +260,6 @@ fn carry_down(parts: &mut [usize], bases: &[usize], from: usize)
 {
     for group in from..parts.len() / GROUP {
         let last = group * GROUP + (GROUP - 1);
-        parts[last] = rebased(parts[last], bases[group + 1], bases[group]);
+        parts[last] = rebased(parts[last], bases.get(group + 1), bases.get(group));
     }
 }

@@ -1,11 +1,14 @@
 //! A list in groups of 64, in which an insertion moves the members of one group, and one of each group behind it.
-ghost use Rattle.std.specs.Prelude.{◌≡◌, ℕ, ◌+◌, ◌-◌, ◌*◌, ◌/◌, ◌%◌, ◌^◌, ◌<◌, ◌≤◌, ◌++◌, ◌∷◌, [], Some, IsTrue, OnOk, length, nat_lt, take, drop, slice_get, slice_set, vec_len};
+ghost use Rattle.std.specs.Prelude.{◌≡◌, ℕ, ◌+◌, ◌-◌, ◌*◌, ◌/◌, ◌%◌, ◌^◌, ◌<◌, ◌≤◌, ◌++◌, ◌∷◌, [], Bool, true, false, Some, IsTrue, OnOk, length, nat_lt, take, drop, slice_get, slice_set, vec_len};
+ghost use Rattle.std.specs.Fn.{ComputesKey};
 ghost use Rattle.std.specs.List.{insert, remove, list_all};
+ghost use Rattle.std.specs.List.Sorted.{IsPartitionedBy, IsPartitionPoint};
 ghost use Rattle.std.specs.Vec.{vec_capacity};
 ghost use Rattle.std.specs.Borrow.{sem};
 ghost use Rattle.ec_blocks.specs.Tiers.{turned, unrolled, place_of};
 
-use crate::chain::insert_within;
+use crate::chain::{cut, insert_within};
+use crate::starts::choose;
 use ec_terms::NoMemory;
 use std::alloc::Global;
 use std::marker::Model;
@@ -73,6 +76,37 @@ impl<T: Drop> Tiers<T> {
     {
         let place = place_of(&self.heads, k);
         &mut self.members[place]
+    }
+
+    /// The place where the members that pass a test end. As long as all lie straight they are searched as one slice.
+    pub(crate) fn partition_point<F: Fn(&T) -> bool>(&self, pred: &F) -> usize
+        requires { F.IsAlwaysCallable pred.now }
+        ensures bound { result ≤ length self.now.items }
+        ensures partitioned { (p : T → Bool) → ComputesKey F.FnMut p pred.now → IsPartitionedBy p self.now.items → IsPartitionPoint (λ x. p x ≡ true) (λ x. p x ≡ false) self.now.items result }
+    {
+        if self.heads.len() == 0 {
+            cut(&self.members, pred)
+        } else {
+            self.partition_turned(pred)
+        }
+    }
+
+    /// The same, by places.
+    fn partition_turned<F: Fn(&T) -> bool>(&self, pred: &F) -> usize
+        requires some { 1 ≤ length self.now.items }
+        requires callable { F.IsAlwaysCallable pred.now }
+        ensures bound { result ≤ length self.now.items }
+        ensures partitioned { (p : T → Bool) → ComputesKey F.FnMut p pred.now → IsPartitionedBy p self.now.items → IsPartitionPoint (λ x. p x ≡ true) (λ x. p x ≡ false) self.now.items result }
+    {
+        let mut low = 0;
+        let mut size = self.len();
+        while 1 < size {
+            let half = size / 2;
+            let middle = low + half;
+            low = choose(passes(self.get(middle), pred), middle, low);
+            size -= half;
+        }
+        choose(passes(self.get(low), pred), low + 1, low)
     }
 
     /// Puts a member into a full group, and gives the one that is then beyond the end of the group.
@@ -151,6 +185,16 @@ impl<T: Drop> Tiers<T> {
         self.insert_straight(at, carried);
     }
 
+    /// Adds a member at the end, where there is room for it.
+    pub(crate) fn push(&mut self, x: T)
+        requires { length self.old.items < self.old.room }
+        ensures items { self.new.items ≡ self.old.items ++ x ∷ [] }
+        ensures room { self.old.room ≤ self.new.room }
+    {
+        let end = self.len();
+        self.insert_straight(end, x);
+    }
+
     /// Takes out the member at a place.
     pub(crate) fn remove(&mut self, k: usize) -> T
         requires { k < length self.old.items }
@@ -195,6 +239,14 @@ impl<T: Drop> Tiers<T> {
     }
 }
 
+/// Whether a member passes a test.
+pub(crate) fn passes<T, F: Fn(&T) -> bool>(member: &T, pred: &F) -> bool
+    requires { F.IsAlwaysCallable pred.now }
+    ensures { (p : T → Bool) → ComputesKey F.FnMut p pred.now → result ≡ p member.now }
+{
+    pred(member)
+}
+
 /// Where a member lies.
 fn place_of(heads: &[usize], k: usize) -> usize
     requires { IsTrue (list_all (λ h. nat_lt h 64) heads.now) }
@@ -221,9 +273,37 @@ fn put_in<T>(ring: &mut [T], head: usize, at: usize, x: T) -> (T, usize)
         let last = (head + (GROUP - 1)) % GROUP;
         return (mem::replace(&mut ring[last], x), last);
     }
-    ring.rotate_left(head);
-    ring[at..].rotate_right(1);
-    (mem::replace(&mut ring[at], x), 0)
+    (put_in_turned(ring, head, at, x), head)
+}
+
+/// Puts a member into a full group, whose first member stays where it lies, and gives the one that is then beyond the end. What lies
+/// from the first member on comes in front of what lies before it.
+fn put_in_turned<T>(ring: &mut [T], head: usize, at: usize, x: T) -> T
+    requires full { length ring.old ≡ 64 }
+    requires head { head < 64 }
+    requires at { at < 64 }
+    ensures ring { insert (turned head ring.old) at x ≡ turned head ring.new ++ result ∷ [] }
+    ensures len { length ring.new ≡ 64 }
+{
+    let straight = GROUP - head;
+    if straight <= at {
+        return put_in_part(&mut ring[0..head], at - straight, x);
+    }
+    let carried = put_in_part(&mut ring[head..], at, x);
+    put_in_part(&mut ring[0..head], 0, carried)
+}
+
+/// Puts a member into a part that lies straight, and gives the one that is then beyond the end.
+fn put_in_part<T>(part: &mut [T], at: usize, x: T) -> T
+    requires { at ≤ length part.old }
+    ensures part { insert part.old at x ≡ part.new ++ result ∷ [] }
+    ensures len { length part.new ≡ length part.old }
+{
+    if at == part.len() {
+        return x;
+    }
+    part[at..].rotate_right(1);
+    mem::replace(&mut part[at], x)
 }
 
 /// The same in the group that begins at a place.

@@ -1,5 +1,5 @@
 -- What it is for the change of all caches to be the one from a list of events to another, with all the room that it needs.
-use Rattle.std.specs.Prelude.{◌≡◌, ℕ, ◌+◌, ◌*◌, ◌≤◌, ◌<◌, ◌≤ℤ◌, ℤ, List, Option, Some, None, length, IsTrue, IsSome, IsFalse}
+use Rattle.std.specs.Prelude.{◌≡◌, ℕ, ◌+◌, ◌*◌, ◌≤◌, ◌<◌, ◌≤ℤ◌, ℤ, if◌then◌else◌, List, Option, Some, None, length, IsTrue, IsSome, IsFalse}
 use Rattle.std.specs.List.{All}
 use Rattle.ec_terms.specs.declared.ids.Slot.{Slot}
 use Rattle.ec_terms.specs.declared.ground.Ground.{Ground}
@@ -10,6 +10,7 @@ use Rattle.ec_axioms.specs.Changes.{has_event, change_counts}
 use Rattle.ec_axioms.specs.Events.{event_of}
 use Rattle.ec_axioms.specs.Marks.{PlainMark, mark_at}
 use Rattle.ec_props.specs.Table.{KeptProp, prop_at, term_at}
+use Rattle.ec_exclusive.specs.Forms.{breaks_by_initiation}
 use Rattle.ec_rows.specs.PlainMarks.{plain_mark}
 use Rattle.ec_events.specs.Store.{Kept, event_at, history_of}
 use Rattle.ec_numbered.specs.ByNumber.{kept_at}
@@ -49,12 +50,13 @@ abbrev pub mark_made : {T : Type 0} → (T → ℤ) → Option (MarkChange T) �
 mark_made rank None old = old
 mark_made rank (Some change) old = plain_mark rank change.1
 
--- a mark at an instant with its initiations alone
+-- a mark at an instant with the initiations alone, where they are kept
 abbrev pub initiation_at : Theory → List PlainEvent → Ground → ℤ → PlainMark
-initiation_at theory events p t = record { instant = t; inits = (mark_at theory events p t).inits; terms = 0; clashes = 0 }
+initiation_at theory events p t =
+    record { instant = t; inits = if breaks_by_initiation theory p then (mark_at theory events p t).inits else 0; terms = 0; clashes = 0 }
 
--- The changed marks are those of the new list: each kept property has its marks, and its initiations, at every instant; and
--- no other number has a change.
+-- The changed marks are those of the new list: each kept property has its marks, and the initiations that are kept of it, at
+-- every instant; and no other number has a change.
 pub record AreMarksPlanned {T : Type 0} (rank : T → ℤ) (theory : Theory) (old new : List PlainEvent) (table : List KeptProp) (planned : Planned T) : Type 0 where
   pub marks : (id : ℕ) (p : Ground) (t : ℤ) → term_at id table ≡ Some p → mark_made rank (change_at rank id t planned.marks) (mark_at theory old p t) ≡ mark_at theory new p t
   pub initiations : (id : ℕ) (p : Ground) (t : ℤ) → term_at id table ≡ Some p

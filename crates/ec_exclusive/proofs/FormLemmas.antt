@@ -12,7 +12,7 @@ use Rattle.ec_numbered.specs.ByNumber.{kept_at}
 use Rattle.ec_numbered.specs.PropSet.{has_number, with_number, without_number}
 use Rattle.ec_numbered.proofs.Numbers.{same_prop, itself, has_number-filter, has_number-with_number}
 use Rattle.ec_exclusive.specs.declared.forms.Form.{Form}
-use Rattle.ec_exclusive.specs.Forms.{TermForm, has_form, form_of, forms_of, form_in, form_kept, has_key, texts_of}
+use Rattle.ec_exclusive.specs.Forms.{TermForm, breaks_by_initiation, has_form, form_of, forms_of, form_in, form_kept, has_key, texts_of}
 use Rattle.ec_exclusive.proofs.KeyLemmas.{has_form-keys}
 use Rattle.ec_exclusive.specs.Neighbours.{form_at}
 
@@ -109,6 +109,22 @@ module _ (theory : Theory) (table : List KeptProp) (p : PropId) where
 
   pub is_strong-read : (form : Form) → form_at theory table p ≡ Some (form_in form) → option_map (is_strong theory) (term_at p.0 table) ≡ Some form.strong
   is_strong-read form is = strong-form (term_at p.0 table) (form_in form) is
+
+  -- what both say together
+  either : (o : Option Ground) (strong fits : Bool) → option_map (has_form theory) o ≡ Some fits → option_map (is_strong theory) o ≡ Some strong
+      → option_map (breaks_by_initiation theory) o ≡ Some (strong || fits)
+  either None strong fits fit is = cc
+  either (Some term) strong fits fit is =
+      let one : has_form theory term ≡ fits = cc in
+      let other : is_strong theory term ≡ strong = cc in
+      ap Some (ap₂ (λ a b. a || b) one other ∙ turned fits strong)
+    where
+      turned : (a b : Bool) → (a || b) ≡ (b || a)
+      turned a b = grind arith
+
+  pub breaks_by_initiation-read : (form : Form) → form_at theory table p ≡ Some (form_in form)
+      → option_map (breaks_by_initiation theory) (term_at p.0 table) ≡ Some (form.strong || not (length form.keys.items == 0))
+  breaks_by_initiation-read form is = either (term_at p.0 table) form.strong (not (length form.keys.items == 0)) (has_form-read form is) (is_strong-read form is)
 
   pub form_at-term : (term : Ground) → term_at p.0 table ≡ Some term → form_at theory table p ≡ Some (form_of theory term)
   form_at-term term is = ap (option_map (form_of theory)) is

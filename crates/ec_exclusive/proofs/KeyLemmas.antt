@@ -179,3 +179,20 @@ keys-common i (d ∷ ds) p q speaks =
 pub exclusive-common : (theory : Theory) (p q : Ground) → are_exclusive theory p q ≡ true → list_any (is_key (own_keys theory.exclusives q)) (other_keys theory.exclusives p) ≡ true
 unfolding are_exclusive
 exclusive-common theory p q exclusive = keys-common 0 theory.exclusives p q (and_parts _ _ exclusive).1
+
+-- and a side of a declaration fits it
+side-fits : (p q : Ground) (d : Exclusive) → excludes p q d ≡ true → fits_side q d ≡ true
+unfolding excludes
+side-fits p q d speaks =
+    ⊎_elim (λ both. or_right (fits_some d.left q) (fits_some d.right q) (fits-right d p q both))
+    (λ both. or_left (fits_some d.left q) (fits_some d.right q) (fits-left d q p both)) (or_cases (both_fit d.left d.right p q) (both_fit d.left d.right q p) speaks)
+
+sides-fit : (p q : Ground) (ds : List Exclusive) → list_any (excludes p q) ds ≡ true → list_any (fits_side q) ds ≡ true
+sides-fit p q [] speaks = speaks
+sides-fit p q (d ∷ ds) speaks =
+    ⊎_elim (λ here. or_left (fits_side q d) (list_any (fits_side q) ds) (side-fits p q d here))
+    (λ rest. or_right (fits_side q d) (list_any (fits_side q) ds) (sides-fit p q ds rest)) (or_cases (excludes p q d) (list_any (excludes p q) ds) speaks)
+
+pub exclusive-has_form : (theory : Theory) (p q : Ground) → are_exclusive theory p q ≡ true → has_form theory q ≡ true
+unfolding are_exclusive
+exclusive-has_form theory p q exclusive = sides-fit p q theory.exclusives (and_parts _ _ exclusive).1

@@ -19,6 +19,10 @@ fits_side term d = fits_some d.left term || fits_some d.right term
 abbrev pub has_form : Theory → Ground → Bool
 has_form theory term = list_any (fits_side term) theory.exclusives
 
+-- an initiation may break the term: one of a term that excludes it, as some side of some declaration fits it, or its own, as it is strong
+abbrev pub breaks_by_initiation : Theory → Ground → Bool
+breaks_by_initiation theory term = has_form theory term || is_strong theory term
+
 -- what a theory says of a term by itself: the keys of the groups in which it stands, and whether it is strong
 pub record TermForm : Type 0 where
   pub keys : List (List ℕ)

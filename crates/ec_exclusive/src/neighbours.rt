@@ -6,7 +6,7 @@ ghost use Rattle.ec_terms.specs.Domain.{is_strong as declared_strong};
 ghost use Rattle.ec_props.specs.Table.{KeptProp, prop_at, term_at};
 ghost use Rattle.ec_numbered.specs.PropSet.{are_ascending, with_number};
 ghost use Rattle.ec_exclusive.specs.Added.{added_props, is_added as added, neighbours_of, without_added};
-ghost use Rattle.ec_exclusive.specs.Forms.{has_form as of_some_form};
+ghost use Rattle.ec_exclusive.specs.Forms.{breaks_by_initiation as may_break, has_form as of_some_form};
 ghost use Rattle.ec_exclusive.specs.Neighbours.{AreNeighbours, exclusive_at};
 
 use crate::forms::{Form, form_of};
@@ -94,6 +94,17 @@ impl Neighbours {
     {
         match self.forms.get(p) {
             Some(form) => form.strong,
+            None => unreachable!(),
+        }
+    }
+
+    /// Whether an initiation may break an added property: one of a property that excludes it, or its own, as it is strong.
+    pub fn breaks_by_initiation(&self, p: PropId) -> bool
+        requires { IsTrue (added p self.now.rows) }
+        ensures { (theory : Theory) (table : List KeptProp) → AreNeighbours theory table self.now → option_map (may_break theory) (term_at p.0 table) ≡ Some result }
+    {
+        match self.forms.get(p) {
+            Some(form) => form.strong || !form.keys.as_slice().is_empty(),
             None => unreachable!(),
         }
     }

@@ -8,6 +8,7 @@ mod Reading
 pub mod Spliced
 mod Walking
 mod Covering
+mod LastBefore
 pub mod OneMark
 mod PassOrder
 pub mod Written

@@ -95,17 +95,20 @@ module _ {T : Type 0} (rank : T → ℤ) (marks : List (Mark T)) (strong initial
 
 -- ---- the last of some spans
 
+-- the members up to a place, the last of them apart
+pub take-last : {X : Type 0} (xs : List X) (count : ℕ) → 0 < count → (x : X) → slice_get xs (count - 1) ≡ Some x → take count xs ≡ take (count - 1) xs ++ x ∷ []
+take-last xs count more x read =
+    let is : count ≡ suc (count - 1) = omega arith in
+    ap (λ n. take n xs) is ∙ take-suc xs (count - 1) x (slice_get_within xs (count - 1) x read)
+    ∙ ap (λ y. take (count - 1) xs ++ y ∷ []) (get_or_from_slice_get xs (count - 1) x x read)
+
 module _ {T : Type 0} (rank : T → ℤ) where
   pub last-span : (front : Option (End T)) (spans : List (Span T)) (count : ℕ) → 0 < count → (span : Span T) → slice_get spans (count - 1) ≡ Some span →
       Some (plain_end rank span.end) ≡ option_map (λ (i : PlainInterval). i.until) (last_or None (plain_intervals rank (front_members front ++ map span_interval (take count spans))))
   last-span front spans count more span read =
-      let is : count ≡ suc (count - 1) = omega arith in
-      let taken : take count spans ≡ take (count - 1) spans ++ span ∷ [] =
-      ap (λ n. take n spans) is ∙ take-suc spans (count - 1) span (slice_get_within spans (count - 1) span read)
-      ∙ ap (λ s. take (count - 1) spans ++ s ∷ []) (get_or_from_slice_get spans (count - 1) span span read) in
       sym (ap (option_map (λ (i : PlainInterval). i.until))
       (ap (last_or None)
-      (ap (λ xs. plain_intervals rank (front_members front ++ map span_interval xs)) taken
+      (ap (λ xs. plain_intervals rank (front_members front ++ map span_interval xs)) (take-last spans count more span read)
       ∙ ap (λ xs. plain_intervals rank (front_members front ++ xs)) (map-append span_interval (take (count - 1) spans) (span ∷ []))
       ∙ ap (plain_intervals rank) (sym (append_assoc (front_members front) (map span_interval (take (count - 1) spans)) (span_interval span ∷ [])))
       ∙ map-append (plain_interval rank) (front_members front ++ map span_interval (take (count - 1) spans)) (span_interval span ∷ []))

@@ -1,7 +1,8 @@
 -- The intervals of all properties, by number, and how times in them are read as whole numbers.
 use Rattle.std.specs.Prelude.{◌≡◌, ◌++◌, ◌<◌, ◌≤◌, ◌^◌, ℕ, ℤ, Bool, List, [], ◌∷◌, map, filter, length, int_le, Option, Some, None, is_some, IsTrue}
+use Rattle.std.specs.List.{last_or}
 use Rattle.ec_numbered.specs.ByNumber.{kept_at}
-use Rattle.ec_axioms.specs.Timeline.{Begin as PlainBegin, before_all, begin_at, Interval as PlainInterval}
+use Rattle.ec_axioms.specs.Timeline.{Begin as PlainBegin, before_all, begin_at, Interval as PlainInterval, is_after}
 use Rattle.ec_rows.specs.declared.span.End.{End}
 use Rattle.ec_rows.specs.declared.span.End.TheVariants.{At as Ended, Unended}
 use Rattle.ec_rows.specs.declared.span.Span.{Span}
@@ -116,3 +117,7 @@ spans_up_to rank t spans = filter (λ span. int_le (rank span.from) t) spans
 -- a broken begin with its break, with their times as whole numbers
 abbrev pub plain_broken : {T : Type 0} → (T → ℤ) → Begin T × T → PlainBegin × ℤ
 plain_broken rank broken = (plain_begin rank broken.0, rank broken.1)
+
+-- the last begin of some intervals before t
+abbrev pub last_begin_of : List PlainInterval → ℤ → Option PlainBegin
+last_begin_of intervals t = last_or None (filter (λ begin. is_after begin t) (map (λ (interval : PlainInterval). interval.from) intervals))

@@ -1,17 +1,17 @@
-ghost use Rattle.std.specs.Prelude.{◌≡◌, ◌≢◌, ◌↔◌, ℕ, ◌+◌, ◌-◌, ◌<◌, ◌≤◌, ◌≤ℤ◌, [], IsTrue, IfSome, IfNone, OnErr, OnOk, Some, None, length, slice_get};
+ghost use Rattle.std.specs.Prelude.{◌≡◌, ◌≢◌, ◌↔◌, ℕ, ◌+◌, ◌-◌, ◌<◌, ◌≤◌, ◌≤ℤ◌, [], IsTrue, IfSome, IfNone, OnErr, OnOk, Some, None, length, option_map, slice_get};
 ghost use Rattle.ec_axioms.specs.Marks.{spans_of};
 ghost use Rattle.ec_axioms.specs.Timeline.{is_held_at};
 ghost use Rattle.ec_intervals.specs.Near.{IsNear};
 ghost use Rattle.ec_intervals.specs.OldMarks.{AreOfOldMarks};
-ghost use Rattle.ec_intervals.specs.Table.{IsGrown, front_at, has_row, members_at, plain_intervals, room_at, row_at, spans_at};
+ghost use Rattle.ec_intervals.specs.Table.{IsGrown, front_at, has_row, last_begin_of, members_at, plain_begin, plain_intervals, room_at, row_at, spans_at};
 ghost use Rattle.ec_rows.specs.PlainMarks.{plain_marks};
 
 use crate::draft::Draft;
-use crate::interval::Interval;
+use crate::interval::{Begin, Interval};
 use crate::near::Near;
 use crate::reach::{is_outside, reach_of};
 use crate::reaches::Reaches;
-use crate::row::{KeptRow, clear_row, count_members, member_of, row_covers};
+use crate::row::{KeptRow, clear_row, count_members, member_of, row_begin_before, row_covers};
 use crate::rows::prepare_row;
 use crate::write::{rebuild_row, splice_row};
 use ec_moment::Moment;
@@ -113,6 +113,14 @@ impl<T: Moment, I: SpanRow<T>> Intervals<T, I> {
             Some(kept) => row_covers(kept, at),
             None => false,
         }
+    }
+
+    /// The last begin of the intervals of a property before a time. It takes one search in its row.
+    pub fn last_begin_before(&self, p: PropId, at: T) -> Option<Begin<T>>
+        ensures { option_map (plain_begin T.rank) result ≡ last_begin_of (plain_intervals T.rank (members_at p.0 self.now)) (T.rank at) }
+    {
+        let kept = self.rows.get(p)?;
+        row_begin_before(kept, at)
     }
 
     /// Which properties may hold at a time, told for groups of them. It reads no row, and takes no memory.

@@ -1,8 +1,8 @@
 //! The row of one property: its intervals, read and written.
-ghost use Rattle.std.specs.Prelude.{◌≡◌, ◌<◌, ◌≤◌, ◌^◌, [], None, Some, length, slice_get};
+ghost use Rattle.std.specs.Prelude.{◌≡◌, ◌<◌, ◌≤◌, ◌^◌, [], None, Some, length, option_map, slice_get};
 ghost use Rattle.ec_axioms.specs.Timeline.{is_held_at};
 ghost use Rattle.ec_intervals.specs.RowViews.{seen};
-ghost use Rattle.ec_intervals.specs.Table.{front_members, members_in, plain_intervals};
+ghost use Rattle.ec_intervals.specs.Table.{front_members, last_begin_of, members_in, plain_begin, plain_intervals};
 
 use crate::interval::{Begin, Interval, span_interval};
 use ec_moment::Moment;
@@ -64,6 +64,23 @@ pub(crate) fn row_covers<T: Moment, I: SpanRow<T>>(kept: &KeptRow<T, I>, at: T) 
     match kept.spans.covering(at) {
         Some(_) => true,
         None => false,
+    }
+}
+
+/// The last begin of a row before a time: that of the last span that starts before it, or else that of the front.
+pub(crate) fn row_begin_before<T: Moment, I: SpanRow<T>>(
+    kept: &KeptRow<T, I>,
+    at: T,
+) -> Option<Begin<T>>
+    ensures { option_map (plain_begin T.rank) result ≡ last_begin_of (plain_intervals T.rank (members_in (Some (seen I.spans I.spare kept.now)))) (T.rank at) }
+{
+    let count = kept.spans.count_before(at);
+    if count > 0 {
+        return Some(Begin::At(kept.spans.get(count - 1).from));
+    }
+    match kept.front {
+        Some(_) => Some(Begin::Initial),
+        None => None,
     }
 }
 

@@ -186,6 +186,23 @@ fn has_members<I: SpanRow<Tick>>(
     true
 }
 
+/// Whether the last begin of a property before each of these begins, and before a later time, is the one in front of it.
+fn has_last_begins<I: SpanRow<Tick>>(
+    intervals: &Intervals<Tick, I>,
+    wanted: &[(Option<i64>, Option<i64>)],
+) -> bool {
+    let mut last = None;
+    for (from, _) in wanted {
+        if let Begin::At(at) = begin(*from)
+            && intervals.last_begin_before(P, at) != last
+        {
+            return false;
+        }
+        last = Some(begin(*from));
+    }
+    intervals.last_begin_before(P, Tick(100)) == last
+}
+
 /// Whether the broken begins of a row are these, one after the other.
 fn has_broken<M: MarkRow<Tick>>(
     row: &M,
@@ -217,7 +234,11 @@ fn spells(
     let mut intervals: Intervals<Tick, VecSpans<Tick>> = Intervals::new(alloc);
     rebuild(&mut intervals, P, &row, !strong, true)?;
     rebuild(&mut intervals, P, &row, strong, initial)?;
-    Ok(has_members(&intervals, wanted) && has_broken(&row, strong, initial, broken))
+    Ok(
+        has_members(&intervals, wanted)
+            && has_last_begins(&intervals, wanted)
+            && has_broken(&row, strong, initial, broken),
+    )
 }
 
 /// The kind of a property and its marks, each with its time and its counts of starts, ends and clashes; the intervals and, behind

@@ -27,9 +27,10 @@ use Rattle.ec_rows.specs.declared.mark.Mark.{Mark}
 use Rattle.ec_rows.specs.Marks.{is_counted, mark_before}
 use Rattle.ec_rows.specs.PlainMarks.{plain_mark, plain_marks}
 use Rattle.ec_rows.proofs.OrderedPairs.{IsPairwise-ascending}
-use Rattle.ec_parts.specs.Caches.{initiations_of}
+use Rattle.ec_parts.specs.Caches.{kept_initiations}
 use Rattle.ec_parts.specs.Gathered.{initiations_at, clashes_at, CountsClashesAlone, AreGathered}
 use Rattle.ec_parts.specs.Mentions.{terms_of}
+use Rattle.ec_parts.proofs.KeptInitiations.{kept_initiations-exclusive}
 use Rattle.ec_parts.proofs.MarkSums.{sum_by-map, sum_by-flat_map, sum_at, sum_at-member, member-sum_at, sum_at-initiations_of}
 
 module _ {T : Type 0} (rank : T → ℤ) where
@@ -43,16 +44,19 @@ module _ {T : Type 0} (rank : T → ℤ) where
   -- ---- the initiations of neighbours
 
   module _ (theory : Theory) (now : List PlainEvent) (history : IsTrue (is_history now)) (table : List KeptProp) (p : PropId) (term : Ground) (own : term_at p.0 table ≡ Some term) (initiations : PointTable T)
-      (are : (id : ℕ) (t : Ground) → term_at id table ≡ Some t → plain_marks rank (marks_at id initiations) ≡ initiations_of theory now t) (t : ℤ) where
+      (are : (id : ℕ) (t : Ground) → term_at id table ≡ Some t → plain_marks rank (marks_at id initiations) ≡ kept_initiations theory now t) (t : ℤ) where
     inits_by_term : Ground → ℕ
     inits_by_term q = (mark_at theory now q t).inits
 
     inits_by_number : PropId → ℕ
     inits_by_number q = initiations_at rank t (marks_at q.0 initiations)
 
-    same_inits : (q : PropId) (u : Ground) → term_at q.0 table ≡ Some u → inits_by_number q ≡ inits_by_term u
+    same_inits : (q : PropId) (u : Ground) → term_at q.0 table ≡ Some u → are_exclusive theory term u ≡ true → inits_by_number q ≡ inits_by_term u
     unfolding inits_by_term inits_by_number
-    same_inits q u is = initiations_at-plain t (marks_at q.0 initiations) ∙ ap (sum_at (λ m. m.inits) t) (are q.0 u is) ∙ sum_at-initiations_of theory now u t history
+    same_inits q u is exclusive =
+        initiations_at-plain t (marks_at q.0 initiations)
+        ∙ ap (sum_at (λ m. m.inits) t) (are q.0 u is ∙ kept_initiations-exclusive theory now u term exclusive)
+        ∙ sum_at-initiations_of theory now u t history
 
     abbrev AreTheSame : List PropId → Type 0
     AreTheSame ps = sum_by inits_by_number (filter (λ (q : PropId). both_exclusive theory (Some term) (term_at q.0 table)) ps) ≡ sum_by inits_by_term (filter (are_exclusive theory term) (terms_of table ps))
@@ -61,17 +65,17 @@ module _ {T : Type 0} (rank : T → ℤ) where
     by_terms [] = refl
     by_terms (q ∷ qs) = each (by_terms qs) (term_at q.0 table) refl
       where
-        kept : AreTheSame qs → (u : Ground) → term_at q.0 table ≡ Some u → (b : Bool)
+        kept : AreTheSame qs → (u : Ground) → term_at q.0 table ≡ Some u → (b : Bool) → are_exclusive theory term u ≡ b
             → sum_by inits_by_number (cond b (q ∷ filter (λ (r : PropId). both_exclusive theory (Some term) (term_at r.0 table)) qs) (filter (λ (r : PropId). both_exclusive theory (Some term) (term_at r.0 table)) qs))
             ≡ sum_by inits_by_term (cond b (u ∷ filter (are_exclusive theory term) (terms_of table qs)) (filter (are_exclusive theory term) (terms_of table qs)))
-        kept rest u is true = sum_by-cons inits_by_number q (filter (λ (r : PropId). both_exclusive theory (Some term) (term_at r.0 table)) qs) ∙ ap₂ (λ a b. a + b) (same_inits q u is) rest ∙ sym (sum_by-cons inits_by_term u (filter (are_exclusive theory term) (terms_of table qs)))
-        kept rest u is false = rest
+        kept rest u is true exclusive = sum_by-cons inits_by_number q (filter (λ (r : PropId). both_exclusive theory (Some term) (term_at r.0 table)) qs) ∙ ap₂ (λ a b. a + b) (same_inits q u is exclusive) rest ∙ sym (sum_by-cons inits_by_term u (filter (are_exclusive theory term) (terms_of table qs)))
+        kept rest u is false other = rest
 
         each : AreTheSame qs → (o : Option Ground) → term_at q.0 table ≡ o
             → sum_by inits_by_number (cond (both_exclusive theory (Some term) o) (q ∷ filter (λ (r : PropId). both_exclusive theory (Some term) (term_at r.0 table)) qs) (filter (λ (r : PropId). both_exclusive theory (Some term) (term_at r.0 table)) qs))
             ≡ sum_by inits_by_term (filter (are_exclusive theory term) (cons_option o (terms_of table qs)))
         each rest None is = rest
-        each rest (Some u) is = kept rest u is (are_exclusive theory term u)
+        each rest (Some u) is = kept rest u is (are_exclusive theory term u) refl
 
     -- the initiations of the neighbours, one row after the other, are those of the terms that are exclusive
     pub neighbours-inits : (ps : List PropId) → initiations_at rank t (flat_map (λ (q : PropId). marks_at q.0 initiations) (filter (exclusive_at theory table p) ps)) ≡ neighbour_inits theory now (terms_of table ps) term t

@@ -10,6 +10,7 @@ pub mod NoEvents
 pub mod Forgotten
 pub mod InSlots
 pub mod GatheredRows
+pub mod KeptInitiations
 pub mod MarkSums
 pub mod GatheredMarks
 pub mod Entered

@@ -25,6 +25,7 @@ use Rattle.ec_parts.specs.Caches.{initiations_of_mark, AreEntriesOf, IsEnteredIn
 use Rattle.ec_parts.specs.StandFor.{View, StandFor}
 use Rattle.ec_parts.specs.Initials.{KeepsOnce, HaveFirstIntervals}
 use Rattle.ec_parts.specs.declared.tally.Tally.{Tally}
+use Rattle.ec_parts.proofs.KeptInitiations.{kept_initiations-none}
 
 -- ---- no events
 
@@ -120,7 +121,8 @@ module _ {T : Type 0} (rank : T → ℤ) (theory : Theory) (numbers : List PropI
           initials = AreInitialsOf-first;
         };
         initiations_of = record {
-          marks = λ id p is. ap (λ row. plain_marks rank (marks_in row)) (first.initiations id) ∙ sym (ap (λ marks. map initiations_of_mark (filter mark_initiates marks)) (no_marks p));
+          marks = λ id p is. ap (λ row. plain_marks rank (marks_in row)) (first.initiations id)
+              ∙ sym (kept_initiations-none theory [] p (ap (λ marks. map initiations_of_mark (filter mark_initiates marks)) (no_marks p)));
           none = λ id none. ap marks_in (first.initiations id);
         };
         intervals_of = record {

@@ -38,13 +38,14 @@ use Rattle.ec_rows.specs.PlainMarks.{plain_marks}
 use Rattle.ec_rows.proofs.OrderedPairs.{IsPairwise-ascending}
 use Rattle.ec_intervals.specs.Table.{IntervalTable, members_at, plain_intervals}
 use Rattle.ec_parts.specs.Tables.{mention_count, held_mention, AreKept}
-use Rattle.ec_parts.specs.Caches.{AreEventsOf, AreEntriesOf, AreInitialsOf, AreMarksOf, AreInitiationsOf, AreIntervalsOf, initiations_of, initiations_of_mark}
+use Rattle.ec_parts.specs.Caches.{AreEventsOf, AreEntriesOf, AreInitialsOf, AreMarksOf, AreInitiationsOf, AreIntervalsOf, initiations_of, initiations_of_mark, kept_initiations}
 use Rattle.ec_parts.specs.StandFor.{View, StandForBoth}
 use Rattle.ec_parts.specs.Gathered.{AreGathered, initiations_at, marks_under}
 use Rattle.ec_parts.specs.Mentions.{terms_of}
 use Rattle.ec_parts.specs.declared.tally.Tally.{Tally}
 use Rattle.ec_parts.proofs.LinksByNumber.{IsOneToOne, same_number, term_at-prop_of}
 use Rattle.ec_parts.proofs.CachesKept.{AreEntriesOf-moved, prop_of-moved}
+use Rattle.ec_parts.proofs.KeptInitiations.{kept_initiations-none}
 use Rattle.ec_parts.proofs.GatheredMarks.{marks_of-gathered, neighbours-inits}
 
 -- a property that nothing mentions is new in a table
@@ -205,8 +206,8 @@ module _ (theory : Theory) (p : PropId) (term : Ground) (before after : List Kep
     AreInitiationsOf-in : (points : PointTable T) → AreInitiationsOf rank theory now before points → AreInitiationsOf rank theory now after points
     AreInitiationsOf-in points initiations = record {
       marks =
-          by_number (λ n. (t : Ground) → term_at n after ≡ Some t → plain_marks rank (marks_at n points) ≡ initiations_of theory now t)
-          (λ t is. ap (plain_marks rank) (initiations.none p.0 prop_at-before) ∙ sym no_initiations ∙ ap (initiations_of theory now) (own_term t is))
+          by_number (λ n. (t : Ground) → term_at n after ≡ Some t → plain_marks rank (marks_at n points) ≡ kept_initiations theory now t)
+          (λ t is. ap (plain_marks rank) (initiations.none p.0 prop_at-before) ∙ sym (kept_initiations-none theory now term no_initiations) ∙ ap (kept_initiations theory now) (own_term t is))
           (λ n other t is. initiations.marks n t (sym (term_at-other n other) ∙ is));
       none = λ n none. initiations.none n (none_before n none);
     }

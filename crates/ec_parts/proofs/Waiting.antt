@@ -31,6 +31,7 @@ use Rattle.ec_parts.specs.Caches.{AreInitialsOf, initiations_of_mark}
 use Rattle.ec_parts.specs.Gathered.{AreGathered, initiations_at, marks_under}
 use Rattle.ec_parts.specs.StandFor.{View, StandForBoth}
 use Rattle.ec_parts.specs.declared.tally.Tally.{Tally}
+use Rattle.ec_parts.proofs.KeptInitiations.{IsMember-kept_initiations}
 use Rattle.ec_parts.proofs.LinksByNumber.{IsOneToOne}
 use Rattle.ec_parts.proofs.OneMore.{IsNew, IsOneToOne-without_props, StandForBoth-in, clashes-new, added-in, prop_at-before}
 
@@ -164,7 +165,9 @@ module _ {T : Type 0} (rank : T → ℤ) (theory : Theory) (items : List PropId)
           each (Some k) is =
               let shown = some.stand.caches.initiations_of.marks q.0 k.term (ap (option_map (λ (x : KeptProp). x.term)) is) in
               let plain = subst (λ ms. IsMember ms (plain_mark rank m)) shown (IsMember-map (plain_mark rank) (marks_at q.0 old.initiations) m member) in
-              let from = IsMember-from_map initiations_of_mark (filter mark_initiates (marks_of theory some.now k.term)) (plain_mark rank m) plain in
+              let from =
+              IsMember-from_map initiations_of_mark (filter mark_initiates (marks_of theory some.now k.term)) (plain_mark rank m)
+              (IsMember-kept_initiations theory some.now k.term (plain_mark rank m) plain) in
               let test = (IsMember-from_filter mark_initiates (marks_of theory some.now k.term) from.0 from.1).1 in
               subst (λ n. 0 < n) (ap (λ (x : PlainMark). x.inits) from.2) (positive from.0.inits test)
 

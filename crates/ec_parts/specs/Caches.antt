@@ -1,6 +1,6 @@
 -- What it is for the caches to be those of a list of events: the store, the entries, the marks, the initiations and the intervals.
 -- Parts go by the numbers of properties and by slots; the calculus goes by terms and events.
-use Rattle.std.specs.Prelude.{◌≡◌, ℕ, ℤ, false, List, [], map, filter, Option, Some, None}
+use Rattle.std.specs.Prelude.{◌≡◌, ℕ, ℤ, false, if◌then◌else◌, List, [], map, filter, Option, Some, None}
 use Rattle.ec_terms.specs.declared.ids.Slot.{Slot}
 use Rattle.ec_terms.specs.declared.ground.Ground.{Ground}
 use Rattle.ec_terms.specs.declared.theory.Theory.{Theory}
@@ -10,6 +10,7 @@ use Rattle.ec_axioms.specs.Calculus.{PlainEvent, is_current, intervals_of}
 use Rattle.ec_axioms.specs.Events.{event_of}
 use Rattle.ec_axioms.specs.Marks.{PlainMark, marks_of, mark_initiates}
 use Rattle.ec_props.specs.Table.{KeptProp, prop_at, term_at}
+use Rattle.ec_exclusive.specs.Forms.{breaks_by_initiation}
 use Rattle.ec_rows.specs.PlainMarks.{plain_marks}
 use Rattle.ec_events.specs.Store.{Store, history_of, event_at}
 use Rattle.ec_context.specs.Entries.{shown_entries}
@@ -65,9 +66,13 @@ initiations_of_mark mark = record { instant = mark.instant; inits = mark.inits; 
 abbrev pub initiations_of : Theory → List PlainEvent → Ground → List PlainMark
 initiations_of theory events p = map initiations_of_mark (filter mark_initiates (marks_of theory events p))
 
--- the initiations of each kept property are its initiations in the calculus, and no other number has any
+-- the initiations that are kept of a property: all of one that an initiation may break, and none of another
+abbrev pub kept_initiations : Theory → List PlainEvent → Ground → List PlainMark
+kept_initiations theory events p = if breaks_by_initiation theory p then initiations_of theory events p else []
+
+-- the initiations of each kept property that an initiation may break are its initiations in the calculus, and no other number has any
 pub record AreInitiationsOf {T : Type 0} (rank : T → ℤ) (theory : Theory) (events : List PlainEvent) (table : List KeptProp) (points : PointTable T) : Type 0 where
-  pub marks : (id : ℕ) (p : Ground) → term_at id table ≡ Some p → plain_marks rank (marks_at id points) ≡ initiations_of theory events p
+  pub marks : (id : ℕ) (p : Ground) → term_at id table ≡ Some p → plain_marks rank (marks_at id points) ≡ kept_initiations theory events p
   pub none : (id : ℕ) → prop_at id table ≡ None → marks_at id points ≡ []
 
 -- ---- intervals

@@ -20,7 +20,8 @@ pub struct Parts<T: Moment, M: MarkRow<T>, I: SpanRow<T>, X: TimeRow<T>> {
     pub entries: Entries<T>,
     /// The marks of each kept property.
     pub points: Points<T, M>,
-    /// The marks of each kept property that initiate it, each with its initiations alone.
+    /// The marks that initiate a kept property, each with its initiations alone: of each that an initiation may break, as of
+    /// one that another excludes. Nothing asks for those of the others.
     pub initiations: Points<T, M>,
     pub intervals: Intervals<T, I>,
 }

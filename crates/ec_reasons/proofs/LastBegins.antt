@@ -1,21 +1,27 @@
--- The last begin of a property before a time: its last start, or that before all events.
+-- The last begin of a property before a time: its last start, or that before all events; and where no initiation can break it, that of
+-- an interval.
 use Rattle.std.proofs.Common.{◌≡◌, ℤ, Bool, true, false, List, [], ◌∷◌, ◌++◌, map, filter, Option, Some, None, option_map, IsTrue, refl, sym, ap, ap₂, ◌∙◌}
 use Rattle.std.specs.Prelude.{int_lt}
 use Rattle.std.specs.List.{last_or}
 use Rattle.std.specs.Option.{option_or}
 use Rattle.std.proofs.lemmas.List.Elements.{filter-append}
-use Rattle.std.proofs.lemmas.Bool.{and_parts}
+use Rattle.std.proofs.lemmas.Bool.{and_parts, both_ways, false_from_ne_true, or_parts}
 use Rattle.ec_lists.proofs.Filters.{filter_comm, filter-map, filter-filter_wider}
 use Rattle.ec_terms.specs.declared.ground.Ground.{Ground}
 use Rattle.ec_terms.specs.declared.theory.Theory.{Theory}
-use Rattle.ec_terms.specs.Domain.{is_initial}
-use Rattle.ec_axioms.specs.Calculus.{PlainEvent, instants_of, timeline_of, timeline_by, is_current, is_initiated}
+use Rattle.ec_terms.specs.Domain.{are_exclusive, is_initial, is_strong}
+use Rattle.ec_terms.proofs.DomainLemmas.{are_exclusive-comm}
+use Rattle.ec_axioms.specs.Calculus.{PlainEvent, instants_of, timeline_of, timeline_by, intervals_of, is_current, is_initiated}
 use Rattle.ec_axioms.specs.Marks.{PlainMark, is_marked, mark_initiates, marks_of, mark_at}
 use Rattle.ec_axioms.specs.Timeline.{Timeline, Begin, begin_at, begins_of, initial_begins, instants_before, is_after, is_start, last_begin}
 use Rattle.ec_axioms.proofs.HistoryMarks.{timeline_of-marks}
 use Rattle.ec_axioms.proofs.Members.{IsMember-from_filter}
-use Rattle.ec_axioms.proofs.TimelineLaws.{IsBegin-from_member, initiated_at}
+use Rattle.ec_axioms.proofs.ExclusiveLaws.{break-terminated}
+use Rattle.ec_axioms.proofs.TimelineLaws.{IsBegin-from_member, begins-of_intervals, initiated_at}
 use Rattle.ec_axioms.proofs.MarkLaws.{is_marked-initiates}
+use Rattle.ec_exclusive.specs.Forms.{breaks_by_initiation, has_form}
+use Rattle.ec_exclusive.proofs.KeyLemmas.{exclusive-has_form}
+use Rattle.ec_intervals.specs.Table.{last_begin_of}
 use Rattle.ec_reasons.proofs.Lasts.{last_or-append, last_or-map, last_or-member, last_or-or}
 
 -- ---- on a timeline
@@ -88,3 +94,18 @@ module _ (theory : Theory) (events : List PlainEvent) (p : Ground) (t : ℤ) whe
       is
       ∙ ap (λ o. option_or (option_map begin_at o) (last_or None (initial_begins (is_initial theory p)))) none
       ∙ sym (last_begin-by_start (timeline_of theory events p) t)
+
+-- ---- by the intervals
+
+-- where no initiation can break a property, its last begin is that of an interval
+pub last_begin-of_intervals : (theory : Theory) (events : List PlainEvent) (p : Ground) (t : ℤ) → breaks_by_initiation theory p ≡ false
+    → last_begin_of (intervals_of theory events p) t ≡ last_begin (timeline_of theory events p) t
+unfolding intervals_of
+last_begin-of_intervals theory events p t never =
+    let neither = or_parts (has_form theory p) (is_strong theory p) never in
+    ap (λ begins. last_or None (filter (λ begin. is_after begin t) begins))
+    (begins-of_intervals (timeline_of theory events p)
+    (break-terminated theory events p
+    (λ q. false_from_ne_true (are_exclusive theory p q)
+    (λ exclusive. both_ways (has_form theory p) neither.0 (exclusive-has_form theory q p (are_exclusive-comm theory q p ∙ exclusive))))
+    neither.1))

@@ -13,7 +13,7 @@ use Rattle.ec_terms.proofs.DomainLemmas.{term_eq-refl}
 use Rattle.ec_terms.proofs.OrderLemmas.{term_eq-Decides}
 use Rattle.ec_axioms.specs.Calculus.{PlainEvent, instants_of, is_current, is_initiated, timeline_of}
 use Rattle.ec_axioms.specs.Marks.{PlainMark, mark_at, mark_breaks, mark_initiates, marks_of}
-use Rattle.ec_axioms.specs.Timeline.{Begin, is_after, next_break}
+use Rattle.ec_axioms.specs.Timeline.{Begin, is_after, last_begin, next_break}
 use Rattle.ec_props.specs.Table.{KeptProp, is_in_order, prop_at, term_at}
 use Rattle.ec_props.proofs.KeptLemmas.{place-prop_at, prop_at-id, same-places}
 use Rattle.ec_rows.specs.declared.mark.Mark.{Mark}
@@ -22,11 +22,14 @@ use Rattle.ec_numbered.specs.PropSet.{has_number}
 use Rattle.ec_numbered.proofs.Numbers.{has_number-filter}
 use Rattle.ec_points.specs.Table.{marks_at}
 use Rattle.ec_exclusive.specs.Added.{added_props, is_added}
+use Rattle.ec_exclusive.specs.Forms.{breaks_by_initiation}
 use Rattle.ec_exclusive.specs.Neighbours.{both_exclusive, exclusive_at}
+use Rattle.ec_intervals.specs.Table.{last_begin_of, members_at, plain_intervals}
 use Rattle.ec_parts.specs.Caches.{initiations_of_mark}
 use Rattle.ec_parts.specs.StandFor.{View}
+use Rattle.ec_parts.proofs.KeptInitiations.{kept_initiations-all}
 use Rattle.ec_reasons.specs.Standing.{AreOn}
-use Rattle.ec_reasons.proofs.LastBegins.{initiated-instants, instants_in}
+use Rattle.ec_reasons.proofs.LastBegins.{initiated-instants, instants_in, last_begin-of_intervals}
 use Rattle.ec_reasons.proofs.NextBreaks.{marks_of-next_break}
 use Rattle.ec_reasons.proofs.OnMarks.{times-instants, times_in}
 
@@ -88,12 +91,23 @@ module _ {T : Type 0} (rank : T → ℤ) (theory : Theory) (events : List PlainE
       (on.stand.both.tables.added.added head ∙ sym (is_some-option_map (λ (k : KeptProp). k.term) (prop_at head.0 view.table)) ∙ ap is_some there)
       ∙ and-true (are_exclusive theory p q)
 
-  pub on-times : times_in rank (marks_at id.0 view.initiations) ≡ filter (is_initiated theory events (is_current theory events) p) (instants_of events)
-  on-times =
+  pub on-breaks_by_initiation : (answer is : Bool) → option_map (breaks_by_initiation theory) (term_at id.0 view.table) ≡ Some answer → answer ≡ is → breaks_by_initiation theory p ≡ is
+  on-breaks_by_initiation answer is told same =
+      same_Some (breaks_by_initiation theory p) answer (sym (ap (option_map (breaks_by_initiation theory)) on.kept) ∙ told) ∙ same
+
+  -- ---- the last begin
+
+  -- of one that an initiation may break the initiations are kept
+  pub on-times : breaks_by_initiation theory p ≡ true → times_in rank (marks_at id.0 view.initiations) ≡ filter (is_initiated theory events (is_current theory events) p) (instants_of events)
+  on-times breaks =
       times-instants rank (marks_at id.0 view.initiations)
-      ∙ ap instants_in (on.stand.both.caches.initiations_of.marks id.0 p on.kept)
+      ∙ ap instants_in (on.stand.both.caches.initiations_of.marks id.0 p on.kept ∙ kept_initiations-all theory events p breaks)
       ∙ initiations-instants (filter mark_initiates (marks_of theory events p))
       ∙ initiated-instants theory events p
+
+  -- the begins of another are those of its intervals
+  pub on-begin : breaks_by_initiation theory p ≡ false → (t : ℤ) → last_begin_of (plain_intervals rank (members_at id.0 view.intervals)) t ≡ last_begin (timeline_of theory events p) t
+  on-begin never t = ap (λ intervals. last_begin_of intervals t) (on.stand.both.caches.intervals_of.members id.0 p on.kept) ∙ last_begin-of_intervals theory events p t never
 
   -- ---- the next break
 

@@ -1,9 +1,10 @@
 //! The last begin of a property before a time.
-ghost use Rattle.std.specs.Prelude.{◌≡◌, List, None, filter, option_map};
+ghost use Rattle.std.specs.Prelude.{◌≡◌, IsTrue, List, None, filter, option_map};
 ghost use Rattle.std.specs.List.{last_or};
 ghost use Rattle.ec_terms.specs.declared.ground.Ground.{Ground};
 ghost use Rattle.ec_axioms.specs.Calculus.{PlainEvent, timeline_of};
 ghost use Rattle.ec_axioms.specs.Timeline.{initial_begins, instants_before, is_start, last_begin as begin_before};
+ghost use Rattle.ec_exclusive.specs.Forms.{breaks_by_initiation as may_break};
 ghost use Rattle.ec_intervals.specs.Table.{plain_begin};
 ghost use Rattle.ec_parts.specs.StandFor.{view_of};
 ghost use Rattle.ec_reasons.specs.Standing.{AreOn, AreOnSome};
@@ -32,15 +33,15 @@ fn starts_at<T: Moment, M: MarkRow<T>, I: SpanRow<T>, X: TimeRow<T>>(
     mark.inits > 0 && (breaks(mark, strong) || !parts.points.current(id, at))
 }
 
-/// The last time before another at which a property starts. It walks back over the times before it at which the property
-/// is initiated while it is current already.
+/// The last time before another at which a property starts that an initiation may break. It walks back over the times before
+/// it at which the property is initiated while it is current already.
 fn last_start<T: Moment, M: MarkRow<T>, I: SpanRow<T>, X: TimeRow<T>>(
     parts: &Parts<T, M, I, X>,
     id: PropId,
     at: T,
 ) -> Option<T>
     requires { AreOnSome T.rank parts.now.checked (view_of parts.now) id.0 }
-    ensures { (events : List PlainEvent) (p : Ground) → AreOn T.rank parts.now.checked events (view_of parts.now) id.0 p → option_map T.rank result ≡ last_or None (filter (is_start (timeline_of parts.now.checked events p)) (instants_before (timeline_of parts.now.checked events p) (T.rank at))) }
+    ensures { (events : List PlainEvent) (p : Ground) → AreOn T.rank parts.now.checked events (view_of parts.now) id.0 p → IsTrue (may_break parts.now.checked p) → option_map T.rank result ≡ last_or None (filter (is_start (timeline_of parts.now.checked events p)) (instants_before (timeline_of parts.now.checked events p) (T.rank at))) }
 {
     let row = parts.initiations.row(id)?;
     let mut i = row.count_before(at, row.len());
@@ -61,7 +62,8 @@ fn initial_begin<T: Moment>(initial: bool) -> Option<Begin<T>>
     if initial { Some(Begin::Initial) } else { None }
 }
 
-/// The last begin of a property before a time: its last start, or that before all events where it is initial.
+/// The last begin of a property before a time. If no initiation can break the property, each of its begins begins an
+/// interval, and the last one is found among these; else it is the last start, or that before all events where it is initial.
 pub(crate) fn last_begin<T: Moment, M: MarkRow<T>, I: SpanRow<T>, X: TimeRow<T>>(
     parts: &Parts<T, M, I, X>,
     id: PropId,
@@ -70,6 +72,9 @@ pub(crate) fn last_begin<T: Moment, M: MarkRow<T>, I: SpanRow<T>, X: TimeRow<T>>
     requires { AreOnSome T.rank parts.now.checked (view_of parts.now) id.0 }
     ensures { (events : List PlainEvent) (p : Ground) → AreOn T.rank parts.now.checked events (view_of parts.now) id.0 p → option_map (plain_begin T.rank) result ≡ begin_before (timeline_of parts.now.checked events p) (T.rank at) }
 {
+    if !parts.neighbours.breaks_by_initiation(id) {
+        return parts.intervals.last_begin_before(id, at);
+    }
     match last_start(parts, id, at) {
         Some(start) => Some(Begin::At(start)),
         None => initial_begin(parts.points.initial(id)),

@@ -1,12 +1,13 @@
 -- A sweep that found nothing is under way: it has come up to before all events that stand in one list alone.
 use Rattle.std.proofs.lemmas.Int.{ints}
 use Rattle.std.proofs.Common.{◌≡◌, ◌≤ℤ◌, ◌+ℤ◌, ◌-ℤ◌, pos, ℕ, ℤ, Bool, true, false, List, [], ◌∷◌, Option, Some, None, option_map, length, filter, refl, sym, ap, ap₂, subst, ◌∙◌, ⊎_elim, arith}
-use Rattle.std.specs.Prelude.{◌&&◌, int_le, not}
+use Rattle.std.specs.Prelude.{if◌then◌else◌, ◌&&◌, int_le, not}
 use Rattle.std.specs.List.{list_all}
 use Rattle.std.specs.Option.{option_map_or}
 use Rattle.std.proofs.lemmas.Bool.{cases_Bool}
 use Rattle.std.proofs.lemmas.List.Elements.{All-nil}
 use Rattle.std.proofs.Common.{option_and_then}
+use Rattle.ec_exclusive.specs.Forms.{breaks_by_initiation}
 use Rattle.ec_lists.proofs.Integers.{int_le-same}
 use Rattle.ec_terms.specs.declared.ids.Slot.{Slot}
 use Rattle.ec_terms.specs.declared.ground.Ground.{Ground}
@@ -189,7 +190,7 @@ module _ {T : Type 0} (rank : T → ℤ) (theory : Theory) (new : List PlainEven
       progress_is = record { removed_by = sym (ap length none_removed); added_by = sym (ap length none_added) };
       planned_up_to = record {
         initiations = λ id p t kept within.
-            ap (λ (mark : PlainMark). record { instant = t; inits = mark.inits; terms = 0; clashes = 0 })
+            ap (λ (mark : PlainMark). record { instant = t; inits = if breaks_by_initiation theory p then mark.inits else 0; terms = 0; clashes = 0 })
             (marks_same p t within);
         not_yet = λ id t behind. refl;
         none_yet = λ id t behind. refl;

@@ -1,5 +1,5 @@
 -- The first of a list in order comes before all others by its key.
-use Rattle.std.proofs.Common.{◌≡◌, ℤ, Bool, true, List, [], ◌∷◌, ap₂}
+use Rattle.std.proofs.Common.{◌≡◌, ℤ, Bool, true, List, ◌∷◌, ap₂}
 use Rattle.std.specs.Prelude.{◌&&◌, int_le}
 use Rattle.std.specs.List.{list_all}
 use Rattle.ec_lists.proofs.Integers.{int_le-same}

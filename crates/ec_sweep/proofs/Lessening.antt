@@ -1,7 +1,7 @@
 -- Each visit leaves fewer events behind it.
 use Rattle.std.proofs.lemmas.Int.{ints}
 use Rattle.std.proofs.Common.{zero, suc, ◌≡◌, ◌<◌, ◌≤◌, ◌<ℤ◌, ℕ, ℤ, true, false, List, [], ◌∷◌, Option, Some, None, IsTrue, length, filter, refl, sym, ap, subst, ◌∙◌, inr, ⊎_elim, arith}
-use Rattle.std.specs.Prelude.{◌⊎◌, IsSome, int_lt, drop}
+use Rattle.std.specs.Prelude.{IsSome, int_lt, drop}
 use Rattle.std.specs.List.{list_any}
 use Rattle.std.specs.Ordering.{int_eq}
 use Rattle.std.proofs.lemmas.List.Elements.{All-contains}

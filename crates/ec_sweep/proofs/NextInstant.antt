@@ -1,12 +1,13 @@
 -- Between the last visit and the next one nothing happens: a sweep has come up to just before the next visit with what it has found.
 use Rattle.std.proofs.Common.{◌≡◌, ◌⊎◌, ◌≤ℤ◌, ◌<ℤ◌, ◌+ℤ◌, pos, ℕ, ℤ, true, false, List, Option, Some, None, IsTrue, refl, sym, ap, subst, ◌∙◌, ⊎_elim, arith}
-use Rattle.std.specs.Prelude.{int_le, option_map, unwrap_or, is_some, IsSome, drop}
+use Rattle.std.specs.Prelude.{if◌then◌else◌, int_le, option_map, unwrap_or, is_some, IsSome, drop}
 use Rattle.std.specs.List.{All, list_all, list_any}
 use Rattle.std.specs.Option.{option_map_or}
 use Rattle.std.specs.Ordering.{int_eq}
 use Rattle.std.proofs.lemmas.Bool.{and_from, and_parts, eq-eqb, false_from_ne_true, or_cases}
 use Rattle.std.proofs.lemmas.Int.{by_lt_z, ints}
 use Rattle.std.proofs.lemmas.List.Elements.{All-contains, All-weaker}
+use Rattle.ec_exclusive.specs.Forms.{breaks_by_initiation}
 use Rattle.ec_lists.proofs.Finds.{find-none}
 use Rattle.ec_lists.proofs.Integers.{int_eq-is, int_eq-same, int_le-is}
 use Rattle.ec_lists.proofs.Options.{Some-from_is_some}
@@ -195,7 +196,7 @@ module _ {T : Type 0} (rank : T → ℤ) (theory : Theory) (new : List PlainEven
       (λ after.
       let none : change_at rank id u sweep.planned.initiations ≡ None = find-none _ sweep.planned.initiations (found.planned_up_to.not_yet id u after) in
       ap (λ o. mark_made rank o (initiation_at theory old p u)) none
-      ∙ ap (λ mark. record { instant = u; inits = mark.inits; terms = 0; clashes = 0 })
+      ∙ ap (λ mark. record { instant = u; inits = if breaks_by_initiation theory p then mark.inits else 0; terms = 0; clashes = 0 })
       (same_mark p u (ap is_some (prop_of-term_at view.table id p order kept)) after within))
       (λ early. found.planned_up_to.initiations id p u kept early)
 

@@ -1,5 +1,5 @@
 -- The next time at which anything bears on a property.
-use Rattle.std.proofs.Common.{◌≡◌, ℕ, suc, ℤ, ◌<ℤ◌, ◌≤ℤ◌, true, List, [], ◌∷◌, drop, Option, Some, None, IsTrue, IsSomeAnd, refl, sym, ap, subst, ◌∙◌, ◌⊎◌, inl, inr, ⊎_elim, arith}
+use Rattle.std.proofs.Common.{◌≡◌, ℕ, ℤ, ◌<ℤ◌, ◌≤ℤ◌, true, List, [], ◌∷◌, drop, Option, Some, None, IsTrue, IsSomeAnd, refl, sym, ap, subst, ◌∙◌, ◌⊎◌, inl, inr, ⊎_elim, arith}
 use Rattle.std.specs.Prelude.{◌==◌, int_le, int_lt, IfNone, IfSome, option_map, slice_get}
 use Rattle.std.specs.List.{list_all}
 use Rattle.std.specs.Option.{option_to_list}
@@ -9,7 +9,6 @@ use Rattle.std.proofs.lemmas.Int.{ints}
 use Rattle.std.proofs.lemmas.Option.{none-some}
 use Rattle.ec_lists.proofs.Fronts.{drop-slice_get}
 use Rattle.ec_lists.proofs.Integers.{int_eq-is, int_eq-same, int_le-is, int_lt-from, int_lt-is}
-use Rattle.ec_points.proofs.Lists.{is_ascending-drop}
 use Rattle.ec_axioms.proofs.Members.{IsMember, IsMember-filter, IsMember-from_filter, list_all-member, list_any-member, member-list_any}
 use Rattle.ec_entries.specs.declared.event_entries.Dependent.{Dependent}
 use Rattle.ec_entries.specs.Dependents.{AreDependents, dependent_at, dependents_after, is_from}

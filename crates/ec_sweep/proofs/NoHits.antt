@@ -1,5 +1,5 @@
 -- No properties that are due hit nothing.
-use Rattle.std.proofs.Common.{ℤ, false, List, [], not, sym}
+use Rattle.std.proofs.Common.{ℤ, List, [], not, sym}
 use Rattle.std.proofs.Math.Bool.{and-false}
 use Rattle.std.specs.List.{IsDistinct}
 use Rattle.ec_revise.specs.declared.change.Removal.{Removal}

@@ -1,6 +1,6 @@
 -- The windows in which the marks of a property change, with one change more.
-use Rattle.std.proofs.Common.{◌≡◌, ℕ, ◌+◌, ◌≤◌, ℤ, ◌<ℤ◌, ◌≤ℤ◌, Bool, true, false, not, ◌&&◌, List, length, filter, Option, Some, None, IsTrue, refl, sym, ap, ap₂, subst, ◌∙◌, ⊎_elim, arith}
-use Rattle.std.specs.Prelude.{◌==◌, IsSome, unwrap_or, if◌then◌else◌}
+use Rattle.std.proofs.Common.{◌≡◌, ℕ, ◌+◌, ◌≤◌, ℤ, ◌<ℤ◌, ◌≤ℤ◌, Bool, true, false, ◌&&◌, List, length, filter, Option, Some, None, IsTrue, refl, sym, ap, ap₂, subst, ◌∙◌, ⊎_elim, arith}
+use Rattle.std.specs.Prelude.{IsSome, unwrap_or, if◌then◌else◌}
 use Rattle.std.specs.Ordering.{int_eq}
 use Rattle.std.proofs.lemmas.Bool.{cases_Bool, and_parts, false≢true, or_cases}
 use Rattle.std.proofs.lemmas.Int.{ints}
@@ -17,7 +17,7 @@ use Rattle.ec_delta.specs.declared.touches.Touch.{Touch}
 use Rattle.ec_delta.specs.declared.touches.Touched.{Touched}
 use Rattle.ec_delta.specs.Ready.{AreWindows, IsWithin}
 use Rattle.ec_delta.specs.Touched.{count_if, touched_at, touched_with}
-use Rattle.ec_sweep.specs.Settling.{own_changes, starts_change, starts_of, touch_of, touched_if, with_if}
+use Rattle.ec_sweep.specs.Settling.{own_changes, starts_of, touch_of, touched_if, with_if}
 use Rattle.ec_sweep.proofs.OwnChanges.{count_of-more, growth_of-more, growth_of-own, growth_of-within, has_change-first, has_change-more, has_change-same}
 
 -- what is said of the windows of one property
@@ -78,25 +78,26 @@ module _ {T : Type 0} (rank : T → ℤ) (view : View T) (n : ℕ) (planned afte
       has_change-first rank n planned.marks
       (λ t change. let found = has.window t change in none-some found.0 (sym none ∙ found.1))
 
-  module _ (at : T) (old : Mark T) (settled : Settled T)
+  module _ (at : T) (old : Mark T) (settled : Settled T) (planned_starts : Bool)
       (marks : own_changes n after.marks ≡ with_if settled.is_changed (record { 0 = n }, settled.mark) (own_changes n planned.marks))
-      (initiations : own_changes n after.initiations ≡ with_if (starts_change old settled) (record { 0 = n }, starts_of settled.mark) (own_changes n planned.initiations))
-      (touched : touched_at n after.touched ≡ touched_if settled.is_changed (touch_of old settled) (touched_at n planned.touched))
+      (initiations : own_changes n after.initiations ≡ with_if planned_starts (record { 0 = n }, starts_of settled.mark) (own_changes n planned.initiations))
+      (touched : touched_at n after.touched ≡ touched_if settled.is_changed (touch_of planned_starts old settled) (touched_at n planned.touched))
       (here : rank settled.mark.at ≡ rank at)
       (earlier : (x : Touched T) → touched_at n planned.touched ≡ Some x → rank x.until <ℤ rank at)
       (is_kept : IsSome (prop_at n view.table))
-      (grows : is_new rank (marks_at n view.points) settled.mark ≡ true → (touch_of old settled).grows ≡ true)
-      (starts : is_new rank (marks_at n view.initiations) (starts_of settled.mark) ≡ true → (touch_of old settled).starts ≡ true) where
+      (unplanned : settled.is_changed ≡ false → planned_starts ≡ false)
+      (grows : is_new rank (marks_at n view.points) settled.mark ≡ true → (touch_of planned_starts old settled).grows ≡ true)
+      (starts : planned_starts ≡ true → is_new rank (marks_at n view.initiations) (starts_of settled.mark) ≡ true → (touch_of planned_starts old settled).starts ≡ true) where
     abbrev touch : Touch T
-    touch = touch_of old settled
+    touch = touch_of planned_starts old settled
 
     growth : growth_of rank n after.marks (marks_at n view.points)
         ≡ growth_of rank n planned.marks (marks_at n view.points) + (if settled.is_changed && is_new rank (marks_at n view.points) settled.mark then 1 else 0)
     growth = growth_of-more rank n settled.is_changed (record { 0 = n }, settled.mark) planned.marks after.marks marks (marks_at n view.points)
 
     start_growth : growth_of rank n after.initiations (marks_at n view.initiations)
-        ≡ growth_of rank n planned.initiations (marks_at n view.initiations) + (if starts_change old settled && is_new rank (marks_at n view.initiations) (starts_of settled.mark) then 1 else 0)
-    start_growth = growth_of-more rank n (starts_change old settled) (record { 0 = n }, starts_of settled.mark) planned.initiations after.initiations initiations (marks_at n view.initiations)
+        ≡ growth_of rank n planned.initiations (marks_at n view.initiations) + (if planned_starts && is_new rank (marks_at n view.initiations) (starts_of settled.mark) then 1 else 0)
+    start_growth = growth_of-more rank n planned_starts (record { 0 = n }, starts_of settled.mark) planned.initiations after.initiations initiations (marks_at n view.initiations)
 
     count : count_of n after.marks ≡ count_of n planned.marks + (if settled.is_changed then 1 else 0)
     count = count_of-more rank n settled.is_changed (record { 0 = n }, settled.mark) planned.marks after.marks marks
@@ -201,16 +202,16 @@ module _ {T : Type 0} (rank : T → ℤ) (view : View T) (n : ℕ) (planned afte
           by_change (λ y. growth_of rank n after.initiations (marks_at n view.initiations) ≤ y.starts) x is
           (λ moves by.
           raised _ _ _ (λ y. y.starts) touch.starts start_growth
-          (at_most (starts_change old settled && is_new rank (marks_at n view.initiations) (starts_of settled.mark)) touch.starts (λ both. starts (and_parts (starts_change old settled) _ both).1))
+          (at_most (planned_starts && is_new rank (marks_at n view.initiations) (starts_of settled.mark)) touch.starts (λ both. let each = and_parts planned_starts _ both in starts each.0 each.1))
           (λ none. growth_of-within rank n planned.initiations (marks_at n view.initiations) (has.started_only none)) has.started refl (λ y. refl) x by)
           (λ stays was.
           no_more _ _ _ _ start_growth
-          (ap (λ b. (b && not (old.inits == settled.mark.inits)) && is_new rank (marks_at n view.initiations) (starts_of settled.mark)) stays) (has.started x was));
+          (ap (λ b. b && is_new rank (marks_at n view.initiations) (starts_of settled.mark)) (unplanned stays)) (has.started x was));
       started_only = λ none.
           ⊎_elim
           (λ moves. absurd (none-some _ (sym none ∙ touched ∙ ap (λ b. touched_if b touch (touched_at n planned.touched)) moves)))
           (λ stays.
-          ap length (initiations ∙ ap (λ b. with_if (b && not (old.inits == settled.mark.inits)) (record { 0 = n }, starts_of settled.mark) (own_changes n planned.initiations)) stays)
+          ap length (initiations ∙ ap (λ b. with_if b (record { 0 = n }, starts_of settled.mark) (own_changes n planned.initiations)) (unplanned stays))
           ∙ has.started_only (sym (touched ∙ ap (λ b. touched_if b touch (touched_at n planned.touched)) stays) ∙ none))
           (cases_Bool settled.is_changed);
     }

@@ -1,5 +1,5 @@
 -- What an entry of a store's event reads, by terms and by the dependents that stand under the numbers of a table.
-use Rattle.std.proofs.Common.{◌≡◌, ℕ, ℤ, Bool, true, ◌||◌, List, [], ◌∷◌, find, Option, Some, None, IsTrue, refl, sym, ap, ap₂, subst, ◌∙◌, inl, ⊎_elim}
+use Rattle.std.proofs.Common.{◌≡◌, ℕ, ℤ, Bool, ◌||◌, List, [], ◌∷◌, find, Option, Some, None, IsTrue, refl, sym, ap, ap₂, subst, ◌∙◌, inl, ⊎_elim}
 use Rattle.std.specs.Prelude.{◌==◌, unwrap_or, option_map, option_and_then, slice_get}
 use Rattle.std.specs.List.{list_any, All}
 use Rattle.std.specs.Option.{option_to_list}

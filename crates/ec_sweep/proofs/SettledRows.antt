@@ -6,11 +6,12 @@ use Rattle.std.proofs.lemmas.Bool.{cases_Bool, cond-false, cond-true, false≢tr
 use Rattle.std.proofs.lemmas.Option.{none-some}
 use Rattle.ec_terms.specs.declared.ids.PropId.{PropId}
 use Rattle.ec_agenda.specs.Due.{Due}
+use Rattle.ec_exclusive.specs.Neighbours.{Neighbourhoods}
 use Rattle.ec_numbered.proofs.Numbers.{same_prop}
 use Rattle.ec_points.specs.Table.{PointTable}
 use Rattle.ec_revise.specs.declared.settled.Tallied.{Tallied}
 use Rattle.ec_revise.specs.TurnCounts.{row_at}
-use Rattle.ec_sweep.specs.Settling.{AddsDue, IsSettledBy, LeavesNumber, Noted, SettlesNumber, SettlesRows, Slots, currencies_at, old_mark, starts_change, starts_of, touch_of, touched_if, with_if}
+use Rattle.ec_sweep.specs.Settling.{AddsDue, IsSettledBy, LeavesNumber, Noted, SettlesNumber, SettlesRows, Slots, currencies_at, old_mark, starts_of, touch_of, touched_if, with_if}
 use Rattle.ec_sweep.proofs.TallyPlaces.{AreRowsApart, row_at-before, row_at-more}
 use Rattle.ec_sweep.proofs.OwnChanges.{option_or-none}
 
@@ -27,7 +28,7 @@ LeavesNumber-then n first before after left later = record {
 LeavesNumber-same : {T : Type 0} (n : ℕ) (noted : Noted T) → LeavesNumber n noted noted
 LeavesNumber-same n noted = record { dirty = refl; marks = refl; initiations = refl; touched = refl }
 
-module _ {T : Type 0} (rank : T → ℤ) (points : PointTable T) (slots : Slots T) (at : T) where
+module _ {T : Type 0} (rank : T → ℤ) (around : Neighbourhoods) (points : PointTable T) (slots : Slots T) (at : T) where
   -- what becomes due in two steps is of either
   AddsDue-then : (some more all : ℕ → Bool) (first before after : List (Due T)) → ((n : ℕ) → IsTrue (some n) → IsTrue (all n)) → ((n : ℕ) → IsTrue (more n) → IsTrue (all n))
       → AddsDue rank points slots (rank at) some first before → AddsDue rank points slots (rank at) more before after → AddsDue rank points slots (rank at) all first after
@@ -42,22 +43,26 @@ module _ {T : Type 0} (rank : T → ℤ) (points : PointTable T) (slots : Slots 
 
   -- a property that was left alone before it is settled
   SettlesNumber-late : (p : PropId) (tallied : Tallied) (first before after : Noted T) → LeavesNumber p.0 first before
-      → SettlesNumber rank points slots at p tallied before after → SettlesNumber rank points slots at p tallied first after
+      → SettlesNumber rank around points slots at p tallied before after → SettlesNumber rank around points slots at p tallied first after
   SettlesNumber-late p tallied first before after left settles = record {
     settled = settles.settled;
+    starts = settles.starts;
+    starts_if = settles.starts_if;
     is = subst (λ found. IsSettledBy rank (old_mark rank points at p.0) tallied (currencies_at rank points at p.0 found) settles.settled) left.dirty settles.is;
     dirty = settles.dirty;
     marks = settles.marks ∙ ap (with_if settles.settled.is_changed (p, settles.settled.mark)) left.marks;
-    initiations = settles.initiations ∙ ap (with_if (starts_change (old_mark rank points at p.0) settles.settled) (p, starts_of settles.settled.mark)) left.initiations;
-    touched = settles.touched ∙ ap (touched_if settles.settled.is_changed (touch_of (old_mark rank points at p.0) settles.settled)) left.touched;
+    initiations = settles.initiations ∙ ap (with_if settles.starts (p, starts_of settles.settled.mark)) left.initiations;
+    touched = settles.touched ∙ ap (touched_if settles.settled.is_changed (touch_of settles.starts (old_mark rank points at p.0) settles.settled)) left.touched;
     due = settles.due;
   }
 
   -- and one that is left alone from then on
-  SettlesNumber-early : (p : PropId) (tallied : Tallied) (among : ℕ → Bool) (first before after : Noted T) → SettlesNumber rank points slots at p tallied first before
-      → LeavesNumber p.0 before after → AddsDue rank points slots (rank at) among before.agenda after.agenda → SettlesNumber rank points slots at p tallied first after
+  SettlesNumber-early : (p : PropId) (tallied : Tallied) (among : ℕ → Bool) (first before after : Noted T) → SettlesNumber rank around points slots at p tallied first before
+      → LeavesNumber p.0 before after → AddsDue rank points slots (rank at) among before.agenda after.agenda → SettlesNumber rank around points slots at p tallied first after
   SettlesNumber-early p tallied among first before after settles left adds = record {
     settled = settles.settled;
+    starts = settles.starts;
+    starts_if = settles.starts_if;
     is = settles.is;
     dirty = left.dirty ∙ settles.dirty;
     marks = left.marks ∙ settles.marks;
@@ -69,7 +74,7 @@ module _ {T : Type 0} (rank : T → ℤ) (points : PointTable T) (slots : Slots 
   }
 
   -- no rows are settled
-  pub SettlesRows-none : (noted : Noted T) → SettlesRows rank points slots at [] noted noted
+  pub SettlesRows-none : (noted : Noted T) → SettlesRows rank around points slots at [] noted noted
   SettlesRows-none noted = record {
     each = λ p tallied there. absurd (none-some tallied there);
     others = λ n none. LeavesNumber-same n noted;
@@ -77,12 +82,12 @@ module _ {T : Type 0} (rank : T → ℤ) (points : PointTable T) (slots : Slots 
   }
 
   module _ (rows : List (ℕ × Tallied)) (i : ℕ) (p : PropId) (tallied : Tallied) (apart : AreRowsApart rows) (there : slice_get rows i ≡ Some (p.0, tallied))
-      (first before after : Noted T) (done : SettlesRows rank points slots at (take i rows) first before) where
+      (first before after : Noted T) (done : SettlesRows rank around points slots at (take i rows) first before) where
     -- the property of the next row is not settled yet
     pub LeavesNumber-next : LeavesNumber p.0 first before
     LeavesNumber-next = done.others p.0 (row_at-before rows i p.0 tallied apart there)
 
-    module _ (settles : SettlesNumber rank points slots at p tallied before after) (leaves : (n : ℕ) → (p.0 == n) ≡ false → LeavesNumber n before after)
+    module _ (settles : SettlesNumber rank around points slots at p tallied before after) (leaves : (n : ℕ) → (p.0 == n) ≡ false → LeavesNumber n before after)
         (adds : AddsDue rank points slots (rank at) (λ n. p.0 == n) before.agenda after.agenda) where
       more : (n : ℕ) → row_at n (take (i + 1) rows) ≡ option_or (row_at n (take i rows)) (if p.0 == n then Some tallied else None)
       more n = row_at-more rows i p.0 tallied n there
@@ -97,13 +102,13 @@ module _ {T : Type 0} (rank : T → ℤ) (points : PointTable T) (slots : Slots 
       elsewhere : (n : ℕ) → (p.0 == n) ≡ false → row_at n (take (i + 1) rows) ≡ row_at n (take i rows)
       elsewhere n other = more n ∙ ap (option_or (row_at n (take i rows))) (cond-false (p.0 == n) (Some tallied) None other) ∙ option_or-none (row_at n (take i rows))
 
-      each : (q : PropId) (known : Tallied) → row_at q.0 (take (i + 1) rows) ≡ Some known → SettlesNumber rank points slots at q known first after
+      each : (q : PropId) (known : Tallied) → row_at q.0 (take (i + 1) rows) ≡ Some known → SettlesNumber rank around points slots at q known first after
       each q known stands =
           ⊎_elim
           (λ same.
           let tallies : tallied ≡ known = let both : Some tallied ≡ Some known = sym (here q.0 same) ∙ stands in cc in
-          subst (λ (x : PropId). SettlesNumber rank points slots at x known first after) (same_prop p q same)
-          (subst (λ k. SettlesNumber rank points slots at p k first after) tallies (SettlesNumber-late p tallied first before after LeavesNumber-next settles)))
+          subst (λ (x : PropId). SettlesNumber rank around points slots at x known first after) (same_prop p q same)
+          (subst (λ k. SettlesNumber rank around points slots at p k first after) tallies (SettlesNumber-late p tallied first before after LeavesNumber-next settles)))
           (λ other.
           SettlesNumber-early q known (λ n. p.0 == n) first before after (done.each q known (sym (elsewhere q.0 other) ∙ stands)) (leaves q.0 other) adds)
           (cases_Bool (p.0 == q.0))
@@ -116,7 +121,7 @@ module _ {T : Type 0} (rank : T → ℤ) (points : PointTable T) (slots : Slots 
           (cases_Bool (p.0 == n))
 
       -- the rows with one more are settled
-      pub SettlesRows-more : SettlesRows rank points slots at (take (i + 1) rows) first after
+      pub SettlesRows-more : SettlesRows rank around points slots at (take (i + 1) rows) first after
       SettlesRows-more = record {
         each = each;
         others = others;

@@ -4,7 +4,7 @@ use Rattle.std.specs.Prelude.{◌==◌, Contains, IsSome, nat_lt, is_some, unwra
 use Rattle.std.specs.List.{All, list_any}
 use Rattle.std.specs.Option.{option_map_or}
 use Rattle.std.specs.Ordering.{int_eq}
-use Rattle.std.proofs.lemmas.Bool.{cases_Bool, and_from, and_parts, eq-eqb, eqb-true, false≢true, false_from_ne_true, or_cases, or_left, or_parts}
+use Rattle.std.proofs.lemmas.Bool.{cases_Bool, and_from, and_parts, cond-true, eq-eqb, eqb-true, false≢true, false_from_ne_true, or_cases, or_left, or_parts}
 use Rattle.std.proofs.lemmas.Bool.Decides.{nat_tests}
 use Rattle.std.proofs.lemmas.List.Elements.{All-contains, All-contains_itself, All-weaker}
 use Rattle.std.proofs.lemmas.Option.{none-some}
@@ -28,6 +28,7 @@ use Rattle.ec_events.specs.Store.{history_of}
 use Rattle.ec_numbered.specs.PropSet.{has_number}
 use Rattle.ec_numbered.proofs.Numbers.{has_number-filter}
 use Rattle.ec_exclusive.specs.Added.{added_props, is_added, neighbours_of, stands_in_list}
+use Rattle.ec_exclusive.specs.Forms.{breaks_by_initiation}
 use Rattle.ec_exclusive.specs.Neighbours.{exclusive_at}
 use Rattle.ec_exclusive.proofs.RowLemmas.{neighbours-exclusive}
 use Rattle.ec_points.specs.Changes.{Change as MarkChange, change_at, has_change, is_new}
@@ -37,6 +38,7 @@ use Rattle.ec_rows.specs.Marks.{has_mark, is_counted, mark_at as row_mark_at}
 use Rattle.ec_rows.specs.PlainMarks.{plain_mark, plain_marks}
 use Rattle.ec_parts.specs.declared.tally.Tally.{Tally as PartsTally}
 use Rattle.ec_parts.specs.StandFor.{View}
+use Rattle.ec_parts.proofs.KeptInitiations.{kept_initiations-all}
 use Rattle.ec_revise.specs.declared.change.Change.{Change}
 use Rattle.ec_revise.specs.declared.settled.Tallied.{Tallied}
 use Rattle.ec_revise.specs.declared.turn.Turn.{Turn}
@@ -55,7 +57,7 @@ use Rattle.ec_delta.specs.Ready.{AreWindows, initiation_at, mark_made}
 use Rattle.ec_delta.specs.Touched.{matters_at, touched_at}
 use Rattle.ec_sweep.specs.State.{AreDueOf, DirtyRows, IsPlannedUpTo, dirty_at, found_by, keeps}
 use Rattle.ec_sweep.specs.Visiting.{CanSettle, HasSettled, settled_by}
-use Rattle.ec_sweep.specs.Settling.{HaveRoom, Noted, SettlesNumber, SettlesRows, mark_or_zeros, old_mark, own_changes, starts_change, starts_of, touch_of, touched_if}
+use Rattle.ec_sweep.specs.Settling.{AreAdded, HaveRoom, Noted, SettlesNumber, SettlesRows, mark_or_zeros, old_mark, own_changes, starts_change, starts_of, touch_of, touched_if}
 use Rattle.ec_sweep.proofs.Bearing.{BearsAt-event, bears_on-number}
 use Rattle.ec_sweep.proofs.KeptTerms.{prop_of-term_at}
 use Rattle.ec_sweep.proofs.OldMarks.{has_initiation-is, mark_or_zeros-is}
@@ -159,7 +161,7 @@ module _ {T : Type 0} (rank : T → ℤ) (theory : Theory) (new : List PlainEven
 
   -- ---- after that
 
-  module _ (after : Noted T) (settles : SettlesRows rank view.points view.entries.slots at rows before after) (n : ℕ) (p : Ground) (found : prop_of p view.table ≡ Some n) where
+  module _ (after : Noted T) (settles : SettlesRows rank view.neighbours view.points view.entries.slots at rows before after) (n : ℕ) (p : Ground) (found : prop_of p view.table ≡ Some n) where
     module _ (looked : Looked) (active : Effect → Bool) where
       abbrev pub was : Found
       was = found_by rank view.table dirty agenda looked planned active
@@ -208,7 +210,7 @@ module _ {T : Type 0} (rank : T → ℤ) (theory : Theory) (new : List PlainEven
     -- ---- a property that is settled
 
     module _ (known : Tallied) (there : row_at n rows ≡ Some known) where
-      abbrev pub one : SettlesNumber rank view.points view.entries.slots at (record { 0 = n }) known before after
+      abbrev pub one : SettlesNumber rank view.neighbours view.points view.entries.slots at (record { 0 = n }) known before after
       one = settles.each (record { 0 = n }) known there
 
       -- its new mark is the one after the turns
@@ -220,6 +222,18 @@ module _ {T : Type 0} (rank : T → ℤ) (theory : Theory) (new : List PlainEven
 
       pub changed : one.settled.is_changed ≡ is_some (mark_planned (mark_at theory old p (rank at)) (mark_after theory plains p (mark_at theory old p (rank at))))
       changed = one.is.changed ∙ ap₂ (λ a b. is_some (mark_planned a b)) (mark n p found) new_mark
+
+      -- its initiations are planned where they change, and an initiation may break it
+      pub starts_is : one.starts ≡ (starts_change (old_mark rank view.points at n) one.settled && breaks_by_initiation theory p)
+      starts_is = one.starts_if theory view.table p can.underway.both.tables.added.neighbours (kept n p found)
+
+      -- so one whose initiations are planned may be broken by one
+      pub breaks-planned : one.starts ≡ true → breaks_by_initiation theory p ≡ true
+      breaks-planned planned_one = (and_parts (starts_change (old_mark rank view.points at n) one.settled) (breaks_by_initiation theory p) (sym starts_is ∙ planned_one)).1
+
+      pub unplanned : one.settled.is_changed ≡ false → one.starts ≡ false
+      unplanned stays =
+          starts_is ∙ ap (λ b. (b && not ((old_mark rank view.points at n).inits == one.settled.mark.inits)) && breaks_by_initiation theory p) stays
 
       -- it stands at the instant
       pub here : int_eq (rank one.settled.mark.at) (rank at) ≡ true
@@ -259,7 +273,7 @@ module _ {T : Type 0} (rank : T → ℤ) (theory : Theory) (new : List PlainEven
         matters-new =
             matters-is looked active
             ∙ ap (λ o. option_map_or (λ (t : Touched T). t.matters) o false) one.touched
-            ∙ matters-touched one.settled.is_changed (touch_of (old_mark rank view.points at n) one.settled) (touched_at n planned.touched)
+            ∙ matters-touched one.settled.is_changed (touch_of one.starts (old_mark rank view.points at n) one.settled) (touched_at n planned.touched)
             ∙ ap₂ (λ a b. a || b) (sym (matters-was looked active)) (alone one.settled.is_changed one.settled.matters _ _ (matters-unplanned (is_current theory old p (rank at)) in_new (mark_at theory old p (rank at)) (mark_after theory plains p (mark_at theory old p (rank at)))) changed matters_is)
           where
             matters_is : one.settled.matters ≡ mark_matters (is_current theory old p (rank at)) in_new (mark_at theory old p (rank at)) (mark_after theory plains p (mark_at theory old p (rank at)))
@@ -332,6 +346,10 @@ module _ {T : Type 0} (rank : T → ℤ) (theory : Theory) (new : List PlainEven
       of None none is_some_one = absurd (false≢true is_some_one)
       of (Some k) some is_some_one = (k.term, finds n k.term (ap (option_map (λ (j : KeptProp). j.term)) some))
 
+  -- the property of each row is added
+  pub added-rows : AreAdded view.neighbours.rows rows
+  added-rows p known there = can.underway.both.tables.added.added p ∙ kept-row p.0 (ap is_some there)
+
   -- each row has room for what is tallied
   pub room : HaveRoom rank view.points at rows
   room n known there =
@@ -347,7 +365,7 @@ module _ {T : Type 0} (rank : T → ℤ) (theory : Theory) (new : List PlainEven
 
   -- ---- the visit
 
-  module _ (after : Noted T) (settles : SettlesRows rank view.points view.entries.slots at rows before after) where
+  module _ (after : Noted T) (settles : SettlesRows rank view.neighbours view.points view.entries.slots at rows before after) where
     -- a row, or none
     row-cases : {P : Type 0} (n : ℕ) → ((known : Tallied) → row_at n rows ≡ Some known → P) → (row_at n rows ≡ None → P) → P
     row-cases {P} n some none = of (row_at n rows) refl
@@ -513,8 +531,8 @@ module _ {T : Type 0} (rank : T → ℤ) (theory : Theory) (new : List PlainEven
         row-cases n
         (λ known there.
         let one = settles.each (record { 0 = n }) known there in
-        has_change-more rank n (starts_change (old_mark rank view.points at n) one.settled) (record { 0 = n }, starts_of one.settled.mark) planned.initiations after.planned.initiations one.initiations u
-        ∙ neither _ (starts_change (old_mark rank view.points at n) one.settled) _ (can.planned_up_to.not_yet n u (behind-r u behind))
+        has_change-more rank n one.starts (record { 0 = n }, starts_of one.settled.mark) planned.initiations after.planned.initiations one.initiations u
+        ∙ neither _ one.starts _ (can.planned_up_to.not_yet n u (behind-r u behind))
         (ap (λ (m : Mark T). int_eq (rank m.at) u) one.is.mark_is ∙ apart-later u behind))
         (λ none. has_change-same rank n u planned.initiations after.planned.initiations (settles.others n none).initiations ∙ can.planned_up_to.not_yet n u (behind-r u behind))
 
@@ -537,7 +555,7 @@ module _ {T : Type 0} (rank : T → ℤ) (theory : Theory) (new : List PlainEven
 
     -- a mark that is new for its row is noted as one that grows it
     grows : (n : ℕ) (known : Tallied) (there : row_at n rows ≡ Some known) → let one = settles.each (record { 0 = n }) known there in
-        is_new rank (marks_at n view.points) one.settled.mark ≡ true → (touch_of (old_mark rank view.points at n) one.settled).grows ≡ true
+        is_new rank (marks_at n view.points) one.settled.mark ≡ true → (touch_of one.starts (old_mark rank view.points at n) one.settled).grows ≡ true
     grows n known there new =
         let one = settles.each (record { 0 = n }) known there in
         let both = and_parts (is_counted one.settled.mark) (not (has_mark rank (rank one.settled.mark.at) (marks_at n view.points))) new in
@@ -552,14 +570,16 @@ module _ {T : Type 0} (rank : T → ℤ) (theory : Theory) (new : List PlainEven
 
     -- and one with new initiations as one that starts
     starts : (n : ℕ) (p : Ground) (found : prop_of p view.table ≡ Some n) (known : Tallied) (there : row_at n rows ≡ Some known) → let one = settles.each (record { 0 = n }) known there in
-        is_new rank (marks_at n view.initiations) (starts_of one.settled.mark) ≡ true → (touch_of (old_mark rank view.points at n) one.settled).starts ≡ true
-    starts n p found known there new =
+        one.starts ≡ true → is_new rank (marks_at n view.initiations) (starts_of one.settled.mark) ≡ true → (touch_of one.starts (old_mark rank view.points at n) one.settled).starts ≡ true
+    starts n p found known there planned_one new =
         let one = settles.each (record { 0 = n }) known there in
         let both = and_parts (is_counted (starts_of one.settled.mark)) (not (has_mark rank (rank one.settled.mark.at) (marks_at n view.initiations))) new in
         let absent : (is_marked (mark_at theory old p (rank at)) && mark_initiates (mark_at theory old p (rank at))) ≡ false =
-        sym (has_initiation-is theory old p rank (marks_at n view.initiations) (can.underway.both.caches.initiations_of.marks n p (kept n p found)) (rank at))
+        sym (has_initiation-is theory old p rank (marks_at n view.initiations)
+        (can.underway.both.caches.initiations_of.marks n p (kept n p found) ∙ kept_initiations-all theory old p (breaks-planned after settles n p found known there planned_one)) (rank at))
         ∙ ap (λ (m : Mark T). has_mark rank (rank m.at) (marks_at n view.initiations)) (sym one.is.mark_is) ∙ not_true _ both.1 in
-        ap₂ (λ a b. not a && b) (ap mark_initiates (mark n p found) ∙ silent (mark_at theory old p (rank at)) absent) (counted_starts one.settled.mark both.0)
+        ap (λ a. a && not (nat_lt 0 (old_mark rank view.points at n).inits) && nat_lt 0 one.settled.mark.inits) planned_one
+        ∙ ap₂ (λ a b. not a && b) (ap mark_initiates (mark n p found) ∙ silent (mark_at theory old p (rank at)) absent) (counted_starts one.settled.mark both.0)
       where
         not_true : (b : Bool) → not b ≡ true → b ≡ false
         not_true b differs = grind arith
@@ -580,8 +600,8 @@ module _ {T : Type 0} (rank : T → ℤ) (theory : Theory) (new : List PlainEven
         let one = settles.each (record { 0 = n }) known there in
         let is_kept = kept-row n (ap is_some there) in
         let p = term-kept n is_kept in
-        HasWindow-settled rank view n planned after.planned has at (old_mark rank view.points at n) one.settled one.marks one.initiations one.touched
-        (ap (λ (m : Mark T). rank m.at) one.is.mark_is) (earlier n) is_kept (grows n known there) (starts n p.0 p.1 known there))
+        HasWindow-settled rank view n planned after.planned has at (old_mark rank view.points at n) one.settled one.starts one.marks one.initiations one.touched
+        (ap (λ (m : Mark T). rank m.at) one.is.mark_is) (earlier n) is_kept (unplanned after settles n p.0 p.1 known there) (grows n known there) (starts n p.0 p.1 known there))
         (λ none.
         let left = settles.others n none in
         HasWindow-left rank view n planned after.planned has left.marks left.initiations left.touched))
@@ -594,8 +614,8 @@ module _ {T : Type 0} (rank : T → ℤ) (theory : Theory) (new : List PlainEven
         let one = settles.each (record { 0 = n }) known there in
         let is_kept = kept-row n (ap is_some there) in
         let p = term-kept n is_kept in
-        until-settled rank view n planned after.planned has at (old_mark rank view.points at n) one.settled one.marks one.initiations one.touched
-        (ap (λ (m : Mark T). rank m.at) one.is.mark_is) (earlier n) is_kept (grows n known there) (starts n p.0 p.1 known there) x is_touched)
+        until-settled rank view n planned after.planned has at (old_mark rank view.points at n) one.settled one.starts one.marks one.initiations one.touched
+        (ap (λ (m : Mark T). rank m.at) one.is.mark_is) (earlier n) is_kept (unplanned after settles n p.0 p.1 known there) (grows n known there) (starts n p.0 p.1 known there) x is_touched)
         (λ none. let before_it = earlier n x (sym (settles.others n none).touched ∙ is_touched) in omega (arith, ints))
 
     -- ---- initiations
@@ -607,26 +627,45 @@ module _ {T : Type 0} (rank : T → ℤ) (theory : Theory) (new : List PlainEven
         (λ known there.
         let one = settles.each (record { 0 = n }) known there in
         let made =
-        change_at-more rank n (starts_change (old_mark rank view.points at n) one.settled) (record { 0 = n }, starts_of one.settled.mark) planned.initiations after.planned.initiations one.initiations
+        change_at-more rank n one.starts (record { 0 = n }, starts_of one.settled.mark) planned.initiations after.planned.initiations one.initiations
         (rank at) (ap (λ (m : Mark T). int_eq (rank m.at) (rank at)) one.is.mark_is ∙ int_eq-same (rank at)) (can.planned_up_to.not_yet n (rank at) here-behind) in
         let inits : one.settled.mark.inits ≡ (mark_at theory new p (rank at)).inits =
         ap (λ (m : PlainMark). m.inits) (new_mark after settles n p found known there ∙ sym (new-marks p)) in
         ap (λ o. mark_made rank o (initiation_at theory old p (rank at))) made
-        ∙ by (starts_change (old_mark rank view.points at n) one.settled) (record { 0 = n }, starts_of one.settled.mark)
-        (mark_same _ _ (ap (λ (m : Mark T). rank m.at) one.is.mark_is) inits refl refl)
-        (λ stays. mark_same _ _ refl (sym (ap (λ (m : PlainMark). m.inits) (mark n p found)) ∙ stay (old_mark rank view.points at n) one.settled.mark one.settled.is_changed one.is.changed stays ∙ inits) refl refl)
+        ∙ by one.starts (record { 0 = n }, starts_of one.settled.mark)
+        (λ starts_now. mark_same _ _ (ap (λ (m : Mark T). rank m.at) one.is.mark_is)
+        (inits ∙ sym (cond-true (breaks_by_initiation theory p) (mark_at theory new p (rank at)).inits 0 (breaks-planned after settles n p found known there starts_now))) refl refl)
+        (λ stays. same_initiations (mark_at theory old p (rank at)).inits (mark_at theory new p (rank at)).inits
+        (λ breaks. sym (ap (λ (m : PlainMark). m.inits) (mark n p found))
+        ∙ stay (old_mark rank view.points at n) one.settled.mark one.settled.is_changed one.is.changed
+        (first_fails _ (breaks_by_initiation theory p) breaks (sym (starts_is after settles n p found known there) ∙ stays)) ∙ inits))
         refl)
         (λ none.
         ap (λ o. mark_made rank o (initiation_at theory old p (rank at)))
         (change_at-same rank n (rank at) planned.initiations after.planned.initiations (settles.others n none).initiations
         ∙ change_at-none rank n (rank at) planned.initiations (can.planned_up_to.not_yet n (rank at) here-behind))
-        ∙ mark_same _ _ refl
-        (ap (λ (m : PlainMark). m.inits) (sym (new-marks p ∙ mark_after-none theory plains p (unturned n p found (ap is_some none)) (mark_at theory old p (rank at))))) refl refl)
+        ∙ ap initiation
+        (ap (λ (m : PlainMark). m.inits) (sym (new-marks p ∙ mark_after-none theory plains p (unturned n p found (ap is_some none)) (mark_at theory old p (rank at))))))
       where
-        by : (b : Bool) (x : MarkChange T) → plain_mark rank x.1 ≡ initiation_at theory new p (rank at) → (b ≡ false → initiation_at theory old p (rank at) ≡ initiation_at theory new p (rank at)) → b ≡ b
+        by : (b : Bool) (x : MarkChange T) → (b ≡ true → plain_mark rank x.1 ≡ initiation_at theory new p (rank at)) → (b ≡ false → initiation_at theory old p (rank at) ≡ initiation_at theory new p (rank at)) → b ≡ b
             → mark_made rank (if b then Some x else None) (initiation_at theory old p (rank at)) ≡ initiation_at theory new p (rank at)
-        by true x made stays same = made
+        by true x made stays same = made refl
         by false x made stays same = stays refl
+
+        -- so many initiations, where they are kept
+        initiation_if : Bool → ℕ → PlainMark
+        initiation_if so k = record { instant = rank at; inits = if so then k else 0; terms = 0; clashes = 0 }
+
+        initiation : ℕ → PlainMark
+        initiation k = initiation_if (breaks_by_initiation theory p) k
+
+        same_initiations : (a b : ℕ) → (breaks_by_initiation theory p ≡ true → a ≡ b) → initiation a ≡ initiation b
+        same_initiations a b same =
+            ⊎_elim (λ breaks. ap initiation (same breaks))
+            (λ never. ap (λ c. initiation_if c a) never ∙ sym (ap (λ c. initiation_if c b) never)) (cases_Bool (breaks_by_initiation theory p))
+
+        first_fails : (a b : Bool) → b ≡ true → (a && b) ≡ false → a ≡ false
+        first_fails a b second both = grind arith
 
         stay : (m k : Mark T) (b : Bool) → b ≡ is_some (mark_planned (plain_mark rank m) (plain_mark rank k)) → (b && not (m.inits == k.inits)) ≡ false → m.inits ≡ k.inits
         stay m k true is_changed stays = eqb-true m.inits k.inits (not_false _ stays)
@@ -654,7 +693,7 @@ module _ {T : Type 0} (rank : T → ℤ) (theory : Theory) (new : List PlainEven
         (row-cases n
         (λ known there.
         let one = settles.each (record { 0 = n }) known there in
-        change_at-elsewhere rank n (starts_change (old_mark rank view.points at n) one.settled) (record { 0 = n }, starts_of one.settled.mark) planned.initiations after.planned.initiations one.initiations t
+        change_at-elsewhere rank n one.starts (record { 0 = n }, starts_of one.settled.mark) planned.initiations after.planned.initiations one.initiations t
         (ap (λ (m : Mark T). int_eq (rank m.at) t) one.is.mark_is ∙ apart-earlier t early))
         (λ none. change_at-same rank n t planned.initiations after.planned.initiations (settles.others n none).initiations))
         ∙ can.planned_up_to.initiations n p t is_kept early)

@@ -1,12 +1,13 @@
 -- A sweep that is through has found all: what it planned makes the caches those of the new list.
 use Rattle.std.proofs.lemmas.Int.{by_lt_z, ints}
 use Rattle.std.proofs.Common.{◌≡◌, ◌≤ℤ◌, ◌+ℤ◌, pos, ℕ, ℤ, Bool, true, false, not, List, [], Option, Some, None, IsTrue, IsFalse, option_map, length, filter, refl, sym, ap, subst, ◌∙◌, ⊎_elim, arith}
-use Rattle.std.specs.Prelude.{Contains, IsSome, int_le, drop, slice_get, unwrap_or, is_some, option_and_then}
+use Rattle.std.specs.Prelude.{if◌then◌else◌, Contains, IsSome, int_le, drop, slice_get, unwrap_or, is_some, option_and_then}
 use Rattle.std.specs.List.{All, list_all}
 use Rattle.std.specs.Option.{option_map_or}
 use Rattle.std.specs.Ordering.{int_eq}
 use Rattle.std.proofs.lemmas.Bool.{false_from_ne_true}
 use Rattle.std.proofs.lemmas.List.Elements.{All-weaker}
+use Rattle.ec_exclusive.specs.Forms.{breaks_by_initiation}
 use Rattle.ec_lists.proofs.Integers.{int_eq-is, int_eq-same, int_le-from}
 use Rattle.ec_terms.specs.declared.ids.Slot.{Slot}
 use Rattle.ec_terms.specs.declared.ground.Ground.{Ground}
@@ -159,7 +160,7 @@ module _ {T : Type 0} (rank : T → ℤ) (theory : Theory) (new : List PlainEven
         by_lt_z r t
         (λ behind.
         ap (λ o. mark_made rank o (initiation_at theory old p t)) (change_at-none rank id t sweep.planned.initiations (sweeping.found.planned_up_to.not_yet id t behind))
-        ∙ ap (λ (mark : PlainMark). record { instant = t; inits = mark.inits; terms = 0; clashes = 0 })
+        ∙ ap (λ (mark : PlainMark). record { instant = t; inits = if breaks_by_initiation theory p then mark.inits else 0; terms = 0; clashes = 0 })
         (sym (ap (λ o. unwrap_or o (mark_at theory old p t)) (sweeping.found.swept.none_planned p t behind)) ∙ all.marks p t keeps_it))
         (λ within. sweeping.found.planned_up_to.initiations id p t kept within)
 

@@ -3,13 +3,19 @@
 use Rattle.std.specs.Prelude.{◌≡◌, ◌⊎◌, ℕ, ◌==◌, Bool, not, ◌&&◌, nat_lt, if◌then◌else◌, List, [], ◌∷◌, ◌++◌, ℤ, ◌<ℤ◌, ◌≤ℤ◌, filter, Option, Some, None, unwrap_or, is_some, IsTrue, IfSome, IsSomeAnd}
 use Rattle.std.specs.Option.{option_map_or}
 use Rattle.ec_terms.specs.declared.ids.PropId.{PropId}
+use Rattle.ec_terms.specs.declared.ground.Ground.{Ground}
+use Rattle.ec_terms.specs.declared.theory.Theory.{Theory}
 use Rattle.ec_agenda.specs.Due.{Due, has_due}
 use Rattle.ec_changes.specs.QuietLaws.{current_behind}
 use Rattle.ec_entries.specs.declared.event_entries.EventEntries.{EventEntries}
 use Rattle.ec_entries.specs.declared.event_entries.Dependent.{Dependent}
 use Rattle.ec_entries.specs.Dependents.{dependent_at}
+use Rattle.ec_exclusive.specs.Added.{Added, is_added}
+use Rattle.ec_exclusive.specs.Forms.{breaks_by_initiation}
+use Rattle.ec_exclusive.specs.Neighbours.{AreNeighbours, Neighbourhoods}
 use Rattle.ec_points.specs.Changes.{Change as MarkChange}
 use Rattle.ec_points.specs.Table.{PointTable, is_current_at, marks_at}
+use Rattle.ec_props.specs.Table.{KeptProp, term_at}
 use Rattle.ec_rows.specs.declared.mark.Mark.{Mark}
 use Rattle.ec_rows.specs.Marks.{has_mark, is_counted, mark_at}
 use Rattle.ec_rows.specs.PlainMarks.{plain_mark}
@@ -75,12 +81,18 @@ starts_of mark = record { at = mark.at; inits = mark.inits; terms = 0; clashes =
 abbrev pub starts_change : {T : Type 0} → Mark T → Settled T → Bool
 starts_change old settled = settled.is_changed && not (old.inits == settled.mark.inits)
 
--- the change of the mark, as it is noted
-abbrev pub touch_of : {T : Type 0} → Mark T → Settled T → Touch T
-touch_of old settled = record {
+-- whether the new initiations of a property are planned: whether they change, and an initiation may break its term
+abbrev pub ArePlannedIf : {T : Type 0} → Neighbourhoods → PropId → Mark T → Settled T → Bool → Type 0
+ArePlannedIf around p old settled so =
+    (theory : Theory) (table : List KeptProp) (term : Ground) → AreNeighbours theory table around → term_at p.0 table ≡ Some term
+    → so ≡ (starts_change old settled && breaks_by_initiation theory term)
+
+-- the change of the mark, as it is noted, where its initiations are planned or not
+abbrev pub touch_of : {T : Type 0} → Bool → Mark T → Settled T → Touch T
+touch_of starts old settled = record {
   at = settled.mark.at;
   grows = not (is_counted old) && is_counted settled.mark;
-  starts = not (nat_lt 0 old.inits) && nat_lt 0 settled.mark.inits;
+  starts = starts && not (nat_lt 0 old.inits) && nat_lt 0 settled.mark.inits;
   matters = settled.matters;
 }
 
@@ -88,11 +100,14 @@ touch_of old settled = record {
 abbrev pub touched_if : {T : Type 0} → Bool → Touch T → Option (Touched T) → Option (Touched T)
 touched_if so touch touched = if so then Some (touched_with touch touched) else touched
 
--- The new mark of a property is planned, if it is another one: as it is, its initiations alone if they change, and where.
-pub record PlansMark {T : Type 0} (p : PropId) (old : Mark T) (settled : Settled T) (before after : Planned T) : Type 0 where
+-- The new mark of a property is planned, if it is another one: as it is, its initiations alone if they change and are kept, and
+-- where.
+pub record PlansMark {T : Type 0} (around : Neighbourhoods) (p : PropId) (old : Mark T) (settled : Settled T) (before after : Planned T) : Type 0 where
+  pub starts : Bool
+  pub starts_if : ArePlannedIf around p old settled starts
   pub marks : after.marks ≡ with_if settled.is_changed (p, settled.mark) before.marks
-  pub initiations : after.initiations ≡ with_if (starts_change old settled) (p, starts_of settled.mark) before.initiations
-  pub touched : (n : ℕ) → touched_at n after.touched ≡ touched_if (settled.is_changed && p.0 == n) (touch_of old settled) (touched_at n before.touched)
+  pub initiations : after.initiations ≡ with_if starts (p, starts_of settled.mark) before.initiations
+  pub touched : (n : ℕ) → touched_at n after.touched ≡ touched_if (settled.is_changed && p.0 == n) (touch_of starts old settled) (touched_at n before.touched)
 
 -- ---- what is due
 
@@ -134,14 +149,15 @@ pub record Noted (T : Type 0) : Type 0 where
 
 -- A property is settled at a time: its new mark is planned, it is dirty or not, and if it is, it is due by the time that
 -- anything bears on it.
-pub record SettlesNumber {T : Type 0} (rank : T → ℤ) (points : PointTable T) (slots : Slots T) (at : T) (p : PropId) (tallied : Tallied) (before after : Noted T) : Type 0 where
+pub record SettlesNumber {T : Type 0} (rank : T → ℤ) (around : Neighbourhoods) (points : PointTable T) (slots : Slots T) (at : T) (p : PropId) (tallied : Tallied) (before after : Noted T) : Type 0 where
   pub settled : Settled T
+  pub starts : Bool
+  pub starts_if : ArePlannedIf around p (old_mark rank points at p.0) settled starts
   pub is : IsSettledBy rank (old_mark rank points at p.0) tallied (currencies_at rank points at p.0 (dirty_at p.0 before.dirty)) settled
   pub dirty : dirty_at p.0 after.dirty ≡ settled.dirty
   pub marks : own_changes p.0 after.planned.marks ≡ with_if settled.is_changed (p, settled.mark) (own_changes p.0 before.planned.marks)
-  pub initiations : own_changes p.0 after.planned.initiations
-      ≡ with_if (starts_change (old_mark rank points at p.0) settled) (p, starts_of settled.mark) (own_changes p.0 before.planned.initiations)
-  pub touched : touched_at p.0 after.planned.touched ≡ touched_if settled.is_changed (touch_of (old_mark rank points at p.0) settled) (touched_at p.0 before.planned.touched)
+  pub initiations : own_changes p.0 after.planned.initiations ≡ with_if starts (p, starts_of settled.mark) (own_changes p.0 before.planned.initiations)
+  pub touched : touched_at p.0 after.planned.touched ≡ touched_if settled.is_changed (touch_of starts (old_mark rank points at p.0) settled) (touched_at p.0 before.planned.touched)
   pub due : (u : ℤ) → IsTrue (is_some settled.dirty) → rank at <ℤ u → BearsAt rank points slots p.0 u → IsDueWithin rank after.agenda p.0 (rank at) u
 
 -- a property is left alone
@@ -152,10 +168,14 @@ pub record LeavesNumber {T : Type 0} (n : ℕ) (before after : Noted T) : Type 0
   pub touched : touched_at n after.planned.touched ≡ touched_at n before.planned.touched
 
 -- The properties of some rows are settled, each by what is tallied of it, and all others are left alone.
-pub record SettlesRows {T : Type 0} (rank : T → ℤ) (points : PointTable T) (slots : Slots T) (at : T) (rows : List (ℕ × Tallied)) (before after : Noted T) : Type 0 where
-  pub each : (p : PropId) (tallied : Tallied) → row_at p.0 rows ≡ Some tallied → SettlesNumber rank points slots at p tallied before after
+pub record SettlesRows {T : Type 0} (rank : T → ℤ) (around : Neighbourhoods) (points : PointTable T) (slots : Slots T) (at : T) (rows : List (ℕ × Tallied)) (before after : Noted T) : Type 0 where
+  pub each : (p : PropId) (tallied : Tallied) → row_at p.0 rows ≡ Some tallied → SettlesNumber rank around points slots at p tallied before after
   pub others : (n : ℕ) → row_at n rows ≡ None → LeavesNumber n before after
   pub dues : AddsDue rank points slots (rank at) (λ n. is_some (row_at n rows)) before.agenda after.agenda
+
+-- each property of some rows is added
+abbrev pub AreAdded : List Added → List (ℕ × Tallied) → Type 0
+AreAdded added rows = (p : PropId) (tallied : Tallied) → row_at p.0 rows ≡ Some tallied → IsTrue (is_added p added)
 
 -- each property of some rows has room for what is tallied of it
 abbrev pub HaveRoom : {T : Type 0} → (T → ℤ) → PointTable T → T → List (ℕ × Tallied) → Type 0

@@ -1,8 +1,14 @@
 //! The settling of one property at an instant.
-ghost use Rattle.std.specs.Prelude.{◌≡◌, ◌==◌, ◌<ℤ◌, ℕ, ℤ, false, OnOk, option_map, unwrap_or};
+ghost use Rattle.std.specs.Prelude.{◌≡◌, ◌==◌, ◌<ℤ◌, ◌&&◌, not, ℕ, ℤ, List, Some, false, IsTrue, OnOk, option_map, unwrap_or};
+ghost use Rattle.ec_exclusive.specs.Added.{is_added};
+ghost use Rattle.ec_exclusive.specs.Forms.{breaks_by_initiation as may_break};
+ghost use Rattle.ec_exclusive.specs.Neighbours.{AreNeighbours};
 ghost use Rattle.ec_points.specs.Changes.{has_change};
+ghost use Rattle.ec_props.specs.Table.{KeptProp, term_at};
 ghost use Rattle.ec_rows.specs.Marks.{is_counted};
 ghost use Rattle.ec_revise.specs.Tallied.{HasRoomFor};
+ghost use Rattle.ec_terms.specs.declared.ground.Ground.{Ground};
+ghost use Rattle.ec_terms.specs.declared.theory.Theory.{Theory};
 ghost use Rattle.ec_sweep.specs.State.{dirty_at};
 ghost use Rattle.ec_sweep.specs.Settling.{AddsDue, BearsAt, IsDueWithin, IsNextMark, LeavesNumber, PlansMark, SettlesNumber, currencies_at, mark_or_zeros, old_mark, starts_of, touch_of};
 
@@ -11,6 +17,7 @@ use crate::next_time::next_time;
 use crate::places::Places;
 use ec_agenda::Agenda;
 use ec_delta::{Planned, Touch};
+use ec_exclusive::Neighbours;
 use ec_moment::Moment;
 use ec_parts::Parts;
 use ec_points::Points;
@@ -111,9 +118,18 @@ fn starts_of<T: Moment>(mark: &Mark<T>) -> Mark<T>
     }
 }
 
-/// The change of a mark, as it is noted.
-fn touch_of<T: Moment>(old: &Mark<T>, settled: &Settled<T>) -> Touch<T>
-    ensures { result ≡ touch_of old.now settled.now }
+/// Whether a property has other initiations in its new mark, and they are kept: whether an initiation may break it.
+fn starts_anew<T: Moment>(neighbours: &Neighbours, p: PropId, old: &Mark<T>, new: &Mark<T>) -> bool
+    requires { IsTrue (is_added p neighbours.now.rows) }
+    ensures { (theory : Theory) (table : List KeptProp) (term : Ground) → AreNeighbours theory table neighbours.now → term_at p.0 table ≡ Some term →
+        result ≡ (not (old.now.inits == new.now.inits) && may_break theory term) }
+{
+    old.inits != new.inits && neighbours.breaks_by_initiation(p)
+}
+
+/// The change of a mark, as it is noted, where its initiations are planned, or they are not.
+fn touch_of<T: Moment>(starts: bool, old: &Mark<T>, settled: &Settled<T>) -> Touch<T>
+    ensures { result ≡ touch_of starts old.now settled.now }
 {
     let had = counts(old);
     let has = counts(&settled.mark);
@@ -122,7 +138,7 @@ fn touch_of<T: Moment>(old: &Mark<T>, settled: &Settled<T>) -> Touch<T>
     Touch {
         at: settled.mark.at,
         grows: !had && has,
-        starts: !had_starts && has_starts,
+        starts: starts && !had_starts && has_starts,
         matters: settled.matters,
     }
 }
@@ -131,25 +147,28 @@ fn touch_of<T: Moment>(old: &Mark<T>, settled: &Settled<T>) -> Touch<T>
 /// ran out, or a count is at its end.
 fn plan_mark<T: Moment>(
     planned: &mut Planned<T>,
+    neighbours: &Neighbours,
     p: PropId,
     old: &Mark<T>,
     settled: &Settled<T>,
     near: usize,
 ) -> Result<(), NoMemory>
+    requires added { IsTrue (is_added p neighbours.now.rows) }
     requires mark_free { has_change T.rank p.0 (T.rank settled.now.mark.at) planned.old.marks ≡ false }
     requires initiation_free { has_change T.rank p.0 (T.rank settled.now.mark.at) planned.old.initiations ≡ false }
-    ensures { OnOk result (PlansMark p old.now settled.now planned.old planned.new) }
+    ensures { OnOk result (PlansMark neighbours.now p old.now settled.now planned.old planned.new) }
 {
     if !settled.is_changed {
         return Ok(());
     }
     planned.marks.push(p, settled.mark, near)?;
-    if old.inits != settled.mark.inits {
+    let starts = starts_anew(neighbours, p, old, &settled.mark);
+    if starts {
         planned
             .initiations
             .push(p, starts_of(&settled.mark), ANYWHERE)?;
     }
-    planned.touched.note(p, &touch_of(old, settled))
+    planned.touched.note(p, &touch_of(starts, old, settled))
 }
 
 /// Makes a property due at the next time at which anything bears on it, where the time of its next mark is known. `near` is a
@@ -183,10 +202,11 @@ pub(crate) fn settle_one<T: Moment, M: MarkRow<T>, I: SpanRow<T>, X: TimeRow<T>>
     agenda: &mut Agenda<T>,
     planned: &mut Planned<T>,
 ) -> Result<(), NoMemory>
+    requires added { IsTrue (is_added p parts.now.neighbours.rows) }
     requires room { HasRoomFor (old_mark T.rank parts.now.points at p.0) tallied.now }
     requires mark_free { has_change T.rank p.0 (T.rank at) planned.old.marks ≡ false }
     requires initiation_free { has_change T.rank p.0 (T.rank at) planned.old.initiations ≡ false }
-    ensures settles { OnOk result (SettlesNumber T.rank parts.now.points parts.now.entries.slots at p tallied.now
+    ensures settles { OnOk result (SettlesNumber T.rank parts.now.neighbours parts.now.points parts.now.entries.slots at p tallied.now
         (record { dirty = dirty.old; agenda = agenda.old; planned = planned.old }) (record { dirty = dirty.new; agenda = agenda.new; planned = planned.new })) }
     ensures leaves { OnOk result ((n : ℕ) → (p.0 == n) ≡ false → LeavesNumber n
         (record { dirty = dirty.old; agenda = agenda.old; planned = planned.old }) (record { dirty = dirty.new; agenda = agenda.new; planned = planned.new })) }
@@ -197,7 +217,14 @@ pub(crate) fn settle_one<T: Moment, M: MarkRow<T>, I: SpanRow<T>, X: TimeRow<T>>
     near.marks = old.place;
     places.keep(near);
     let settled = settle(&old.mark, tallied, old.current);
-    plan_mark(planned, p, &old.mark, &settled, old.place)?;
+    plan_mark(
+        planned,
+        &parts.neighbours,
+        p,
+        &old.mark,
+        &settled,
+        old.place,
+    )?;
     dirty.set(p, settled.dirty)?;
     if settled.dirty.is_some() {
         make_due(parts, p, at, old.next, near.dependents, agenda)?;

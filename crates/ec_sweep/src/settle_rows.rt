@@ -6,7 +6,7 @@ ghost use Rattle.ec_numbered.specs.PropSet.{has_number};
 ghost use Rattle.ec_points.specs.Changes.{has_change};
 ghost use Rattle.ec_terms.specs.declared.ids.PropId.{PropId};
 ghost use Rattle.ec_revise.specs.TurnCounts.{IsTallyAt, counts_at, row_at, tallied_at};
-ghost use Rattle.ec_sweep.specs.Settling.{HaveRoom, SettlesRows};
+ghost use Rattle.ec_sweep.specs.Settling.{AreAdded, HaveRoom, SettlesRows};
 
 use crate::dirty::Dirty;
 use crate::places::Places;
@@ -51,10 +51,11 @@ pub(crate) fn settle_rows<T: Moment, M: MarkRow<T>, I: SpanRow<T>, X: TimeRow<T>
     agenda: &mut Agenda<T>,
     planned: &mut Planned<T>,
 ) -> Result<(), NoMemory>
+    requires added { AreAdded parts.now.neighbours.rows tally.now }
     requires room { HaveRoom T.rank parts.now.points at tally.now }
     requires marks_free { (n : ℕ) → has_change T.rank n (T.rank at) planned.old.marks ≡ false }
     requires initiations_free { (n : ℕ) → has_change T.rank n (T.rank at) planned.old.initiations ≡ false }
-    ensures { OnOk result (SettlesRows T.rank parts.now.points parts.now.entries.slots at tally.now
+    ensures { OnOk result (SettlesRows T.rank parts.now.neighbours parts.now.points parts.now.entries.slots at tally.now
         (record { dirty = dirty.old; agenda = agenda.old; planned = planned.old }) (record { dirty = dirty.new; agenda = agenda.new; planned = planned.new })) }
 {
     for i in 0..tally.len() {

@@ -1,5 +1,5 @@
 -- At first there are no hits, and no property has been looked at.
-use Rattle.std.proofs.Common.{[], sym, subst, take}
+use Rattle.std.proofs.Common.{sym, subst, take}
 use Rattle.ec_sweep.specs.Hits.{AreHits}
 use Rattle.ec_sweep.proofs.hits.hits_at.Goals as goal
 use Rattle.ec_sweep.proofs.NoHits.{AreHits-nil}

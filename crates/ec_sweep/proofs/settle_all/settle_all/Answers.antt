@@ -4,7 +4,7 @@ use Rattle.ec_axioms.specs.declared.limits.TheConstants.{MOST_MENTIONS}
 use Rattle.ec_events.specs.Store.{history_of}
 use Rattle.ec_parts.specs.StandFor.{view_of}
 use Rattle.ec_sweep.proofs.Oks.{then_ok}
-use Rattle.ec_sweep.proofs.SettledTerms.{has_settled, room}
+use Rattle.ec_sweep.proofs.SettledTerms.{added-rows, has_settled, room}
 use Rattle.ec_sweep.proofs.TurnedTerms.{AreShown-added, length-turns_few}
 use Rattle.ec_sweep.proofs.settle_all.settle_all.Goals as goal
 
@@ -19,6 +19,12 @@ tally_of-requires-clause-few g c =
 pub tally_of-requires-clause-added : goal.tally_of-requires-clause-added
 tally_of-requires-clause-added g c =
     AreShown-added c.args.parts.now.props c.args.parts.now.neighbours.rows c.args.turns.now c.requires.plains c.requires.can.turned
+
+pub settle_rows-settled-requires-clause-added : goal.settle_rows-settled-requires-clause-added
+settle_rows-settled-requires-clause-added g c =
+    added-rows g.T.Moment.rank c.args.parts.now.checked c.requires.new (view_of c.args.parts.now) c.requires.tally c.requires.change c.requires.r c.args.at
+    c.args.dirty.now c.requires.agenda c.args.agenda.now c.args.due.now c.args.turns.now c.requires.plains c.requires.looked c.args.planned.now c.requires.active
+    c.requires.can c.len.ensures.order c.len.ensures.numbers c.len-2.ensures.slots c.in_ok-tally.tally c.in_ok-tally.ensures.tallied c.in_ok-tally.ensures.rows
 
 pub settle_rows-settled-requires-clause-room : goal.settle_rows-settled-requires-clause-room
 settle_rows-settled-requires-clause-room g c =

@@ -1,12 +1,12 @@
 -- The parts of the settling of a property, put together.
 use Rattle.std.proofs.Common.{sym, ◌∙◌}
 use Rattle.std.proofs.lemmas.Bool.{false≢true}
-use Rattle.ec_sweep.proofs.SettledNumbers.{SettlesNumber-from}
+use Rattle.ec_sweep.proofs.SettledNumbers.{LeavesNumber-from, SettlesNumber-from}
 use Rattle.ec_sweep.proofs.settle_one.settle_one.Goals as goal
 
 pub returns-in_ok-make_due-clause-settles : goal.returns-in_ok-make_due-clause-settles
 returns-in_ok-make_due-clause-settles g c =
-    SettlesNumber-from g.T.Moment.rank c.args.parts.now.points c.args.parts.now.entries.slots c.args.at c.args.p c.args.tallied.now
+    SettlesNumber-from g.T.Moment.rank c.args.parts.now.points c.args.parts.now.entries.slots c.args.at c.args.parts.now.neighbours c.args.p c.args.tallied.now
     c.read_old-old.result.mark c.read_old-old.result.current c.settle-settled.result
     (record { dirty = c.args.dirty.now; agenda = c.args.agenda.now; planned = c.args.planned.now })
     (record { dirty = c.set.new.self; agenda = c.make_due.new.agenda; planned = c.plan_mark.new.planned })
@@ -16,7 +16,7 @@ returns-in_ok-make_due-clause-settles g c =
 
 pub returns-else-is_some-clause-settles : goal.returns-else-is_some-clause-settles
 returns-else-is_some-clause-settles g c =
-    SettlesNumber-from g.T.Moment.rank c.args.parts.now.points c.args.parts.now.entries.slots c.args.at c.args.p c.args.tallied.now
+    SettlesNumber-from g.T.Moment.rank c.args.parts.now.points c.args.parts.now.entries.slots c.args.at c.args.parts.now.neighbours c.args.p c.args.tallied.now
     c.read_old-old.result.mark c.read_old-old.result.current c.settle-settled.result
     (record { dirty = c.args.dirty.now; agenda = c.args.agenda.now; planned = c.args.planned.now })
     (record { dirty = c.set.new.self; agenda = c.args.agenda.now; planned = c.plan_mark.new.planned })
@@ -24,3 +24,17 @@ returns-else-is_some-clause-settles g c =
     (record { mark_is = c.settle-settled.ensures.mark; changed = c.settle-settled.ensures.changed; dirty = c.settle-settled.ensures.dirty; matters = c.settle-settled.ensures.matters })
     c.in_ok-plan_mark.ensures c.in_ok-set.ensures.ok
     (λ u dirty later bears. absurd (false≢true (sym (sym c.is_some.ensures ∙ c.if-is_some.false) ∙ dirty)))
+
+pub returns-in_ok-make_due-clause-leaves : goal.returns-in_ok-make_due-clause-leaves
+returns-in_ok-make_due-clause-leaves g c =
+    LeavesNumber-from c.args.parts.now.neighbours c.args.p c.read_old-old.result.mark c.settle-settled.result
+    (record { dirty = c.args.dirty.now; agenda = c.args.agenda.now; planned = c.args.planned.now })
+    (record { dirty = c.set.new.self; agenda = c.make_due.new.agenda; planned = c.plan_mark.new.planned })
+    c.in_ok-plan_mark.ensures c.in_ok-set.ensures.ok
+
+pub returns-else-is_some-clause-leaves : goal.returns-else-is_some-clause-leaves
+returns-else-is_some-clause-leaves g c =
+    LeavesNumber-from c.args.parts.now.neighbours c.args.p c.read_old-old.result.mark c.settle-settled.result
+    (record { dirty = c.args.dirty.now; agenda = c.args.agenda.now; planned = c.args.planned.now })
+    (record { dirty = c.set.new.self; agenda = c.args.agenda.now; planned = c.plan_mark.new.planned })
+    c.in_ok-plan_mark.ensures c.in_ok-set.ensures.ok

@@ -3,7 +3,6 @@ use Rattle.std.proofs.Common.{[], ◌∷◌, length-append, ◌-◌, ◌++◌, l
 use Rattle.std.specs.Vec.{vec_capacity}
 use Rattle.std.proofs.lemmas.Option.{slice_get_read}
 use Rattle.ec_blocks.proofs.ChainLemmas.{starts-count, lasts-count, is_block-some, is_block-most}
-use Rattle.ec_blocks.proofs.JoinLemmas.{insert-end}
 use Rattle.ec_blocks.proofs.EditLemmas.{appended}
 use Rattle.ec_blocks.proofs.CountLemmas.{counted-small, owed-small, counted-push}
 use Rattle.ec_blocks.proofs.chain.Chain.append.Goals as goal
@@ -11,8 +10,8 @@ use Rattle.ec_blocks.proofs.chain.Chain.append.Goals as goal
 pub push-requires : goal.push-requires
 push-requires g c = let rooms = c.self.invariant.1 in omega (arith, ap (λ v. v.spares) c.self.view_is, starts-count (λ b. b.items) (λ b. vec_capacity b) _ _ _ _ c.self.invariant.0)
 
-pub push_reserved-requires : goal.push_reserved-requires
-push_reserved-requires g c = let rooms = c.self.invariant.1 in omega (arith, ap (λ v. v.spares) c.self.view_is, lasts-count (λ b. b.items) (λ b. vec_capacity b) _ _ _ _ c.self.invariant.0)
+pub push-requires-2 : goal.push-requires-2
+push-requires-2 g c = let rooms = c.self.invariant.1 in omega (arith, ap (λ v. v.spares) c.self.view_is, lasts-count (λ b. b.items) (λ b. vec_capacity b) _ _ _ _ c.self.invariant.0)
 
 pub change-requires-clause-fits : goal.change-requires-clause-fits
 change-requires-clause-fits g c = omega (arith, is_block-most c.args.members.now c.requires.block, counted-small (λ b. b.items) (λ b. vec_capacity b) _ _ _ c.self.invariant.0.kept (let few = c.self.invariant.1.few in omega arith) c.self.invariant.2)
@@ -23,13 +22,13 @@ change-requires-clause-owed_fits g c = omega (arith, is_block-most c.args.member
 pub invariant_of-self : goal.invariant_of-self
 invariant_of-self g c =
     let rooms = c.self.invariant.1 in
-    let there = c.insert.ensures.items ∙ insert-end c.self.inside.blocks.items c.len-end.result c.fill.new.block c.len-end.ensures in
+    let there = c.push-3.ensures.items in
     let more = ap length there ∙ length-append c.self.inside.blocks.items (c.fill.new.block ∷ []) in
     let some = is_block-some c.args.members.now c.requires.block in
     let spares = ap (λ v. v.spares) c.self.view_is in
     let filled = c.fill.ensures.items ∙ ap (λ xs. xs ++ c.args.members.now) c.take_spare-block.ensures.empty in (
       appended (λ b. b.items) (λ b. vec_capacity b) c.self.inside.blocks.items c.self.inside.starts.items c.self.inside.lasts.items c.self.inside.spares.items c.self.invariant.0 c.args.self.now.blocks (ap (λ v. v.blocks) c.self.view_is) _ _ _ _ c.fill.new.block c.total-start.result c.copied.result c.args.members.now
-          there c.push.ensures.items c.push_reserved.ensures.items
+          there c.push.ensures.items c.push-2.ensures.items
           (c.fill.ensures.items ∙ ap (λ xs. xs ++ c.args.members.now) c.take_spare-block.ensures.empty) c.requires.block (omega arith) c.total-start.ensures
           (ap (λ x. Some x) c.copied.ensures
           ∙ sym (slice_get_read c.args.members.now (length c.args.members.now) (length c.args.members.now - 1) c.index-members-members.result refl (omega arith) c.index-members-members.is))

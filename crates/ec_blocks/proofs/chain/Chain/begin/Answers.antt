@@ -2,7 +2,6 @@
 use Rattle.std.proofs.Common.{length-append, ◌++◌, ◌∷◌, [], Some, refl, ap, ◌∙◌, arith, length}
 use Rattle.std.specs.Vec.{vec_capacity}
 use Rattle.ec_blocks.proofs.ChainLemmas.{starts-count, lasts-count}
-use Rattle.ec_blocks.proofs.JoinLemmas.{insert-end}
 use Rattle.ec_blocks.proofs.EditLemmas.{appended}
 use Rattle.ec_blocks.proofs.CountLemmas.{counted-small, owed-small, counted-push}
 use Rattle.ec_blocks.proofs.chain.Chain.begin.Goals as goal
@@ -10,8 +9,8 @@ use Rattle.ec_blocks.proofs.chain.Chain.begin.Goals as goal
 pub push-requires : goal.push-requires
 push-requires g c = let rooms = c.self.invariant.1 in omega (arith, ap (λ v. v.spares) c.self.view_is, starts-count (λ b. b.items) (λ b. vec_capacity b) _ _ _ _ c.self.invariant.0)
 
-pub push_reserved-requires-2 : goal.push_reserved-requires-2
-push_reserved-requires-2 g c = let rooms = c.self.invariant.1 in omega (arith, ap (λ v. v.spares) c.self.view_is, lasts-count (λ b. b.items) (λ b. vec_capacity b) _ _ _ _ c.self.invariant.0)
+pub push-requires-2 : goal.push-requires-2
+push-requires-2 g c = let rooms = c.self.invariant.1 in omega (arith, ap (λ v. v.spares) c.self.view_is, lasts-count (λ b. b.items) (λ b. vec_capacity b) _ _ _ _ c.self.invariant.0)
 
 pub change-requires-clause-fits : goal.change-requires-clause-fits
 change-requires-clause-fits g c = omega (arith, counted-small (λ b. b.items) (λ b. vec_capacity b) _ _ _ c.self.invariant.0.kept (let few = c.self.invariant.1.few in omega arith) c.self.invariant.2)
@@ -22,12 +21,12 @@ change-requires-clause-owed_fits g c = omega (arith, owed-small (λ b. b.items) 
 pub invariant_of-self : goal.invariant_of-self
 invariant_of-self g c =
     let rooms = c.self.invariant.1 in
-    let there = c.insert.ensures.items ∙ insert-end c.self.inside.blocks.items c.len-end.result c.push_reserved.new.self c.len-end.ensures in
+    let there = c.push-3.ensures.items in
     let more = ap length there ∙ length-append c.self.inside.blocks.items (c.push_reserved.new.self ∷ []) in
     let spares = ap (λ v. v.spares) c.self.view_is in
     let begun = c.push_reserved.ensures.items ∙ ap (λ xs. xs ++ c.args.x ∷ []) c.take_spare-block.ensures.empty in (
       appended (λ b. b.items) (λ b. vec_capacity b) c.self.inside.blocks.items c.self.inside.starts.items c.self.inside.lasts.items c.self.inside.spares.items c.self.invariant.0 c.args.self.now.blocks (ap (λ v. v.blocks) c.self.view_is) _ _ _ _ c.push_reserved.new.self c.total-start.result c.copied-last.result (c.args.x ∷ [])
-          there c.push.ensures.items c.push_reserved-2.ensures.items
+          there c.push.ensures.items c.push-2.ensures.items
           (c.push_reserved.ensures.items ∙ ap (λ xs. xs ++ c.args.x ∷ []) c.take_spare-block.ensures.empty) refl (omega arith) c.total-start.ensures
           (ap (λ x. Some x) c.copied-last.ensures) c.take_spare-block.ensures.spare,
       record {

@@ -1,5 +1,5 @@
 -- First among the last members, then within a block.
-use Rattle.std.proofs.Common.{◌≡◌, ◌+◌, ◌<◌, ℕ, suc, List, true, false, Some, length, map, sym, ap, subst, ◌∙◌, arith}
+use Rattle.std.proofs.Common.{◌≡◌, ◌+◌, ◌<◌, ℕ, suc, List, true, false, length, map, sym, ap, subst, ◌∙◌, arith}
 use Rattle.std.specs.List.{list_all}
 use Rattle.std.specs.List.Sorted.{IsPartitionedBy, IsPartitionPoint}
 use Rattle.std.specs.Vec.{vec_capacity}
@@ -15,32 +15,32 @@ pub returns-then-k-len-clause-partitioned : goal.returns-then-k-len-clause-parti
 returns-then-k-len-clause-partitioned g c p computes parted =
     let all : list_all is_block c.args.self.now.blocks ≡ true =
     ap (λ v. list_all is_block v.blocks) (sym c.self.view_is) ∙ kept-blocks (λ b. b.items) (λ b. vec_capacity b) c.self.inside.blocks.items c.self.invariant.0.kept in
-    let are = ap (map (λ x. Some x)) c.deref.ensures.value ∙ c.self.invariant.0.lasts_are ∙ ap (λ v. map last_of v.blocks) c.self.view_is in
+    let are = c.self.invariant.0.lasts_are ∙ ap (λ v. map last_of v.blocks) c.self.view_is in
     let count : length c.args.self.now.blocks ≡ length c.self.inside.blocks.items = ap (λ v. length v.blocks) (sym c.self.view_is) ∙ length-map c.self.inside.blocks.items (λ b. b.items) in
-    let cut = c.cut-k.ensures.partitioned p computes (lasts-parted p c.args.self.now.blocks all parted c.deref.result.now are) in
+    let cut = c.partition_point-k.ensures.partitioned p computes (lasts-parted p c.args.self.now.blocks all parted c.self.inside.lasts.items are) in
     subst (λ (n : ℕ). IsPartitionPoint (λ x. p x ≡ true) (λ x. p x ≡ false) (joined c.args.self.now.blocks) n) (sym c.total.ensures)
-    (found-behind p c.args.self.now.blocks all parted c.deref.result.now are c.cut-k.result (omega arith) (λ m d e. cut.0 m d (omega arith) (omega (arith, e))))
+    (found-behind p c.args.self.now.blocks all parted c.self.inside.lasts.items are c.partition_point-k.result (omega arith) (λ m d e. cut.0 m d (omega arith) (omega (arith, e))))
 
 pub get-requires : goal.get-requires
 get-requires g c =
-    omega (arith, starts-count (λ b. b.items) (λ b. vec_capacity b) _ _ _ _ c.self.invariant.0, lasts-count (λ b. b.items) (λ b. vec_capacity b) _ _ _ _ c.self.invariant.0, ap length c.deref.ensures.value)
+    omega (arith, starts-count (λ b. b.items) (λ b. vec_capacity b) _ _ _ _ c.self.invariant.0, lasts-count (λ b. b.items) (λ b. vec_capacity b) _ _ _ _ c.self.invariant.0)
 
 pub get-requires-2 : goal.get-requires-2
 get-requires-2 g c =
-    omega (arith, starts-count (λ b. b.items) (λ b. vec_capacity b) _ _ _ _ c.self.invariant.0, lasts-count (λ b. b.items) (λ b. vec_capacity b) _ _ _ _ c.self.invariant.0, ap length c.deref.ensures.value)
+    omega (arith, starts-count (λ b. b.items) (λ b. vec_capacity b) _ _ _ _ c.self.invariant.0, lasts-count (λ b. b.items) (λ b. vec_capacity b) _ _ _ _ c.self.invariant.0)
 
 pub returns-clause-bound : goal.returns-clause-bound
 returns-clause-bound g c =
-    let within : c.cut-k.result < length c.args.self.now.blocks =
-    omega (arith, lasts-count (λ b. b.items) (λ b. vec_capacity b) _ _ _ _ c.self.invariant.0, ap (λ v. length v.blocks) (sym c.self.view_is), length-map c.self.inside.blocks.items (λ b. b.items), ap length c.deref.ensures.value) in
-    let start = start-is (λ b. b.items) (λ b. vec_capacity b) _ _ _ _ c.self.invariant.0 c.args.self.now.blocks c.cut-k.result c.get-2.result (ap (λ v. v.blocks) c.self.view_is) within c.get-2.ensures in
-    let block = c.deref-2.ensures.value ∙ old-list (λ b. b.items) (λ b. vec_capacity b) c.self.inside.blocks.items c.self.inside.starts.items c.self.inside.lasts.items c.self.inside.spares.items c.self.invariant.0 c.args.self.now.blocks (ap (λ v. v.blocks) c.self.view_is) c.cut-k.result within c.get.result.now c.get.ensures in
+    let within : c.partition_point-k.result < length c.args.self.now.blocks =
+    omega (arith, lasts-count (λ b. b.items) (λ b. vec_capacity b) _ _ _ _ c.self.invariant.0, ap (λ v. length v.blocks) (sym c.self.view_is), length-map c.self.inside.blocks.items (λ b. b.items)) in
+    let start = start-is (λ b. b.items) (λ b. vec_capacity b) _ _ _ _ c.self.invariant.0 c.args.self.now.blocks c.partition_point-k.result c.get-2.result (ap (λ v. v.blocks) c.self.view_is) within c.get-2.ensures in
+    let block = c.deref.ensures.value ∙ old-list (λ b. b.items) (λ b. vec_capacity b) c.self.inside.blocks.items c.self.inside.starts.items c.self.inside.lasts.items c.self.inside.spares.items c.self.invariant.0 c.args.self.now.blocks (ap (λ v. v.blocks) c.self.view_is) c.partition_point-k.result within c.get.result.now c.get.ensures in
     omega (
       arith,
       start,
       ap length block,
-      start_of-suc c.args.self.now.blocks c.cut-k.result within,
-      start_of-le c.args.self.now.blocks (suc c.cut-k.result) (length c.args.self.now.blocks) (omega arith),
+      start_of-suc c.args.self.now.blocks c.partition_point-k.result within,
+      start_of-le c.args.self.now.blocks (suc c.partition_point-k.result) (length c.args.self.now.blocks) (omega arith),
       start_of-all c.args.self.now.blocks,
     )
 
@@ -55,15 +55,15 @@ pub returns-clause-partitioned : goal.returns-clause-partitioned
 returns-clause-partitioned g c p computes parted =
     let all : list_all is_block c.args.self.now.blocks ≡ true =
     ap (λ v. list_all is_block v.blocks) (sym c.self.view_is) ∙ kept-blocks (λ b. b.items) (λ b. vec_capacity b) c.self.inside.blocks.items c.self.invariant.0.kept in
-    let are = ap (map (λ x. Some x)) c.deref.ensures.value ∙ c.self.invariant.0.lasts_are ∙ ap (λ v. map last_of v.blocks) c.self.view_is in
+    let are = c.self.invariant.0.lasts_are ∙ ap (λ v. map last_of v.blocks) c.self.view_is in
     let count : length c.args.self.now.blocks ≡ length c.self.inside.blocks.items = ap (λ v. length v.blocks) (sym c.self.view_is) ∙ length-map c.self.inside.blocks.items (λ b. b.items) in
-    let cut = c.cut-k.ensures.partitioned p computes (lasts-parted p c.args.self.now.blocks all parted c.deref.result.now are) in
-    let within : c.cut-k.result < length c.args.self.now.blocks =
-    omega (arith, lasts-count (λ b. b.items) (λ b. vec_capacity b) _ _ _ _ c.self.invariant.0, ap (λ v. length v.blocks) (sym c.self.view_is), length-map c.self.inside.blocks.items (λ b. b.items), ap length c.deref.ensures.value) in
-    let start = start-is (λ b. b.items) (λ b. vec_capacity b) _ _ _ _ c.self.invariant.0 c.args.self.now.blocks c.cut-k.result c.get-2.result (ap (λ v. v.blocks) c.self.view_is) within c.get-2.ensures in
-    let block = c.deref-2.ensures.value ∙ old-list (λ b. b.items) (λ b. vec_capacity b) c.self.inside.blocks.items c.self.inside.starts.items c.self.inside.lasts.items c.self.inside.spares.items c.self.invariant.0 c.args.self.now.blocks (ap (λ v. v.blocks) c.self.view_is) c.cut-k.result within c.get.result.now c.get.ensures in
-    let point = c.cut-place.ensures.partitioned p computes (subst (λ (xs : List _). IsPartitionedBy p xs) (sym block) (block-parted p c.args.self.now.blocks all parted c.cut-k.result within)) in
+    let cut = c.partition_point-k.ensures.partitioned p computes (lasts-parted p c.args.self.now.blocks all parted c.self.inside.lasts.items are) in
+    let within : c.partition_point-k.result < length c.args.self.now.blocks =
+    omega (arith, lasts-count (λ b. b.items) (λ b. vec_capacity b) _ _ _ _ c.self.invariant.0, ap (λ v. length v.blocks) (sym c.self.view_is), length-map c.self.inside.blocks.items (λ b. b.items)) in
+    let start = start-is (λ b. b.items) (λ b. vec_capacity b) _ _ _ _ c.self.invariant.0 c.args.self.now.blocks c.partition_point-k.result c.get-2.result (ap (λ v. v.blocks) c.self.view_is) within c.get-2.ensures in
+    let block = c.deref.ensures.value ∙ old-list (λ b. b.items) (λ b. vec_capacity b) c.self.inside.blocks.items c.self.inside.starts.items c.self.inside.lasts.items c.self.inside.spares.items c.self.invariant.0 c.args.self.now.blocks (ap (λ v. v.blocks) c.self.view_is) c.partition_point-k.result within c.get.result.now c.get.ensures in
+    let point = c.cut-place.ensures.partitioned p computes (subst (λ (xs : List _). IsPartitionedBy p xs) (sym block) (block-parted p c.args.self.now.blocks all parted c.partition_point-k.result within)) in
     subst (λ (n : ℕ). IsPartitionPoint (λ x. p x ≡ true) (λ x. p x ≡ false) (joined c.args.self.now.blocks) (n + c.cut-place.result)) (sym start)
-    (found-within p c.args.self.now.blocks all parted c.deref.result.now are c.cut-k.result c.cut-place.result within
-    (λ m d e. cut.0 m d (omega arith) (omega (arith, e))) (λ d. cut.1 c.cut-k.result d (omega arith) (omega (arith, within, count, lasts-count (λ b. b.items) (λ b. vec_capacity b) _ _ _ _ c.self.invariant.0, ap length c.deref.ensures.value))) (omega (arith, ap length block))
+    (found-within p c.args.self.now.blocks all parted c.self.inside.lasts.items are c.partition_point-k.result c.cut-place.result within
+    (λ m d e. cut.0 m d (omega arith) (omega (arith, e))) (λ d. cut.1 c.partition_point-k.result d (omega arith) (omega (arith, within, count, lasts-count (λ b. b.items) (λ b. vec_capacity b) _ _ _ _ c.self.invariant.0))) (omega (arith, ap length block))
     (subst (λ (xs : List _). IsPartitionPoint (λ x. p x ≡ true) (λ x. p x ≡ false) xs c.cut-place.result) block point))

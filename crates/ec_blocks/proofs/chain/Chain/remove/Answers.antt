@@ -1,12 +1,13 @@
 -- A block that gets one less.
-use Rattle.std.proofs.Common.{length, ap, arith}
+use Rattle.std.proofs.Common.{◌∙◌, sym, ◌+◌, length, ap, arith}
+use Rattle.std.specs.Prelude.{nat_eq}
 use Rattle.std.specs.List.{remove}
 use Rattle.std.specs.Vec.{vec_capacity}
 use Rattle.std.proofs.lemmas.List.Edits.{length-remove}
-use Rattle.ec_blocks.proofs.ChainLemmas.{starts-count, starts-some, place-within}
-use Rattle.ec_blocks.proofs.EditLemmas.{rooms-set, old-list, edited, edited-less}
+use Rattle.ec_blocks.proofs.ChainLemmas.{last_of-remove, starts-count, starts-some, place-within}
+use Rattle.ec_blocks.proofs.EditLemmas.{rooms-set, old-last, old-list, edited, edited-less}
 use Rattle.ec_blocks.proofs.CountLemmas.{counted-same, counted-small, owed-small, counted-part, owed-part, counted-set}
-use Rattle.ec_blocks.specs.Chain.{block_at}
+use Rattle.ec_blocks.specs.Chain.{block_at, last_of}
 use Rattle.ec_blocks.proofs.chain.Chain.remove.Goals as goal
 
 pub lower_behind-requires-clause-within : goal.lower_behind-requires-clause-within
@@ -30,6 +31,12 @@ change-requires-clause-fits g c = omega (arith, ap length (old-list (λ b. b.ite
 
 pub change-requires-clause-owed_fits : goal.change-requires-clause-owed_fits
 change-requires-clause-owed_fits g c = omega (arith, ap length (old-list (λ b. b.items) (λ b. vec_capacity b) c.self.inside.blocks.items c.self.inside.starts.items c.self.inside.lasts.items c.self.inside.spares.items c.self.invariant.0 c.args.self.now.blocks (ap (λ v. v.blocks) c.self.view_is) c.args.k c.requires.block c.get_mut-block.result.now c.get_mut-block.ensures.member), counted-part c.args.self.now.blocks c.args.k c.self.inside.counts.total c.self.inside.counts.owed (counted-same _ _ _ _ (ap (λ v. v.blocks) c.self.view_is) c.self.invariant.2) c.requires.block, counted-small (λ b. b.items) (λ b. vec_capacity b) _ _ _ c.self.invariant.0.kept (let few = c.self.invariant.1.few in omega arith) c.self.invariant.2, owed-small (λ b. b.items) (λ b. vec_capacity b) _ _ _ c.self.invariant.0.kept (let few = c.self.invariant.1.few in omega arith) c.self.invariant.2)
+
+pub keep_last-requires-clause-same : goal.keep_last-requires-clause-same
+keep_last-requires-clause-same g c same =
+    let list = old-list (λ b. b.items) (λ b. vec_capacity b) c.self.inside.blocks.items c.self.inside.starts.items c.self.inside.lasts.items c.self.inside.spares.items c.self.invariant.0 c.args.self.now.blocks (ap (λ v. v.blocks) c.self.view_is) c.args.k c.requires.block c.get_mut-block.result.now c.get_mut-block.ensures.member in
+    old-last (λ b. b.items) (λ b. vec_capacity b) c.self.inside.blocks.items c.self.inside.starts.items c.self.inside.lasts.items c.self.inside.spares.items c.self.invariant.0 c.args.self.now.blocks (ap (λ v. v.blocks) c.self.view_is) c.args.k c.requires.block c.get_mut-block.result.now c.get_mut-block.ensures.member
+    ∙ sym (ap last_of (c.deref.ensures.value ∙ c.remove_within-x.ensures.items) ∙ last_of-remove c.get_mut-block.result.now.items c.args.place (omega (arith, ap length list, c.requires.place)) (ap (λ n. nat_eq (c.args.place + 1) n) (omega arith) ∙ same))
 
 pub invariant_of-self : goal.invariant_of-self
 invariant_of-self g c =

@@ -1,13 +1,21 @@
 -- A block that changes, and keeps its length.
-use Rattle.std.proofs.Common.{length, length-set, set, ap, ◌∙◌, arith}
+use Rattle.std.proofs.Common.{◌+◌, length, length-set, set, sym, ap, ◌∙◌, arith}
+use Rattle.std.specs.Prelude.{nat_eq}
 use Rattle.std.specs.Vec.{vec_capacity}
-use Rattle.ec_blocks.proofs.EditLemmas.{rooms-set, edited, edited-same}
+use Rattle.ec_blocks.proofs.ChainLemmas.{last_of-set}
+use Rattle.ec_blocks.proofs.EditLemmas.{rooms-set, old-last, old-list, edited, edited-same}
 use Rattle.ec_blocks.proofs.CountLemmas.{counted-same, counted-set}
-use Rattle.ec_blocks.specs.Chain.{block_at}
+use Rattle.ec_blocks.specs.Chain.{block_at, last_of}
 use Rattle.ec_blocks.proofs.chain.Chain.set.Goals as goal
 
 pub returns-clause-blocks : goal.returns-clause-blocks
 returns-clause-blocks g c = edited (λ b. b.items) (λ b. vec_capacity b) c.self.inside.blocks.items c.self.inside.starts.items c.self.inside.lasts.items c.self.inside.spares.items c.self.invariant.0 c.args.self.now.blocks (ap (λ v. v.blocks) c.self.view_is) c.args.k c.requires.block c.get_mut-block.result.now c.get_mut-block.ensures.member (λ xs. set xs c.args.place c.args.x) c.put_within.new.block c.put_within.ensures.items
+
+pub keep_last-requires-clause-same : goal.keep_last-requires-clause-same
+keep_last-requires-clause-same g c same =
+    let list = old-list (λ b. b.items) (λ b. vec_capacity b) c.self.inside.blocks.items c.self.inside.starts.items c.self.inside.lasts.items c.self.inside.spares.items c.self.invariant.0 c.args.self.now.blocks (ap (λ v. v.blocks) c.self.view_is) c.args.k c.requires.block c.get_mut-block.result.now c.get_mut-block.ensures.member in
+    old-last (λ b. b.items) (λ b. vec_capacity b) c.self.inside.blocks.items c.self.inside.starts.items c.self.inside.lasts.items c.self.inside.spares.items c.self.invariant.0 c.args.self.now.blocks (ap (λ v. v.blocks) c.self.view_is) c.args.k c.requires.block c.get_mut-block.result.now c.get_mut-block.ensures.member
+    ∙ sym (ap last_of (c.deref.ensures.value ∙ c.put_within.ensures.items) ∙ last_of-set c.get_mut-block.result.now.items c.args.place c.args.x (omega (arith, ap length list, c.requires.place)) (ap (λ n. nat_eq (c.args.place + 1) n) (omega arith) ∙ same))
 
 pub invariant_of-self : goal.invariant_of-self
 invariant_of-self g c = (

@@ -5,9 +5,9 @@ use Rattle.ec_blocks.proofs.NumberLemmas.{numbers-length}
 use Rattle.ec_blocks.proofs.starts.Starts.push.Goals as goal
 
 pub insert-requires-clause-within : goal.insert-requires-clause-within
-insert-requires-clause-within c = omega (arith, ap (λ v. length v.items) c.self.view_is, numbers-length c.self.inside.parts.items c.self.inside.bases.items)
+insert-requires-clause-within c = omega (arith, ap (λ v. length v.items) c.self.view_is, numbers-length c.self.inside.parts.items c.self.inside.bases)
 
 pub returns-clause-items : goal.returns-clause-items
 returns-clause-items c =
     c.insert.ensures.items
-    ∙ insert-end c.args.self.now.items c.len-end.result c.args.start (omega (arith, ap (λ v. length v.items) c.self.view_is, numbers-length c.self.inside.parts.items c.self.inside.bases.items))
+    ∙ insert-end c.args.self.now.items c.len-end.result c.args.start (omega (arith, ap (λ v. length v.items) c.self.view_is, numbers-length c.self.inside.parts.items c.self.inside.bases))

@@ -1,6 +1,6 @@
 -- The numbers up to this one are changed.
 use Rattle.std.proofs.Common.{◌≡◌, ℕ, ◌+◌, ◌%◌, ◌^◌, ◌<◌, ◌≤◌, ◌⊎◌, length, get_or}
-use Rattle.ec_blocks.proofs.starts.add.Given as goal
+use Rattle.ec_blocks.proofs.bases.add.Given as goal
 
 abbrev pub invariant-loop-k : goal.invariant-loop-k
 invariant-loop-k l = record {
