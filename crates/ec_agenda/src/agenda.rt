@@ -47,6 +47,13 @@ impl<T: Moment> Agenda<T> {
         self.dues.is_empty()
     }
 
+    /// Takes out all that is due. Its room is kept.
+    pub fn clear(&mut self)
+        ensures { self.new ≡ [] }
+    {
+        self.dues.clear();
+    }
+
     /// Makes a property due at a time, unless it is there already. `Err`: memory ran out, and all is as it was.
     pub fn add(&mut self, at: T, p: PropId) -> Result<(), NoMemory>
         ensures there { IsTrue (has_due T.rank (T.rank at) p.0 self.old) → self.new ≡ self.old }

@@ -5,7 +5,7 @@ ghost use Rattle.ec_apply.specs.Aim.{AreCountsOf, IsAimed, StandForNew};
 use crate::mend::mend;
 use crate::switch::switch_events;
 use ec_axioms::{Seen, Steps};
-use ec_delta::Delta;
+use ec_delta::{Delta, Planned};
 use ec_intervals::growth_is_bounded_law;
 use ec_moment::Moment;
 use ec_parts::Parts;
@@ -15,10 +15,12 @@ use std::sync::ledger::Ledger;
 
 /// Makes the change of all caches that a sweep planned, and counts what it changed. It takes no memory and can't fail.
 ///
-/// Each event that goes is one step. Intervals are looked at only of the properties of which some change of marks matters.
+/// Each event that goes is one step. Intervals are looked at only of the properties of which some change of marks matters. The
+/// lists of the plan are given back in `spent`, for their room alone.
 pub fn apply<T: Moment, M: MarkRow<T>, I: SpanRow<T>, X: TimeRow<T>, L: Ledger>(
     parts: &mut Parts<T, M, I, X>,
     delta: Delta<T>,
+    spent: &mut Planned<T>,
     steps: &mut Steps<L>,
 ) -> Seen
     requires { IsAimed T.rank parts.old.checked (view_of parts.old) delta }
@@ -54,6 +56,7 @@ pub fn apply<T: Moment, M: MarkRow<T>, I: SpanRow<T>, X: TimeRow<T>, L: Ledger>(
         &parts.neighbours,
         &planned.touched,
     );
+    *spent = planned;
     Seen {
         seen,
         on,

@@ -37,6 +37,9 @@ impl<X: Copied + Drop> Chain<X> {
         ensures front { result ≡ true → (k ≡ 0) ⊎ (1 ≤ place) }
         ensures behind { result ≡ true → (k + 1 ≡ length self.now.blocks) ⊎ (place < length (block_at k self.now.blocks)) }
     {
+        if 0 < place && place < len {
+            return true;
+        }
         let front = k == 0 || 0 < place;
         let behind = k == self.count() - 1 || place < len;
         front && behind

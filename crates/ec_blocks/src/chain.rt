@@ -360,6 +360,9 @@ fn is_between(place: usize, from: usize, to: usize, len: usize) -> bool
     ensures front { result ≡ true → (from ≡ 0) ⊎ (from < place) }
     ensures behind { result ≡ true → (to ≡ len) ⊎ (place < to) }
 {
+    if from < place && place < to {
+        return true;
+    }
     let front = from == 0 || from < place;
     let behind = to == len || place < to;
     front && behind

@@ -71,4 +71,15 @@ impl<T: Moment> Planned<T> {
             touched: Touches::new(alloc),
         }
     }
+
+    /// Takes out all that was found. Its room is kept.
+    pub fn clear(&mut self)
+        ensures marks { self.new.marks ≡ [] }
+        ensures initiations { self.new.initiations ≡ [] }
+        ensures touched { self.new.touched ≡ [] }
+    {
+        self.marks.clear();
+        self.initiations.clear();
+        self.touched.clear();
+    }
 }

@@ -3,7 +3,7 @@ ghost use Rattle.std.specs.Prelude.{◌≡◌, ◌+◌, ◌==◌, ℕ, [], Some,
 ghost use Rattle.ec_terms.specs.declared.ids.PropId.{PropId};
 ghost use Rattle.ec_delta.specs.Touched.{are_once, first_touched, touched_at, touched_with, widened};
 
-use ec_maps::SmallMap;
+use ec_maps::NumberMap;
 use ec_moment::Moment;
 use ec_terms::{NoMemory, PropId};
 use std::alloc::Global;
@@ -34,7 +34,7 @@ pub struct Touch<T> {
 /// Where marks change, for each property of which some do.
 #[derive(Drop)]
 pub struct Touches<T: Moment> {
-    rows: SmallMap<usize, Touched<T>>,
+    rows: NumberMap<Touched<T>>,
 }
 
 impl<T: Moment> Model for Touches<T> {
@@ -104,8 +104,15 @@ impl<T: Moment> Touches<T> {
         ensures { result ≡ [] }
     {
         Touches {
-            rows: SmallMap::new(alloc),
+            rows: NumberMap::new(alloc),
         }
+    }
+
+    /// Takes all out. Their room is kept.
+    pub fn clear(&mut self)
+        ensures { self.new ≡ [] }
+    {
+        self.rows.clear();
     }
 
     /// Of how many properties marks change. No property is listed twice.

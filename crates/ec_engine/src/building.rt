@@ -15,6 +15,7 @@ use ec_axioms::{Event, Steps};
 use ec_moment::Moment;
 use ec_parts::{Parts, Tally};
 use ec_rows::{MarkRow, SpanRow, TimeRow};
+use ec_sweep::Lists;
 use ec_terms::NoMemory;
 use std::alloc::Global;
 use std::sync::ledger::Ledger;
@@ -48,6 +49,7 @@ fn walk_in<T: Moment, M: MarkRow<T>, I: SpanRow<T>, X: TimeRow<T>>(
 /// Puts a list of events into the parts of no event. `Err`: memory ran out.
 pub(crate) fn fill<T: Moment, M: MarkRow<T>, I: SpanRow<T>, X: TimeRow<T>, L: Ledger>(
     alloc: Global,
+    lists: &mut Lists<T>,
     parts: &mut Parts<T, M, I, X>,
     tally: &mut Tally,
     list: &[Event<T>],
@@ -62,6 +64,6 @@ pub(crate) fn fill<T: Moment, M: MarkRow<T>, I: SpanRow<T>, X: TimeRow<T>, L: Le
 {
     let mut walk = start(alloc, parts, tally);
     walk_in(alloc, parts, tally, &mut walk, list)?;
-    carry_out(alloc, parts, tally, walk, steps)?;
+    carry_out(alloc, lists, parts, tally, walk, steps)?;
     Ok(())
 }

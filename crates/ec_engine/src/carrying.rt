@@ -25,14 +25,14 @@ use ec_moment::Moment;
 use ec_parts::{Parts, Tally};
 use ec_revise::Change;
 use ec_rows::{MarkRow, SpanRow, TimeRow};
-use ec_sweep::plan;
+use ec_sweep::{Lists, plan};
 use ec_terms::{NoMemory, PropId};
 use std::alloc::Global;
 use std::sync::ledger::Ledger;
 
 /// Plans a change of all caches and makes it. `Err`: memory ran out, and nothing has changed; the change is given back.
 fn make_change<T: Moment, M: MarkRow<T>, I: SpanRow<T>, X: TimeRow<T>, L: Ledger>(
-    alloc: Global,
+    lists: &mut Lists<T>,
     parts: &mut Parts<T, M, I, X>,
     change: Change<T>,
     steps: &mut Steps<L>,
@@ -49,8 +49,8 @@ fn make_change<T: Moment, M: MarkRow<T>, I: SpanRow<T>, X: TimeRow<T>, L: Ledger
     ensures planned { OnErr result ((new : List PlainEvent) (tally : PartsTally) → IsUnderway T.rank parts.old.checked new (view_of parts.old) tally change →
         steps.new + length change.remove ≤ steps.old + steps_between parts.old.checked (history_of T.rank parts.old.store.events) new) }
 {
-    match plan(alloc, parts, change, steps) {
-        Ok(delta) => Ok(apply(parts, delta, steps)),
+    match plan(lists, parts, change, steps) {
+        Ok(delta) => Ok(apply(parts, delta, &mut lists.planned, steps)),
         Err(change) => Err(change),
     }
 }
@@ -75,7 +75,7 @@ fn forget_listed<T: Moment, M: MarkRow<T>, I: SpanRow<T>, X: TimeRow<T>>(
 /// Counts what changed. `fresh` are the properties that were not kept before, `dying` those that may be live no longer. `Err`:
 /// memory ran out; the parts stand for the list of the store, and the tables have gone back to it.
 pub(crate) fn carry_change<T: Moment, M: MarkRow<T>, I: SpanRow<T>, X: TimeRow<T>, L: Ledger>(
-    alloc: Global,
+    lists: &mut Lists<T>,
     parts: &mut Parts<T, M, I, X>,
     tally: &mut Tally,
     change: Change<T>,
@@ -91,7 +91,7 @@ pub(crate) fn carry_change<T: Moment, M: MarkRow<T>, I: SpanRow<T>, X: TimeRow<T
     ensures steps { (soon : List PlainEvent) → LeadsTo T.rank parts.old.checked (view_of parts.old) tally.old change fresh.now dying.now soon →
         steps.new ≤ steps.old + steps_between parts.old.checked (history_of T.rank parts.old.store.events) soon }
 {
-    match make_change(alloc, parts, change, steps) {
+    match make_change(lists, parts, change, steps) {
         Ok(seen) => {
             forget_listed(parts, fresh, dying);
             Ok(seen)
@@ -107,6 +107,7 @@ pub(crate) fn carry_change<T: Moment, M: MarkRow<T>, I: SpanRow<T>, X: TimeRow<T
 /// what changed. `Err`: memory ran out; the parts stand for the list of the store as before the walk.
 pub(crate) fn carry_out<T: Moment, M: MarkRow<T>, I: SpanRow<T>, X: TimeRow<T>, L: Ledger>(
     alloc: Global,
+    lists: &mut Lists<T>,
     parts: &mut Parts<T, M, I, X>,
     tally: &mut Tally,
     walk: Walk<T>,
@@ -126,7 +127,7 @@ pub(crate) fn carry_out<T: Moment, M: MarkRow<T>, I: SpanRow<T>, X: TimeRow<T>, 
         return Err(NoMemory);
     };
     carry_change(
-        alloc,
+        lists,
         parts,
         tally,
         change,

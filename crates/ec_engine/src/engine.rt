@@ -20,6 +20,7 @@ use ec_context::Rules;
 use ec_moment::Moment;
 use ec_parts::{Parts, Tally, new_parts};
 use ec_rows::{MarkRow, SpanRow, TimeRow};
+use ec_sweep::Lists;
 use ec_terms::{GroundRef, Name, NoMemory};
 use std::alloc::Global;
 use std::marker::Model;
@@ -31,6 +32,8 @@ use std::sync::ledger::Ledger;
 pub struct Engine<T: Moment, M: MarkRow<T>, I: SpanRow<T>, X: TimeRow<T>> {
     parts: Parts<T, M, I, X>,
     tally: Tally,
+    /// Room for the lists of a change.
+    lists: Lists<T>,
     alloc: Global,
 }
 
@@ -56,6 +59,7 @@ impl<T: Moment, M: MarkRow<T>, I: SpanRow<T>, X: TimeRow<T>> Engine<T, M, I, X> 
         Ok(Engine {
             parts,
             tally,
+            lists: Lists::new(alloc),
             alloc,
         })
     }
@@ -76,10 +80,12 @@ impl<T: Moment, M: MarkRow<T>, I: SpanRow<T>, X: TimeRow<T>> Engine<T, M, I, X> 
     {
         let rules = Rules::new(alloc, checked)?;
         let (mut parts, mut tally) = new_parts(alloc, rules)?;
-        fill(alloc, &mut parts, &mut tally, list, steps)?;
+        let mut lists = Lists::new(alloc);
+        fill(alloc, &mut lists, &mut parts, &mut tally, list, steps)?;
         Ok(Engine {
             parts,
             tally,
+            lists,
             alloc,
         })
     }
@@ -112,7 +118,14 @@ impl<T: Moment, M: MarkRow<T>, I: SpanRow<T>, X: TimeRow<T>> Engine<T, M, I, X> 
             Ok(walk) => walk,
             Err(refusal) => return Err(refusal),
         };
-        let Ok(seen) = carry_out(self.alloc, &mut self.parts, &mut self.tally, walk, steps) else {
+        let Ok(seen) = carry_out(
+            self.alloc,
+            &mut self.lists,
+            &mut self.parts,
+            &mut self.tally,
+            walk,
+            steps,
+        ) else {
             return Err(Refusal::Memory);
         };
         Ok(seen)
@@ -138,7 +151,7 @@ impl<T: Moment, M: MarkRow<T>, I: SpanRow<T>, X: TimeRow<T>> Engine<T, M, I, X> 
             Err(refusal) => return Err(refusal),
         };
         let carried = carry_change(
-            self.alloc,
+            &mut self.lists,
             &mut self.parts,
             &mut self.tally,
             arrival.change,

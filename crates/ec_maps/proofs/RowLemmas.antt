@@ -109,12 +109,12 @@ module _ {K V : Type 0} (eq : K → K → Bool) (laws : IsEquivalence eq) (key :
 
   -- ---- a key that is nowhere
 
-  absent-head : (row : K × V) (rows : List (K × V)) → lookup (eq key) (row ∷ rows) ≡ None → eq key row.0 ≡ false
+  pub absent-head : (row : K × V) (rows : List (K × V)) → lookup (eq key) (row ∷ rows) ≡ None → eq key row.0 ≡ false
   absent-head row rows none =
       ⊎_elim (λ here. let found : Some row.1 ≡ None = sym (cond-true (eq key row.0) (Some row.1) (lookup (eq key) rows) here) ∙ none in cc) (λ fails. fails)
       (cases_Bool (eq key row.0))
 
-  absent-rest : (row : K × V) (rows : List (K × V)) → lookup (eq key) (row ∷ rows) ≡ None → lookup (eq key) rows ≡ None
+  pub absent-rest : (row : K × V) (rows : List (K × V)) → lookup (eq key) (row ∷ rows) ≡ None → lookup (eq key) rows ≡ None
   absent-rest row rows none = sym (cond-false (eq key row.0) (Some row.1) (lookup (eq key) rows) (absent-head row rows none)) ∙ none
 
   AllByRecursion-push : (P : K → Type 0) (rows : List (K × V)) → AllByRecursion P (keys_of rows) → P key → AllByRecursion P (keys_of (rows ++ (key, value) ∷ []))

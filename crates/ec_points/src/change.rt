@@ -74,6 +74,13 @@ impl<T: Moment> MarkChange<T> {
         }
     }
 
+    /// Takes all new marks out. Their room is kept.
+    pub fn clear(&mut self)
+        ensures { self.new ≡ [] }
+    {
+        self.changes.clear();
+    }
+
     /// How many new marks there are.
     pub fn len(&self) -> usize
         ensures len { result ≡ length self.now }

@@ -33,8 +33,8 @@ fn starts_at<T: Moment, M: MarkRow<T>, I: SpanRow<T>, X: TimeRow<T>>(
     mark.inits > 0 && (breaks(mark, strong) || !parts.points.current(id, at))
 }
 
-/// The last time before another at which a property starts that an initiation may break. It walks back over the times before
-/// it at which the property is initiated while it is current already.
+/// The last time before another at which a property starts, for one that an initiation may break. It walks back over the
+/// times before it at which the property is initiated while it is current already.
 fn last_start<T: Moment, M: MarkRow<T>, I: SpanRow<T>, X: TimeRow<T>>(
     parts: &Parts<T, M, I, X>,
     id: PropId,

@@ -11,7 +11,7 @@ ghost use Rattle.ec_revise.specs.TurnCounts.{CountsEach, CountsTurn, IsTallyAt, 
 use crate::settled::{Counts, Tallied};
 use crate::turn::Turn;
 use ec_exclusive::Neighbours;
-use ec_maps::SmallMap;
+use ec_maps::NumberMap;
 use ec_terms::{Kind, NoMemory, PropId};
 use std::alloc::Global;
 use std::marker::Model;
@@ -27,7 +27,7 @@ pub enum Part {
 /// What is tallied of the turns at one instant, for each property that they count for.
 #[derive(Drop)]
 pub struct Tally {
-    rows: SmallMap<usize, Tallied>,
+    rows: NumberMap<Tallied>,
 }
 
 impl Model for Tally {
@@ -92,7 +92,7 @@ impl Tally {
         ensures { result ≡ [] }
     {
         Tally {
-            rows: SmallMap::new(alloc),
+            rows: NumberMap::new(alloc),
         }
     }
 

@@ -37,13 +37,13 @@ use Rattle.ec_sweep.specs.declared.progress.Progress.{Progress}
 
 -- ---- dirty properties
 
--- dirty properties by their numbers, each with its currency in the new list
+-- properties by their numbers, each with its currency in the new list, if it is dirty
 abbrev pub DirtyRows : Type 0
-DirtyRows = List (ℕ × Bool)
+DirtyRows = List (ℕ × Option Bool)
 
 -- the new currency of the property of a number, if it is dirty
 abbrev pub dirty_at : ℕ → DirtyRows → Option Bool
-dirty_at n rows = lookup (λ k. n == k) rows
+dirty_at n rows = option_and_then (λ current. current) (lookup (λ k. n == k) rows)
 
 -- the currency in the new list at the instant of a visit: that of a dirty property, and else the old one
 abbrev pub is_current_over : {T : Type 0} → (T → ℤ) → PointTable T → DirtyRows → ℕ → ℤ → Bool

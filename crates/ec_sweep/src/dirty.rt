@@ -3,7 +3,7 @@ ghost use Rattle.std.specs.Prelude.{◌≡◌, ◌==◌, ℕ, [], OnOk, OnErr, i
 ghost use Rattle.ec_sweep.specs.State.{dirty_at, is_current_over};
 
 use ec_axioms::Current;
-use ec_maps::SmallMap;
+use ec_maps::NumberMap;
 use ec_moment::Moment;
 use ec_points::Points;
 use ec_rows::MarkRow;
@@ -12,16 +12,16 @@ use std::alloc::Global;
 use std::marker::Model;
 
 /// The properties whose currency just behind the swept instant is not the same in the two lists, each with its currency in
-/// the new one.
+/// the new one. One that has become clean keeps its row, which says so.
 #[derive(Drop)]
 pub struct Dirty {
-    rows: SmallMap<usize, bool>,
+    rows: NumberMap<Option<bool>>,
 }
 
 impl Model for Dirty {
-    ghost use Rattle.std.specs.Prelude.{ℕ, Bool, List};
+    ghost use Rattle.std.specs.Prelude.{ℕ, Bool, List, Option};
 
-    ghost Value = { List (ℕ × Bool) };
+    ghost Value = { List (ℕ × Option Bool) };
 
     ghost view = { λ dirty. dirty.rows };
 }
@@ -32,15 +32,22 @@ impl Dirty {
         ensures { result ≡ [] }
     {
         Dirty {
-            rows: SmallMap::new(alloc),
+            rows: NumberMap::new(alloc),
         }
+    }
+
+    /// Makes all properties clean. Their room is kept.
+    pub fn clear(&mut self)
+        ensures { self.new ≡ [] }
+    {
+        self.rows.clear();
     }
 
     /// The currency of a property in the new list, if it is dirty.
     pub fn get(&self, p: PropId) -> Option<bool>
         ensures { result ≡ dirty_at p.0 self.now }
     {
-        self.rows.get(p.0)
+        self.rows.get(p.0)?
     }
 
     /// Makes a property dirty with its currency in the new list, or clean. `Err`: memory ran out, and all is as it was.
@@ -48,15 +55,7 @@ impl Dirty {
         ensures ok { OnOk result ((n : ℕ) → dirty_at n self.new ≡ (if p.0 == n then current else dirty_at n self.old)) }
         ensures err { OnErr result (self.new ≡ self.old) }
     {
-        match current {
-            Some(new) => {
-                self.rows.insert(p.0, new)?;
-            }
-            None => {
-                self.rows.remove(p.0);
-            }
-        }
-        Ok(())
+        self.rows.insert(p.0, current)
     }
 }
 

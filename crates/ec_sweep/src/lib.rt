@@ -5,6 +5,7 @@
 mod dirty;
 mod due;
 mod hits;
+mod lists;
 mod look;
 mod look_hits;
 mod looking;
@@ -23,5 +24,6 @@ mod turned;
 mod words;
 
 pub use dirty::{Dirty, Overlay};
+pub use lists::Lists;
 pub use planning::plan;
 pub use progress::Progress;

@@ -9,6 +9,7 @@ ghost use Rattle.ec_delta.specs.Ready.{IsReady};
 ghost use Rattle.ec_sweep.specs.State.{IsUnderway};
 ghost use Rattle.ec_sweep.specs.Planning.{LeadsSomewhere};
 
+use crate::lists::Lists;
 use crate::rooms::make_room;
 use crate::sweep::{Sweep, sweep_over};
 use ec_axioms::Steps;
@@ -17,7 +18,6 @@ use ec_moment::Moment;
 use ec_parts::Parts;
 use ec_revise::Change;
 use ec_rows::{MarkRow, SpanRow, TimeRow};
-use std::alloc::Global;
 use std::sync::ledger::Ledger;
 
 /// Plans the change of all caches from the list of the store to the new list that a change leads to, and takes all the room
@@ -27,7 +27,7 @@ use std::sync::ledger::Ledger;
 /// something may differ; there it evaluates the entries that read a property whose currency differs, and no others. `Err`:
 /// memory ran out; the change is given back.
 pub fn plan<T: Moment, M: MarkRow<T>, I: SpanRow<T>, X: TimeRow<T>, L: Ledger>(
-    alloc: Global,
+    lists: &mut Lists<T>,
     parts: &mut Parts<T, M, I, X>,
     change: Change<T>,
     steps: &mut Steps<L>,
@@ -48,14 +48,18 @@ pub fn plan<T: Moment, M: MarkRow<T>, I: SpanRow<T>, X: TimeRow<T>, L: Ledger>(
         + length (flat_map (λ entries. entries) change.entries) + length change.remove }
 {
     let _ = (parts.props.len(), parts.store.len());
-    let Ok(sweep) = sweep_over(alloc, parts, &change, steps) else {
+    let Ok(sweep) = sweep_over(lists, parts, &change, steps) else {
         return Err(change);
     };
     let Sweep {
+        dirty,
+        agenda,
         looked,
         planned,
         ..
     } = sweep;
+    lists.dirty = dirty;
+    lists.agenda = agenda;
     let Ok(_) = make_room(parts, &change, &planned) else {
         return Err(change);
     };

@@ -6,11 +6,12 @@ ghost use Rattle.ec_parts.specs.declared.tally.Tally.{Tally as PartsTally};
 ghost use Rattle.ec_parts.specs.StandFor.{view_of};
 ghost use Rattle.ec_sweep.specs.Planning.{LeadsSomewhere};
 ghost use Rattle.ec_sweep.specs.State.{IsUnderway};
-ghost use Rattle.ec_sweep.specs.Sweeping.{IsInOrder, IsSweepingTo, NothingLeft, NothingLeftBefore, has_visit_at, no_sweep};
+ghost use Rattle.ec_sweep.specs.Sweeping.{IsInOrder, IsSweepingTo, NothingLeft, NothingLeftBefore, has_visit_at};
 ghost use Rattle.ec_sweep.specs.Visiting.{most_steps, steps_for};
 
 use crate::dirty::Dirty;
 use crate::due::take_due;
+use crate::lists::Lists;
 use crate::look::look;
 use crate::next_time::earlier;
 use crate::progress::Progress;
@@ -24,7 +25,6 @@ use ec_parts::Parts;
 use ec_revise::Change;
 use ec_rows::{MarkRow, SpanRow, TimeRow};
 use ec_terms::NoMemory;
-use std::alloc::Global;
 use std::sync::ledger::Ledger;
 
 /// What a sweep keeps while it goes from instant to instant.
@@ -40,23 +40,6 @@ pub(crate) struct Sweep<T: Moment> {
 }
 
 impl<T: Moment> Sweep<T> {
-    /// A sweep that found nothing yet. It takes no memory.
-    fn new(alloc: Global) -> Sweep<T>
-        ensures { result ≡ no_sweep }
-    {
-        Sweep {
-            last: None,
-            dirty: Dirty::new(alloc),
-            agenda: Agenda::new(alloc),
-            progress: Progress {
-                removed: 0,
-                added: 0,
-            },
-            looked: Looked::new(alloc),
-            planned: Planned::new(alloc),
-        }
-    }
-
     /// The next instant to visit: the earliest at which something is due, or an event stands in one list alone. `None` exactly
     /// where there is none.
     fn next_visit(&self, change: &Change<T>) -> Option<T>
@@ -148,7 +131,7 @@ fn next_added<T: Moment>(change: &Change<T>, place: usize) -> Option<T>
 /// Sweeps over the instants between the list of the parts and the one that a change leads to. It only reads the parts. `Err`:
 /// memory ran out.
 pub(crate) fn sweep_over<T: Moment, M: MarkRow<T>, I: SpanRow<T>, X: TimeRow<T>, L: Ledger>(
-    alloc: Global,
+    lists: &mut Lists<T>,
     parts: &Parts<T, M, I, X>,
     change: &Change<T>,
     steps: &mut Steps<L>,
@@ -160,10 +143,9 @@ pub(crate) fn sweep_over<T: Moment, M: MarkRow<T>, I: SpanRow<T>, X: TimeRow<T>,
         steps.new ≤ steps.old + most_steps parts.now.checked (history_of T.rank parts.now.store.events) new change.now }
 {
     let _ = (parts.props.len(), parts.store.len());
-    let mut sweep = Sweep::new(alloc);
-    let mut scratch = Scratch::new(alloc);
+    let mut sweep = lists.take_sweep();
     while let Some(at) = sweep.next_visit(change) {
-        sweep.visit(&mut scratch, parts, change, at, steps)?;
+        sweep.visit(&mut lists.scratch, parts, change, at, steps)?;
     }
     Ok(sweep)
 }

@@ -5,7 +5,7 @@ ghost use Rattle.ec_delta.specs.Looked.{are_apart};
 ghost use Rattle.ec_sweep.specs.Words.{flip_of, word_at};
 
 use ec_delta::Flip;
-use ec_maps::SmallMap;
+use ec_maps::NumberMap;
 use ec_terms::{NoMemory, Sequence, Slot};
 use std::alloc::Global;
 use std::marker::Model;
@@ -29,7 +29,7 @@ pub(crate) fn with_bit(word: u64, k: usize, on: bool) -> u64
 /// New words of slots.
 #[derive(Drop)]
 pub(crate) struct Words {
-    rows: SmallMap<usize, u64>,
+    rows: NumberMap<u64>,
 }
 
 impl Model for Words {
@@ -46,7 +46,7 @@ impl Words {
         ensures { result ≡ [] }
     {
         Words {
-            rows: SmallMap::new(alloc),
+            rows: NumberMap::new(alloc),
         }
     }
 

@@ -13,7 +13,7 @@ use Rattle.ec_sweep.proofs.sweep.sweep_over.Goals as goal
 pub loop-at-init : goal.loop-at-init
 loop-at-init g c = record {
   sweeping = λ new tally underway.
-      subst (λ sweep. IsSweeping g.T.Moment.rank c.args.parts.now.checked new (view_of c.args.parts.now) c.args.change.now sweep) (sym c.new-sweep.ensures)
+      subst (λ sweep. IsSweeping g.T.Moment.rank c.args.parts.now.checked new (view_of c.args.parts.now) c.args.change.now sweep) (sym c.take_sweep-sweep.ensures)
       (IsSweeping-begin g.T.Moment.rank c.args.parts.now.checked new (view_of c.args.parts.now) tally c.args.change.now underway);
   steps = omega arith;
 }
