@@ -3,7 +3,5 @@
 
 mod agenda;
 mod place;
-#[cfg(test)]
-mod tests;
 
 pub use agenda::Agenda;

@@ -16,5 +16,4 @@ pub mod Histories
 pub mod HoldingLaws
 pub mod NotInitial
 pub mod NextBreak
-pub mod BareTheories
 pub mod LineEnds

@@ -10,8 +10,6 @@ mod laws_intervals;
 mod laws_not_initial;
 mod limits;
 mod plain;
-#[cfg(test)]
-mod plain_tests;
 mod steps;
 pub mod worked_replies;
 pub mod worked_rows;

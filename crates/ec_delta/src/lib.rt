@@ -3,8 +3,6 @@
 
 mod delta;
 mod flips;
-#[cfg(test)]
-mod tests;
 mod touches;
 
 pub use delta::{Delta, Looked, Planned};

@@ -6,8 +6,6 @@ mod event_entries;
 mod noting;
 mod ordered;
 mod reserving;
-#[cfg(test)]
-mod tests;
 
 pub use entries::{Entries, EntryLists};
 pub use event_entries::{Dependent, EventEntries};

@@ -9,8 +9,6 @@ mod laws;
 mod neighbours;
 mod rows;
 mod search;
-#[cfg(test)]
-mod tests;
 
 pub use ec_terms::are_exclusive as exclusive;
 pub use laws::neighbours_read_terms_alone;

@@ -2,6 +2,8 @@
 #![tactic(auto)]
 
 #[cfg(test)]
+mod agenda;
+#[cfg(test)]
 mod block_spans;
 #[cfg(test)]
 mod block_times;
@@ -16,11 +18,21 @@ mod intervals;
 #[cfg(test)]
 mod lines;
 #[cfg(test)]
+mod maps;
+#[cfg(test)]
 mod moment;
+#[cfg(test)]
+mod numbered;
+#[cfg(test)]
+mod outside;
+#[cfg(test)]
+mod plain;
 #[cfg(test)]
 mod reading;
 #[cfg(test)]
 mod rows;
+#[cfg(test)]
+mod soak;
 #[cfg(test)]
 mod steps;
 pub mod tables;
@@ -29,3 +41,5 @@ pub mod tally;
 mod terms;
 #[cfg(test)]
 mod theory;
+#[cfg(test)]
+mod tokens;

@@ -5,8 +5,6 @@ mod number_map;
 mod places;
 mod search;
 mod small_map;
-#[cfg(test)]
-mod tests;
 
 pub use number_map::NumberMap;
 pub use small_map::SmallMap;

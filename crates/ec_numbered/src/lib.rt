@@ -5,8 +5,6 @@
 mod ascending;
 mod by_number;
 mod prop_set;
-#[cfg(test)]
-mod tests;
 
 pub use by_number::ByNumber;
 pub use prop_set::PropSet;

@@ -22,6 +22,3 @@ pub use mem_source::MemSource;
 pub use real::{RealFolder, RealSink, RealSource};
 pub use sink::{Sink, write_all};
 pub use source::{Failed, Source};
-
-#[cfg(test)]
-mod tests;

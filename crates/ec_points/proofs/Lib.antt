@@ -1,4 +1,4 @@
-mod AppliedChanges
+pub mod AppliedChanges
 mod CalmTimes
 mod ClashLemmas
 mod LastMarks

@@ -9,10 +9,6 @@ mod points;
 mod reading;
 mod row;
 mod rows;
-#[cfg(test)]
-mod tally_tests;
-#[cfg(test)]
-mod tests;
 
 pub use change::MarkChange;
 pub use laws::{

@@ -7,7 +7,5 @@ mod property;
 mod records;
 mod search;
 mod table;
-#[cfg(test)]
-mod tests;
 
 pub use table::PropTable;

@@ -5,8 +5,6 @@ mod change;
 mod laws;
 mod settled;
 mod tally;
-#[cfg(test)]
-mod tests;
 mod turn;
 
 pub use change::{Change, Removal};

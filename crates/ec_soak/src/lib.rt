@@ -10,8 +10,6 @@ mod line_text;
 mod soak_source;
 mod summary;
 mod tally_sink;
-#[cfg(test)]
-mod tests;
 
 pub use counts::Counts;
 pub use generated_line::{GeneratedEvent, GeneratedLine};

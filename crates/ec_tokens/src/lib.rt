@@ -6,8 +6,6 @@ mod laws;
 mod lexer;
 mod piece;
 mod place;
-#[cfg(test)]
-mod tests;
 mod token;
 mod token_list;
 

@@ -13,9 +13,20 @@ use Rattle.ec_engine.specs.Standing.{Standing}
 use Rattle.ec_engine.specs.Walk.{HasWalkedTo}
 use Rattle.ec_engine.proofs.Batches.{goes_ok}
 use Rattle.ec_engine.proofs.Carried.{HasWalkedTo-moved, IsCarriedOut-moved}
-use Rattle.ec_engine.proofs.Revising.{IsRevised-carried, IsRevised-no_memory, most_steps-carried, most_steps-least}
+use Rattle.ec_engine.proofs.Revising.{IsRevised-carried, IsRevised-no_memory, most_steps-carried, most_steps-least, stands_refused}
 use Rattle.ec_engine.proofs.Standings.{IsEngine-standing}
 use Rattle.ec_engine.proofs.engine.Engine.revise.Goals as goal
+
+pub invariant_of-self : goal.invariant_of-self
+invariant_of-self g c =
+    let rank = g.T.Moment.rank in
+    let inside = c.self.inside.parts in
+    let later = c.attempt.new.parts in
+    let hist = history_of rank inside.store.events in
+    let stand = stands_refused rank inside.checked inside.store.events (map (plain_update rank) c.args.batch.now) (view_of later) c.attempt.new.tally c.in-Err.refusal c.in-Err.ensures.goes in
+    IsEngine-standing rank later.checked hist (view_of later) c.attempt.new.tally
+    (subst (λ t. StandFor rank t hist (view_of later) c.attempt.new.tally) (sym c.in-Err.ensures.theory) stand)
+    (subst (λ t. IsWithinLimits t hist) (sym c.in-Err.ensures.theory) c.self.invariant.within)
 
 pub returns-in-Err-clause-steps : goal.returns-in-Err-clause-steps
 returns-in-Err-clause-steps g c =

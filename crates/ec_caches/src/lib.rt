@@ -1,0 +1,17 @@
+//! The calls of the tables and caches that the engine keeps, each used as the engine uses it.
+#![tactic(auto)]
+
+#[cfg(test)]
+mod delta;
+#[cfg(test)]
+mod entries;
+#[cfg(test)]
+mod exclusive;
+#[cfg(test)]
+mod points;
+#[cfg(test)]
+mod points_tally;
+#[cfg(test)]
+mod props;
+#[cfg(test)]
+mod revise;

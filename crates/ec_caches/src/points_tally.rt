@@ -1,0 +1,213 @@
+//! What no clause shows: that a change of one mark touches little of a long row.
+ghost use Rattle.std.specs.Prelude.{◌≡◌, ◌++◌, ◌∷◌, [], ◌+◌, ◌≤◌, IsTrue, OnOk, OnErr, if◌then◌else◌};
+ghost use Rattle.ec_rows.specs.Marks.{IsMarkRow, is_counted, are_before, has_mark, with_mark};
+
+use crate::points::{Given, put};
+use ec_blocks::BlockMarks;
+use ec_moment::{Moment, Tick};
+use ec_points::Points;
+use ec_rows::{Mark, MarkRow};
+use ec_terms::{NoMemory, PropId};
+use std::alloc::Global;
+use std::cell::Cell;
+
+/// A row of marks in blocks that passes each call on, and counts the calls.
+#[derive(Drop)]
+struct TallyMarks<T: Moment> {
+    marks: BlockMarks<T>,
+    calls: Cell<u64>,
+}
+
+impl<T: Moment> TallyMarks<T> {
+    /// Counts one more call.
+    fn count(&self) {
+        self.calls.set(self.calls.get().wrapping_add(1));
+    }
+}
+
+impl<T: Moment> MarkRow<T> for TallyMarks<T> {
+    ghost marks = { λ row. row.marks.items };
+
+    ghost spare = { λ row. row.marks.spare };
+
+    fn new(alloc: Global) -> Result<Self, NoMemory> {
+        Ok(TallyMarks {
+            marks: BlockMarks::new(alloc)?,
+            calls: Cell::new(0),
+        })
+    }
+
+    fn len(&self) -> usize {
+        self.count();
+        self.marks.len()
+    }
+
+    fn reserve(&mut self, n: usize) -> Result<(), NoMemory> {
+        self.count();
+        self.marks.reserve(n)
+    }
+
+    fn get(&self, i: usize) -> Mark<T> {
+        self.count();
+        self.marks.get(i)
+    }
+
+    fn run(&self, i: usize) -> &[Mark<T>] {
+        self.count();
+        self.marks.run(i)
+    }
+
+    fn count_before(&self, at: T, near: usize) -> usize {
+        self.count();
+        self.marks.count_before(at, near)
+    }
+
+    fn mark_at(&self, at: T) -> Option<Mark<T>> {
+        self.count();
+        self.marks.mark_at(at)
+    }
+
+    fn last_before(&self, at: T) -> Option<usize> {
+        self.count();
+        self.marks.last_before(at)
+    }
+
+    fn next_after(&self, at: T) -> Option<usize> {
+        self.count();
+        self.marks.next_after(at)
+    }
+
+    fn put(&mut self, mark: Mark<T>)
+        requires counted { IsTrue (is_counted mark) }
+        requires room { (if has_mark T.rank (T.rank mark.at) self.old.marks.items then 0 else 1) ≤ self.old.marks.spare }
+        ensures marks { self.new.marks.items ≡ with_mark T.rank mark self.old.marks.items }
+        ensures spare { self.old.marks.spare ≤ self.new.marks.spare + (if has_mark T.rank (T.rank mark.at) self.old.marks.items then 0 else 1) }
+        ensures row { IsMarkRow T.rank self.new.marks.items }
+    {
+        self.count();
+        self.marks.put(mark);
+    }
+
+    fn push(&mut self, mark: Mark<T>) -> Result<(), NoMemory>
+        requires counted { IsTrue (is_counted mark) }
+        requires last { IsTrue (are_before T.rank self.old.marks.items mark) }
+        ensures ok { OnOk result (self.new.marks.items ≡ self.old.marks.items ++ mark ∷ []) }
+        ensures err { OnErr result (self.new.marks.items ≡ self.old.marks.items) }
+        ensures spare { self.old.marks.spare ≤ self.new.marks.spare + 1 }
+        ensures same_spare { OnErr result (self.old.marks.spare ≤ self.new.marks.spare) }
+        ensures row { IsMarkRow T.rank self.new.marks.items }
+    {
+        self.count();
+        self.marks.push(mark)
+    }
+
+    fn take_out(&mut self, i: usize) -> Mark<T> {
+        self.count();
+        self.marks.take_out(i)
+    }
+}
+
+/// The property that the marks are of.
+const P: usize = 3;
+
+/// A property with so many marks, one every ten times.
+fn long_row(alloc: Global, length: i64) -> Result<Points<Tick, TallyMarks<Tick>>, NoMemory> {
+    let mut points = Points::new(alloc)?;
+    for k in 0..length {
+        put(alloc, &mut points, &[(P, k.wrapping_mul(10), 1, 0, 0)])?;
+    }
+    Ok(points)
+}
+
+/// How often the row of the property was called.
+fn calls_of(points: &Points<Tick, TallyMarks<Tick>>) -> u64 {
+    match points.row(PropId(P)) {
+        Some(row) => row.calls.get(),
+        None => 0,
+    }
+}
+
+/// The marks of the property, block by block.
+fn blocks_of(
+    alloc: Global,
+    points: &Points<Tick, TallyMarks<Tick>>,
+) -> Result<Vec<Vec<Mark<Tick>>>, NoMemory> {
+    let mut blocks = Vec::new(alloc);
+    let Some(row) = points.row(PropId(P)) else {
+        return Ok(blocks);
+    };
+    let mut place: usize = 0;
+    for _ in 0..row.len() {
+        if place >= row.len() {
+            return Ok(blocks);
+        }
+        let run = row.run(place);
+        blocks.push(run.to_vec(alloc)?)?;
+        place = place.saturating_add(run.len());
+    }
+    Ok(blocks)
+}
+
+/// How many blocks two lists of blocks have in common at the front.
+fn common_front(blocks: &[Vec<Mark<Tick>>], others: &[Vec<Mark<Tick>>]) -> usize {
+    blocks
+        .iter()
+        .zip(others)
+        .take_while(|(a, b)| a == b)
+        .count()
+}
+
+/// How many blocks two lists of blocks have in common at the back.
+fn common_back(blocks: &[Vec<Mark<Tick>>], others: &[Vec<Mark<Tick>>]) -> usize {
+    blocks
+        .iter()
+        .rev()
+        .zip(others.iter().rev())
+        .take_while(|(a, b)| a == b)
+        .count()
+}
+
+/// Makes a change of one mark. It gives the number of calls of the row, and how many of its blocks are not as before.
+fn touched(
+    alloc: Global,
+    points: &mut Points<Tick, TallyMarks<Tick>>,
+    given: Given,
+) -> Result<(u64, usize), NoMemory> {
+    let before = blocks_of(alloc, points)?;
+    let calls = calls_of(points);
+    put(alloc, points, &[given])?;
+    let calls = calls_of(points).wrapping_sub(calls);
+    let after = blocks_of(alloc, points)?;
+    let front = common_front(&before, &after);
+    let back = common_back(&before, &after);
+    Ok((
+        calls,
+        after.len().saturating_sub(front).saturating_sub(back),
+    ))
+}
+
+/// Changes of one mark, each with its time in the row of few marks and in that of many, and how often it initiates and
+/// terminates: a new mark in front, in the middle and behind, another one, and none.
+const CHANGES: [(i64, i64, u32, u32); 5] = [
+    (-5, -5, 1, 0),
+    (5005, 500005, 1, 0),
+    (10005, 1000005, 0, 1),
+    (5000, 500000, 0, 1),
+    (5000, 500000, 0, 0),
+];
+
+#[test]
+fn a_change_of_one_mark_touches_few_blocks(rt: HostRuntime) -> Result<(), NoMemory> {
+    let mut few = long_row(rt.alloc(), 1000)?;
+    let mut many = long_row(rt.alloc(), 100000)?;
+    for (in_few, in_many, inits, terms) in CHANGES {
+        let (calls_of_few, _) = touched(rt.alloc(), &mut few, (P, in_few, inits, terms, 0))?;
+        let (calls, blocks) = touched(rt.alloc(), &mut many, (P, in_many, inits, terms, 0))?;
+        assert!(rt;
+            calls == calls_of_few && 1 <= calls && calls <= 5,
+            "calls at {in_many}: {calls}"
+        );
+        assert!(rt; 1 <= blocks && blocks <= 2, "blocks at {in_many}: {blocks}");
+    }
+    Ok(())
+}

@@ -1,5 +1,0 @@
--- The ledger that the counter counts on is that of the blank.
-use Rattle.ec_entries.proofs.tests.active_bits_are_those_of_one_slot.Given as goal
-
-abbrev pub ghosts-records_are_apart : goal.ghosts-records_are_apart
-ghosts-records_are_apart g a = record { name = a.blank.name; parts = a.blank.parts }

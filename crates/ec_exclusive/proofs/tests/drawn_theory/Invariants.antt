@@ -1,6 +1,0 @@
--- The declarations so far can be matched.
-use Rattle.ec_terms.specs.Matchable.{IsMatchable}
-use Rattle.ec_exclusive.proofs.tests.drawn_theory.Given as goal
-
-abbrev pub invariant-loop : goal.invariant-loop
-invariant-loop g l = IsMatchable l.theory

@@ -1,0 +1,176 @@
+//! The plain program on the worked examples of one lamp and one person, written without arguments.
+ghost use Rattle.std.specs.Prelude.{◌≡◌, map};
+ghost use Rattle.std.specs.List.{list_all};
+ghost use Rattle.ec_terms.specs.Matchable.{IsMatchable};
+ghost use Rattle.ec_axioms.specs.Changes.{comes_before, has_id, is_history};
+ghost use Rattle.ec_axioms.specs.Events.{event_of};
+
+use crate::tables::row_of;
+use ec_axioms::{Event, EventList, holds_plain};
+use ec_moment::{Moment, Tick};
+use ec_terms::{Name, NoMemory, Sequence, Theory, read_ground};
+use ec_theory::accept;
+use ec_tokens::MOST_BYTES;
+use std::alloc::Global;
+use std::cmp::Ordering;
+use std::process::Abort;
+use std::test::Fail;
+
+/// A lamp that is lit or put out by a push where it is powered, and a person who is at home or at work, and not at both.
+const LAMP: &[u8] = b"initiates push lit if powered, not lit.
+terminates push lit if lit.
+initiates plug powered.
+terminates unplug powered.
+terminates unplug lit.
+initiates move_home home.
+initiates move_work work.
+terminates leave_home home.
+exclusive home work.
+";
+
+/// Events, each by its identity, its time and its term; and properties, each at a time, and whether it holds there.
+const ROWS: &str = "
+# a lamp that is plugged and pushed
+p 5 plug, q 10 push => lit 10 no, lit 11 yes, powered 5 no, powered 6 yes
+# an unplug that came late
+p 5 plug, u 7 unplug, q 10 push => lit 11 no, powered 7 yes, powered 8 no
+# contexts read the strict past
+p 10 plug, q 10 push => lit 11 no, powered 11 yes
+# an end and a start at one instant
+p 5 plug, u 10 unplug, v 10 plug => powered 5 no, powered 6 yes, powered 10 yes, powered 11 yes
+# a second move to the same place, which changes nothing
+m1 10 move_home, m2 14 move_home, l1 20 leave_home => home 10 no, home 11 yes, home 14 yes, home 20 yes, home 21 no
+# two moves at once
+m1 10 move_home, m2 10 move_work => home 11 yes, work 11 yes
+";
+
+/// What is added where a person at home answers a ring.
+const RING: &[u8] = b"initiates ring answered if home.\n";
+
+/// They are current there, though it is not known that they stayed.
+const RING_ROWS: &str = "
+m1 10 move_home, g 15 ring, m2 20 move_work => home 15 no, work 21 yes, answered 15 no, answered 16 yes
+";
+
+/// What is added where being at home is strong.
+const STRONG: &[u8] = b"strong home/0.\n";
+
+/// The second move ends what the first began, without a reason.
+const STRONG_ROWS: &str = "
+m1 10 move_home, m2 14 move_home, l1 20 leave_home => home 11 no, home 14 no, home 15 yes, home 20 yes, home 21 no
+";
+
+/// Whether an event comes before another.
+#[tactic(auto, unfolding(ec_axioms::specs::Changes::comes_before))]
+fn is_before<T: Moment>(event: &Event<T>, other: &Event<T>) -> bool
+    ensures { result ≡ comes_before (event_of T.rank event.now) (event_of T.rank other.now) }
+{
+    match event.at.order(&other.at) {
+        Ordering::Less => true,
+        Ordering::Equal => event.id.as_bytes().cmp(other.id.as_bytes()).is_lt(),
+        Ordering::Greater => false,
+    }
+}
+
+/// Whether an event comes before each of some others.
+fn is_before_all<T: Moment>(event: &Event<T>, events: &[Event<T>]) -> bool
+    ensures { result ≡ list_all (comes_before (event_of T.rank event.now)) (map (event_of T.rank) events.now) }
+{
+    for other in events {
+        if !is_before(event, other) {
+            return false;
+        }
+    }
+    true
+}
+
+/// Whether some event has an identity.
+#[tactic(auto, unfolding(ec_axioms::specs::Changes::has_id))]
+fn is_present<T: Moment>(id: &Name, events: &[Event<T>]) -> bool
+    ensures { result ≡ has_id id.now (map (event_of T.rank) events.now) }
+{
+    for other in events {
+        if other.id.as_bytes() == id.as_bytes() {
+            return true;
+        }
+    }
+    false
+}
+
+/// Whether events are in order and no two have one identity.
+#[tactic(auto, unfolding(ec_axioms::specs::Changes::is_history))]
+fn is_in_order<T: Moment>(events: &[Event<T>]) -> bool
+    ensures { result ≡ is_history (map (event_of T.rank) events.now) }
+{
+    match events {
+        [] => true,
+        [first, rest @ ..] => {
+            is_before_all(first, rest) && !is_present(&first.id, rest) && is_in_order(rest)
+        }
+    }
+}
+
+/// The words of `lit 10 no`, in the middle a time.
+fn three<'a>(rt: &impl Abort, spelt: &'a str) -> (&'a str, Tick, &'a str) {
+    let (first, rest) = spelt.split_once(' ').expect(rt, spelt);
+    let (at, last) = rest.split_once(' ').expect(rt, spelt);
+    (first, Tick(at.parse::<i64>().expect(rt, spelt)), last)
+}
+
+/// The events that are spelt as `p 5 plug, q 10 push`.
+fn events_of(rt: &impl Abort, alloc: Global, spelt: &str) -> Result<EventList<Tick>, NoMemory> {
+    let mut events: EventList<Tick> = Sequence::new(alloc);
+    for told in spelt.split(", ") {
+        let (id, at, term) = three(rt, told);
+        let (term, _) = read_ground(term.as_bytes()).expect(rt, told);
+        events.push(Event {
+            id: Name::from_bytes(id.as_bytes()).expect(rt, told),
+            at,
+            term: term.to_ground(alloc)?,
+        })?;
+    }
+    Ok(events)
+}
+
+/// Sees that all holds of some events that a row says of them.
+fn check_row(
+    rt: &impl Abort,
+    alloc: Global,
+    theory: &Theory,
+    told: &str,
+    asked: &str,
+) -> Result<(), NoMemory>
+    requires { IsMatchable theory.now }
+{
+    let events = events_of(rt, alloc, told)?;
+    assert!(rt; is_in_order(events.as_slice()));
+    for one in asked.split(", ") {
+        let (prop, at, expected) = three(rt, one);
+        let (prop, _) = read_ground(prop.as_bytes()).expect(rt, one);
+        let holds = holds_plain(events.as_slice(), theory, &prop, at);
+        assert!(rt; holds == (expected == "yes"), "{told}: {one}");
+    }
+    Ok(())
+}
+
+/// Sees that each row of a table holds under the theory of a text.
+fn check_rows(rt: &impl Abort, alloc: Global, text: &[u8], table: &str) -> Result<(), Fail> {
+    assert!(rt; text.len() <= MOST_BYTES);
+    let checked = accept(alloc, text)?;
+    for line in table.lines() {
+        if let Some((told, asked)) = row_of(line) {
+            check_row(rt, alloc, checked.theory(), told, asked)?;
+        }
+    }
+    Ok(())
+}
+
+#[test]
+fn worked_rows_hold(rt: HostRuntime) -> Result<(), Fail> {
+    let mut text = Vec::new(rt.alloc());
+    for (clauses, table) in [(LAMP, ROWS), (RING, RING_ROWS), (STRONG, STRONG_ROWS)] {
+        text.extend_from_slice(clauses)?;
+        check_rows(&rt, rt.alloc(), &text, table)?;
+    }
+    Ok(())
+}

@@ -1,0 +1,115 @@
+//! Generated lines beside those that were made apart from the program, and counted replies.
+use ec_outside::{MemSink, Sink, Source, write_all};
+use ec_soak::{Counts, SoakSource, TallySink, write_summary};
+use std::test::Fail;
+
+/// The lines of seed 0, made apart from the program.
+const SEED_0: &[u8] = b"\
+assert e1 96424 unplug(l45)\n\
+intervals lit(l56)\n\
+holds lit(l32) 18139\n\
+assert e4 46482 unplug(l52)\n\
+assert e5 40745 move(p11,h35)\n\
+assert e6 58069 unplug(l13)\n\
+holds at(p1,h23) 97011\n\
+assert e8 25417 plug(l36)\n\
+holds at(p11,h18) 70999\n\
+holds lit(l38) 70016\n\
+holds lit(l49) 40817\n\
+assert e12 13832 unplug(l20)\n\
+holds at(p8,h63) 27065\n\
+last\n\
+assert e15 65975 push(p12,l2)\n\
+retract e1\n\
+retract e7\n\
+assert e18 54185 unplug(l3)\n\
+assert e19 87294 unplug(l56)\n\
+assert e20 90012 leave(p4,h62)\n\
+assert e21 21075 move(p5,h49)\n\
+assert e22 23261 move(p7,h56)\n\
+holds lit(l61) 88464\n\
+assert e24 98095 push(p14,l7)\n";
+
+/// The lines of the last seed, whose first draw wraps.
+const LAST_SEED: &[u8] = b"\
+holds at(p7,h21) 17602\n\
+holds lit(l3) 92885\n\
+assert e3 84440 unplug(l50)\n\
+holds lit(l26) 95278\n\
+holds at(p9,h4) 82178\n\
+assert e6 98641 push(p1,l51)\n";
+
+/// Reads a source to its end into a buffer of this length.
+fn read_all(source: &mut SoakSource, buffer: &mut [u8], into: &mut Vec<u8>) -> Result<(), Fail> {
+    for _ in 0..100_000u32 {
+        let count = source.read(buffer)?;
+        if count == 0 {
+            break;
+        }
+        into.extend_from_slice(&buffer[..count])?;
+    }
+    Ok(())
+}
+
+#[test]
+fn a_seed_gives_its_lines_in_pieces_of_any_size(rt: HostRuntime) -> Result<(), Fail> {
+    let mut buffer = [0; 4096];
+    for size in [1, 7, 4096] {
+        for (lines, seed, text) in [
+            (24, 0, SEED_0),
+            (6, 18_446_744_073_709_551_615, LAST_SEED),
+            (0, 5, b"".as_slice()),
+        ] {
+            let mut bytes = Vec::new(rt.alloc());
+            read_all(
+                &mut SoakSource::new(lines, seed),
+                &mut buffer[..size],
+                &mut bytes,
+            )?;
+            assert_eq!(rt; bytes.as_slice(), text);
+        }
+    }
+    Ok(())
+}
+
+#[test]
+fn replies_are_counted_in_pieces_of_any_size(rt: HostRuntime) -> Result<(), Fail> {
+    let replies =
+        b"ok\nyes\nno\nok\nokay\nrefused duplicate e1\nrefused memory\nrefused memory \n\nlast seen 1\nok";
+    let counts = Counts {
+        ok: 2,
+        yes: 1,
+        no: 1,
+        refused: 3,
+        bytes: 85,
+        memory: 1,
+    };
+    for size in [1, 7, 4096] {
+        let mut sink = TallySink::new();
+        for piece in replies.chunks(size) {
+            write_all(&mut sink, piece)?;
+        }
+        assert_eq!(rt; sink.flush(), Ok(()));
+        assert_eq!(rt; sink.counts(), counts);
+    }
+    Ok(())
+}
+
+#[test]
+fn a_run_is_summed_up_in_a_line(rt: HostRuntime) -> Result<(), Fail> {
+    let counts = Counts {
+        ok: 18_446_744_073_709_551_615,
+        yes: 2,
+        no: 30,
+        refused: 400,
+        bytes: 5000,
+        memory: 6,
+    };
+    let mut sink = MemSink::new(rt.alloc(), 160, 7, &[], &[])?;
+    write_summary(4_294_967_295, &counts, &mut sink)?;
+    assert_eq!(rt;
+        sink.bytes(),
+        b"soak lines 4294967295 ok 18446744073709551615 yes 2 no 30 refused 400 bytes 5000\n".as_slice()
+    );
+    Ok(())
+}
