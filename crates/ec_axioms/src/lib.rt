@@ -5,6 +5,7 @@ mod currency;
 mod current;
 mod event;
 mod history;
+mod in_order;
 mod laws_currency;
 mod laws_intervals;
 mod laws_not_initial;
@@ -16,6 +17,7 @@ pub mod worked_rows;
 
 pub use current::Current;
 pub use event::{Cut, Event, EventList, Seen, Update};
+pub use in_order::is_in_order;
 pub use laws_currency::{
     currency_is_the_solution_law, holds_where_current_law, past_is_closed_law,
 };

@@ -1,73 +1,18 @@
 //! Random histories, by the plain program and by the one that is proved to follow the definitions.
-ghost use Rattle.std.specs.Prelude.{◌≡◌, IsTrue, map};
-ghost use Rattle.std.specs.List.{list_all};
-ghost use Rattle.ec_axioms.specs.Changes.{comes_before, has_id, is_history};
-ghost use Rattle.ec_axioms.specs.Events.{event_of};
 
 use crate::drawn::{Draws, TIMES, all_props};
 use crate::plain::History;
 use crate::plain_terms::Term;
 use crate::plain_theory::{Event as PlainEvent, Theory};
-use ec_axioms::{Event, EventList, holds_plain};
+use ec_axioms::{Event, EventList, holds_plain, is_in_order};
 use ec_check::Checked;
-use ec_moment::{Moment, Tick};
+use ec_moment::Tick;
 use ec_terms::{Ground, Name, NoMemory, Sequence, read_ground};
 use ec_theory::accept;
 use ec_tokens::MOST_BYTES;
 use std::alloc::{AllocError, Global};
-use std::cmp::Ordering;
 use std::process::Abort;
 use std::test::Fail;
-
-/// Whether an event comes before another.
-#[tactic(auto, unfolding(ec_axioms::specs::Changes::comes_before))]
-fn is_before<T: Moment>(event: &Event<T>, other: &Event<T>) -> bool
-    ensures { result ≡ comes_before (event_of T.rank event.now) (event_of T.rank other.now) }
-{
-    match event.at.order(&other.at) {
-        Ordering::Less => true,
-        Ordering::Equal => event.id.as_bytes().cmp(other.id.as_bytes()).is_lt(),
-        Ordering::Greater => false,
-    }
-}
-
-/// Whether an event comes before each of some others.
-fn is_before_all<T: Moment>(event: &Event<T>, events: &[Event<T>]) -> bool
-    ensures { result ≡ list_all (comes_before (event_of T.rank event.now)) (map (event_of T.rank) events.now) }
-{
-    for other in events {
-        if !is_before(event, other) {
-            return false;
-        }
-    }
-    true
-}
-
-/// Whether some event has an identity.
-#[tactic(auto, unfolding(ec_axioms::specs::Changes::has_id))]
-fn is_present<T: Moment>(id: &Name, events: &[Event<T>]) -> bool
-    ensures { result ≡ has_id id.now (map (event_of T.rank) events.now) }
-{
-    for other in events {
-        if other.id.as_bytes() == id.as_bytes() {
-            return true;
-        }
-    }
-    false
-}
-
-/// Whether events are in order and no two have one identity.
-#[tactic(auto, unfolding(ec_axioms::specs::Changes::is_history))]
-fn is_in_order<T: Moment>(events: &[Event<T>]) -> bool
-    ensures { result ≡ is_history (map (event_of T.rank) events.now) }
-{
-    match events {
-        [] => true,
-        [first, rest @ ..] => {
-            is_before_all(first, rest) && !is_present(&first.id, rest) && is_in_order(rest)
-        }
-    }
-}
 
 /// A term, read from its text.
 fn ground(rt: &impl Abort, alloc: Global, term: Term) -> Result<Ground, NoMemory> {

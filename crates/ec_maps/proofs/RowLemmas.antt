@@ -1,9 +1,9 @@
--- Rows in which one is set, taken out or added: what is found there, and that no key stands there twice.
+-- Rows in which one is set or added: what is found there, and that no key stands there twice.
 use Rattle.std.proofs.Common.{◌≡◌, ℕ, ◌<◌, ◌+◌, zero, suc, Bool, true, false, cond, List, [], ◌∷◌, ◌++◌, length, take, Some, None, refl, sym, ap, subst, ◌∙◌, ⊎_elim, arith}
 use Rattle.std.specs.Prelude.{slice_index_or, slice_set}
 use Rattle.std.specs.Cmp.{IsEquivalence}
-use Rattle.std.specs.List.{AllByRecursion, IsDistinct, remove}
-use Rattle.std.specs.Map.{keys_of, lookup, remove_entry}
+use Rattle.std.specs.List.{AllByRecursion, IsDistinct}
+use Rattle.std.specs.Map.{keys_of, lookup}
 use Rattle.std.proofs.lemmas.Bool.{cases_Bool, cond-true, cond-false}
 use Rattle.std.proofs.lemmas.List.{take_more}
 use Rattle.ec_maps.specs.Rows.{IsFirst}
@@ -15,14 +15,6 @@ module _ {K V : Type 0} (test : K → Bool) where
 
   pub fails-before : (row : K × V) (rows : List (K × V)) (i : ℕ) → IsFirst test (row ∷ rows) (suc i) → test row.0 ≡ false
   fails-before row rows i is = is.first 0 row (omega arith)
-
-  -- the rows without the first
-  pub remove-first : (rows : List (K × V)) (i : ℕ) → IsFirst test rows i → remove rows i ≡ remove_entry test rows
-  remove-first [] i is = absurd (omega (arith, is.within))
-  remove-first (row ∷ rows) zero is = sym (cond-true (test row.0) rows (row ∷ remove_entry test rows) (is.passes row))
-  remove-first (row ∷ rows) (suc i) is =
-      ap (λ rs. row ∷ rs) (remove-first rows i (IsFirst-rest row rows i is))
-      ∙ sym (cond-false (test row.0) rows (row ∷ remove_entry test rows) (fails-before row rows i is))
 
   -- the value of the first
   pub lookup-first : (rows : List (K × V)) (i : ℕ) (d : K × V) → IsFirst test rows i → lookup test rows ≡ Some (slice_index_or rows i d).1
@@ -43,23 +35,10 @@ AllByRecursion-to : {K V : Type 0} (P Q : K → Type 0) → ((k : K) → P k →
 AllByRecursion-to P Q to [] all = all
 AllByRecursion-to P Q to (row ∷ rows) all = (to row.0 all.0, AllByRecursion-to P Q to rows all.1)
 
-AllByRecursion-remove : {K V : Type 0} (P : K → Type 0) (rows : List (K × V)) (i : ℕ) → AllByRecursion P (keys_of rows) → AllByRecursion P (keys_of (remove rows i))
-AllByRecursion-remove P [] zero all = all
-AllByRecursion-remove P [] (suc i) all = all
-AllByRecursion-remove P (row ∷ rows) zero all = all.1
-AllByRecursion-remove P (row ∷ rows) (suc i) all = (all.0, AllByRecursion-remove P rows i all.1)
-
 AllByRecursion-at : {K V : Type 0} (P : K → Type 0) (rows : List (K × V)) (i : ℕ) (d : K × V) → AllByRecursion P (keys_of rows) → i < length rows → P (slice_index_or rows i d).0
 AllByRecursion-at P [] i d all within = absurd (omega arith)
 AllByRecursion-at P (row ∷ rows) zero d all within = all.0
 AllByRecursion-at P (row ∷ rows) (suc i) d all within = AllByRecursion-at P rows i d all.1 (omega arith)
-
-pub IsDistinct-remove : {K V : Type 0} (eq : K → K → Bool) (rows : List (K × V)) (i : ℕ) → IsDistinct eq (keys_of rows) → IsDistinct eq (keys_of (remove rows i))
-unfolding IsDistinct
-IsDistinct-remove eq [] zero once = once
-IsDistinct-remove eq [] (suc i) once = once
-IsDistinct-remove eq (row ∷ rows) zero once = once.1
-IsDistinct-remove eq (row ∷ rows) (suc i) once = (AllByRecursion-remove (λ y. eq row.0 y ≡ false) rows i once.0, IsDistinct-remove eq rows i once.1)
 
 module _ {K V : Type 0} (eq : K → K → Bool) (laws : IsEquivalence eq) (key : K) (value : V) where
   AllByRecursion-set : (P : K → Type 0) (rows : List (K × V)) (i : ℕ) → AllByRecursion P (keys_of rows) → P key → AllByRecursion P (keys_of (slice_set rows i (key, value)))

@@ -50,17 +50,6 @@ pub(crate) fn put<K: Copy + Eq + Drop, V: Copy + Drop>(
     Ok(())
 }
 
-/// Takes a key out, if it is there.
-pub(crate) fn take_out<K: Copy + Eq + Drop, V: Copy + Drop>(rows: &mut Vec<(K, V)>, key: K)
-    requires { IsDistinct K.eq (keys_of rows.old.items) }
-    ensures rows { (k : K) → lookup (K.eq k) rows.new.items ≡ (if K.eq key k then None else lookup (K.eq k) rows.old.items) }
-    ensures once { IsDistinct K.eq (keys_of rows.new.items) }
-{
-    if let Some(place) = place_of(rows, key) {
-        let _ = rows.remove(place);
-    }
-}
-
 /// The same rows in a hashed map. `Err`: memory ran out.
 fn hashed<K: Copy + Eq + Hash + Drop, V: Copy + Drop>(
     alloc: Global,

@@ -3,7 +3,7 @@ ghost use Rattle.std.specs.List.{IsDistinct};
 ghost use Rattle.std.specs.Map.{keys_of, lookup};
 ghost use Rattle.ec_maps.specs.Rows.{AreRows, rows_of};
 
-use crate::search::{boxed_with, put, take_out, value_of};
+use crate::search::{boxed_with, put, value_of};
 use ec_terms::NoMemory;
 use indexmap::IndexMap;
 use std::alloc::Global;
@@ -134,18 +134,6 @@ impl<K: Copy + Eq + Hash + Drop, V: Copy + Drop> SmallMap<K, V> {
             }
         }
         Ok(())
-    }
-
-    /// Takes a key out, if it is there.
-    pub fn remove(&mut self, key: K)
-        ensures { (k : K) → lookup (K.eq k) self.new ≡ (if K.eq key k then None else lookup (K.eq k) self.old) }
-    {
-        match &mut self.body {
-            Body::Few(rows) => take_out(rows, key),
-            Body::Many(map) => {
-                let _ = map.swap_remove(&key);
-            }
-        }
     }
 
     /// Takes all rows out. The room of few rows is kept.

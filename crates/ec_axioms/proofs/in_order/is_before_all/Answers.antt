@@ -5,7 +5,7 @@ use Rattle.std.proofs.lemmas.List.{take_all}
 use Rattle.std.proofs.lemmas.List.Folds.{list_all-map, list_all_at}
 use Rattle.ec_axioms.specs.Changes.{comes_before}
 use Rattle.ec_axioms.specs.Events.{event_of}
-use Rattle.ec_layers.proofs.plain.is_before_all.Goals as goal
+use Rattle.ec_axioms.proofs.in_order.is_before_all.Goals as goal
 
 pub returns-then-not-is_before : goal.returns-then-not-is_before
 returns-then-not-is_before g c =

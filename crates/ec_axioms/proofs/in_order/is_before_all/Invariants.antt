@@ -3,7 +3,7 @@ use Rattle.std.proofs.Common.{◌≡◌, true, map, take}
 use Rattle.std.specs.List.{list_all}
 use Rattle.ec_axioms.specs.Changes.{comes_before}
 use Rattle.ec_axioms.specs.Events.{event_of}
-use Rattle.ec_layers.proofs.plain.is_before_all.Given as goal
+use Rattle.ec_axioms.proofs.in_order.is_before_all.Given as goal
 
 abbrev pub invariant-loop-other : goal.invariant-loop-other
 invariant-loop-other g l =

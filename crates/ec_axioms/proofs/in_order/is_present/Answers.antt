@@ -7,7 +7,7 @@ use Rattle.std.proofs.lemmas.List.Folds.{list_any_at}
 use Rattle.ec_axioms.specs.Changes.{has_id}
 use Rattle.ec_axioms.specs.Events.{event_of}
 use Rattle.ec_lists.proofs.Tests.{list_any-map}
-use Rattle.ec_histories.proofs.held.is_present.Goals as goal
+use Rattle.ec_axioms.proofs.in_order.is_present.Goals as goal
 
 pub returns-then-eq : goal.returns-then-eq
 unfolding has_id

@@ -1,6 +1,0 @@
--- The list gets shorter.
-use Rattle.std.proofs.Common.{length}
-use Rattle.ec_histories.proofs.held.+is_in_order.Given as goal
-
-abbrev pub decreases-is_in_order : goal.decreases-is_in_order
-decreases-is_in_order g l = length l.events.now
