@@ -5,7 +5,7 @@ use Rattle.std.proofs.lemmas.Bool.{cases_Bool, eqb-true, eqb-false}
 use Rattle.std.proofs.lemmas.Map.Entries.{place_from_lookup}
 use Rattle.std.proofs.lemmas.Option.{slice_get_within}
 use Rattle.ec_points.specs.SeenRows.{IsGrown}
-use Rattle.ec_points.specs.Table.{PointTable, marks_in, room_in, row_at}
+use Rattle.ec_points.specs.Table.{PointTable, marks_in, room_at, room_in, row_at}
 use Rattle.ec_intervals.specs.Table.{IntervalTable, front_members, room_in as span_room_in, row_at as span_row_at, span_interval, IsGrown as IsRowGrown}
 use Rattle.ec_delta.specs.declared.touches.Touched.{Touched}
 use Rattle.ec_delta.specs.Touched.{Row, touched_at}
@@ -80,6 +80,9 @@ AreMarksGrown-chain before mid after first then = record {
 -- what has room keeps it
 pub HasRoomIn-grown : {T : Type 0} (n more : ℕ) (before after : PointTable T) → AreMarksGrown before after → HasRoomIn n more before → HasRoomIn n more after
 HasRoomIn-grown n more before after grown has = record { row = grown.kept n has.row; room = omega (arith, grown.room n, has.room) }
+
+pub spare-grown : {T : Type 0} (n more : ℕ) (before after : PointTable T) → AreMarksGrown before after → more ≤ room_at n before → more ≤ room_at n after
+spare-grown n more before after grown has = omega (arith, grown.room n)
 
 -- ---- rows of intervals
 

@@ -15,7 +15,7 @@ use Rattle.ec_delta.specs.declared.delta.Planned.{Planned}
 use Rattle.ec_delta.specs.declared.touches.Touched.{Touched}
 use Rattle.ec_delta.specs.Ready.{AreWindows, HasRoomForIntervals, HasRoomForMarks}
 use Rattle.ec_delta.specs.Touched.{Row, matters_at, touched_at}
-use Rattle.ec_sweep.specs.Rooms.{AreMarksGrown, HasRoomIn, HaveRoomIn, HaveRoomToMove}
+use Rattle.ec_sweep.specs.Rooms.{AreMarksGrown, HasRoomIn, HaveRoomIn, HaveRoomToMove, HaveSpareIn}
 use Rattle.ec_sweep.proofs.OwnChanges.{growth_of-within, has_change-first}
 
 -- a property of which some change matters is touched
@@ -45,7 +45,7 @@ module _ {T : Type 0} (rank : T → ℤ) (before after : View T) (planned : Plan
 
   -- there is room for the marks that are new
   pub HasRoomForMarks-made : length planned.marks ≤ after.points.clash_room → AreMarksGrown before.initiations after.initiations
-      → HaveRoomIn (λ (t : Touched T). t.starts) planned.touched after.initiations → HasRoomForMarks rank after planned
+      → HaveSpareIn (λ (t : Touched T). t.starts) planned.touched after.initiations → HasRoomForMarks rank after planned
   HasRoomForMarks-made clash_room starts_grown starts_room = record {
     marks = λ n. subst (λ marks. growth_of rank n planned.marks marks ≤ room_at n after.points) (sym (all_marks n)) (marks_room n (touched_at n planned.touched) refl);
     clashes = fits (length-filter_le (λ (change : MarkChange T). is_clash change.1 && not (clashes_at rank change.0.0 (rank change.1.at) after.points)) planned.marks);
@@ -74,8 +74,7 @@ module _ {T : Type 0} (rank : T → ℤ) (before after : View T) (planned : Plan
           none_needed n (growth_of rank n planned.initiations (marks_at n before.initiations)) (room_at n after.initiations)
           (growth_of-within rank n planned.initiations (marks_at n before.initiations) (windows.started_only n none))
       starts n (Some touched) is =
-          let has = starts_room n touched is in
-          let enough = has.room in
+          let enough = starts_room n touched is in
           let grows = windows.started n touched is in
           omega arith
 

@@ -6,7 +6,7 @@ use Rattle.std.specs.List.{list_any}
 use Rattle.std.specs.Option.{option_or}
 use Rattle.std.proofs.lemmas.Bool.{and_parts, cond-true, cond-false, false≢true, false_from_ne_true}
 use Rattle.std.proofs.lemmas.List.Folds.{find-append}
-use Rattle.ec_sweep.proofs.OwnChanges.{option_or-none}
+use Rattle.ec_sweep.proofs.OwnChanges.{option_or-idle}
 use Rattle.ec_terms.specs.declared.ids.Slot.{Slot}
 use Rattle.ec_terms.specs.declared.theory.Theory.{Theory}
 use Rattle.ec_axioms.specs.Calculus.{Currency, Effect, PlainEvent, effects_of, is_active}
@@ -45,7 +45,7 @@ active_found-second slot first second kept none =
 pub active_found-first : {T : Type 0} (slot : Slot) (first second : List Flip) (kept : Option (EventEntries T)) → flip_at slot second ≡ None
     → active_found slot (first ++ second) kept ≡ active_found slot first kept
 active_found-first slot first second kept none =
-    ap (λ o. unwrap_or o (active_of kept)) (flip_at-append slot first second ∙ ap (option_or (flip_at slot first)) none ∙ option_or-none (flip_at slot first))
+    ap (λ o. unwrap_or o (active_of kept)) (flip_at-append slot first second ∙ option_or-idle (flip_at slot first) (flip_at slot second) none)
 
 -- ---- what is active now
 

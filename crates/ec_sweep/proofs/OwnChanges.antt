@@ -16,9 +16,9 @@ use Rattle.ec_rows.specs.declared.mark.Mark.{Mark}
 use Rattle.ec_sweep.specs.Settling.{own_changes, with_if}
 
 -- nothing in the second place adds nothing
-pub option_or-none : {X : Type 0} (o : Option X) → option_or o None ≡ o
-option_or-none None = refl
-option_or-none (Some x) = refl
+pub option_or-idle : {X : Type 0} (o other : Option X) → other ≡ None → option_or o other ≡ o
+option_or-idle None other none = none
+option_or-idle (Some x) other none = refl
 
 -- what stands behind all others passes a test, or it does not
 filter-push : {X : Type 0} (test : X → Bool) (xs : List X) (x : X) → filter test (xs ++ x ∷ []) ≡ (if test x then filter test xs ++ x ∷ [] else filter test xs)
@@ -86,7 +86,7 @@ module _ {T : Type 0} (rank : T → ℤ) (n : ℕ) (so : Bool) (change : MarkCha
       ∙ found so (own_changes n changes) ∙ sym (change_at-own rank n t changes)
     where
       found : (b : Bool) (cs : List (MarkChange T)) → find (λ (c : MarkChange T). int_eq (rank c.1.at) t) (with_if b change cs) ≡ find (λ (c : MarkChange T). int_eq (rank c.1.at) t) cs
-      found true cs = find-append (λ (c : MarkChange T). int_eq (rank c.1.at) t) cs (change ∷ []) ∙ rw apart (option_or-none (find (λ (c : MarkChange T). int_eq (rank c.1.at) t) cs))
+      found true cs = find-append (λ (c : MarkChange T). int_eq (rank c.1.at) t) cs (change ∷ []) ∙ rw apart (option_or-idle (find (λ (c : MarkChange T). int_eq (rank c.1.at) t) cs) None refl)
       found false cs = refl
 
   -- it has a change where it had one, and the one more

@@ -13,7 +13,7 @@ use Rattle.ec_revise.specs.declared.settled.Tallied.{Tallied}
 use Rattle.ec_revise.specs.TurnCounts.{row_at}
 use Rattle.ec_sweep.specs.Settling.{AddsDue, IsSettledBy, LeavesNumber, Noted, SettlesNumber, SettlesRows, Slots, currencies_at, old_mark, starts_of, touch_of, touched_if, with_if}
 use Rattle.ec_sweep.proofs.TallyPlaces.{AreRowsApart, row_at-before, row_at-more}
-use Rattle.ec_sweep.proofs.OwnChanges.{option_or-none}
+use Rattle.ec_sweep.proofs.OwnChanges.{option_or-idle}
 
 -- what is left alone twice is left alone
 LeavesNumber-then : {T : Type 0} (n : ℕ) (first before after : Noted T) → LeavesNumber n first before → LeavesNumber n before after → LeavesNumber n first after
@@ -100,7 +100,7 @@ module _ {T : Type 0} (rank : T → ℤ) (around : Neighbourhoods) (points : Poi
 
       -- and all other rows are those before
       elsewhere : (n : ℕ) → (p.0 == n) ≡ false → row_at n (take (i + 1) rows) ≡ row_at n (take i rows)
-      elsewhere n other = more n ∙ ap (option_or (row_at n (take i rows))) (cond-false (p.0 == n) (Some tallied) None other) ∙ option_or-none (row_at n (take i rows))
+      elsewhere n other = more n ∙ option_or-idle (row_at n (take i rows)) (if p.0 == n then Some tallied else None) (cond-false (p.0 == n) (Some tallied) None other)
 
       each : (q : PropId) (known : Tallied) → row_at q.0 (take (i + 1) rows) ≡ Some known → SettlesNumber rank around points slots at q known first after
       each q known stands =

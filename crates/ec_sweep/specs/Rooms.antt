@@ -21,6 +21,10 @@ pub record HasRoomIn {T : Type 0} (n more : ℕ) (points : PointTable T) : Type 
 abbrev pub HaveRoomIn : {T : Type 0} → (Touched T → ℕ) → List (Row T) → PointTable T → Type 0
 HaveRoomIn {T} count rows points = (n : ℕ) (touched : Touched T) → touched_at n rows ≡ Some touched → HasRoomIn n (count touched) points
 
+-- each touched property has room for as many marks as are counted of it
+abbrev pub HaveSpareIn : {T : Type 0} → (Touched T → ℕ) → List (Row T) → PointTable T → Type 0
+HaveSpareIn {T} count rows points = (n : ℕ) (touched : Touched T) → touched_at n rows ≡ Some touched → count touched ≤ room_at n points
+
 -- the intervals stay, rows stay there, and no room falls
 pub record AreIntervalsGrown {T : Type 0} (before after : IntervalTable T) : Type 0 where
   pub members : (n : ℕ) → members_at n after ≡ members_at n before

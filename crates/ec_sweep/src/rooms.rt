@@ -7,7 +7,7 @@ ghost use Rattle.ec_intervals.specs.Table.{members_at};
 ghost use Rattle.ec_parts.specs.StandFor.{view_of};
 ghost use Rattle.ec_delta.specs.Ready.{AreWindows, HasRoomForEvents, HasRoomForIntervals, HasRoomForMarks};
 ghost use Rattle.ec_sweep.specs.Planned.{DifferInRoom};
-ghost use Rattle.ec_sweep.specs.Rooms.{AreIntervalsGrown, AreMarksGrown, HasRoomToMove, HaveRoomIn, HaveRoomToMove};
+ghost use Rattle.ec_sweep.specs.Rooms.{AreIntervalsGrown, AreMarksGrown, HasRoomToMove, HaveRoomIn, HaveRoomToMove, HaveSpareIn};
 
 use ec_delta::{Planned, Touched, Touches};
 use ec_intervals::Intervals;
@@ -53,37 +53,54 @@ fn make_room_for_marks<T: Moment, M: MarkRow<T>>(
     Ok(())
 }
 
+/// Makes room for so many new initiations of a property. Most touched properties have none. `Err`: memory ran out.
+fn make_room_to_start<T: Moment, M: MarkRow<T>>(
+    initiations: &mut Points<T, M>,
+    p: PropId,
+    starts: usize,
+) -> Result<(), NoMemory>
+    ensures grown { AreMarksGrown initiations.old initiations.new }
+    ensures room { OnOk result (starts ≤ room_at p.0 initiations.new) }
+{
+    if starts == 0 {
+        return Ok(());
+    }
+    initiations.reserve(p, starts)
+}
+
 /// Makes room for the new initiations of each touched property. `Err`: memory ran out.
 fn make_room_for_initiations<T: Moment, M: MarkRow<T>>(
     initiations: &mut Points<T, M>,
     touched: &Touches<T>,
 ) -> Result<(), NoMemory>
     ensures grown { AreMarksGrown initiations.old initiations.new }
-    ensures room { OnOk result (HaveRoomIn (λ touched. touched.starts) touched.now initiations.new) }
+    ensures room { OnOk result (HaveSpareIn (λ touched. touched.starts) touched.now initiations.new) }
 {
     for i in 0..touched.len() {
         let (p, row) = touched.row(i);
-        initiations.reserve(p, row.starts)?;
+        make_room_to_start(initiations, p, row.starts)?;
     }
     Ok(())
 }
 
-/// Makes room for the intervals of a touched property, where they may move: it has so many marks. `Err`: memory ran out.
-fn make_room_to_move<T: Moment, I: SpanRow<T>>(
+/// Makes room for the intervals of a touched property, where they may move. `Err`: memory ran out.
+fn make_room_to_move<T: Moment, M: MarkRow<T>, I: SpanRow<T>>(
     intervals: &mut Intervals<T, I>,
+    points: &Points<T, M>,
     p: PropId,
-    marks: usize,
     touched: &Touched<T>,
 ) -> Result<(), NoMemory>
     ensures grown { AreIntervalsGrown intervals.old intervals.new }
-    ensures room { OnOk result (HasRoomToMove p.0 marks touched.now intervals.new) }
+    ensures room { OnOk result (HasRoomToMove p.0 (length (marks_at p.0 points.now)) touched.now intervals.new) }
 {
     if !touched.matters {
         return Ok(());
     }
     let spans = spans_for(touched.count)?;
-    let grown = marks.checked_add(touched.grows).ok_or(NoMemory)?;
-    intervals.prepare(p, spans, grown)
+    let marks = mark_count(points, p)
+        .checked_add(touched.grows)
+        .ok_or(NoMemory)?;
+    intervals.prepare(p, spans, marks)
 }
 
 /// Makes room for the intervals of each touched property that may move. `Err`: memory ran out.
@@ -97,7 +114,7 @@ fn make_room_for_intervals<T: Moment, M: MarkRow<T>, I: SpanRow<T>>(
 {
     for i in 0..touched.len() {
         let (p, row) = touched.row(i);
-        make_room_to_move(intervals, p, mark_count(points, p), &row)?;
+        make_room_to_move(intervals, points, p, &row)?;
     }
     Ok(())
 }

@@ -1,19 +1,17 @@
 -- Each row that is passed gets its room, and those that were passed keep theirs.
-use Rattle.std.proofs.Common.{arith}
-use Rattle.ec_sweep.specs.Rooms.{HasRoomIn}
-use Rattle.ec_sweep.proofs.GrownRooms.{AreMarksGrown-chain, AreMarksGrown-one, HasRoomIn-grown, each_up_to-all, each_up_to-more}
+use Rattle.std.proofs.Common.{◌≤◌, arith}
+use Rattle.ec_points.specs.Table.{room_at}
+use Rattle.ec_sweep.proofs.GrownRooms.{AreMarksGrown-chain, each_up_to-all, each_up_to-more, spare-grown}
 use Rattle.ec_sweep.proofs.rooms.make_room_for_initiations.Goals as goal
 
 pub loop-i-preserved : goal.loop-i-preserved
-loop-i-preserved g c =
-    let grown = AreMarksGrown-one c.row-row.result.0.0 c.loop-i.initiations c.reserve.new.self c.reserve.ensures.grown c.reserve.ensures.others c.reserve.ensures.initials in
-    record {
-      grown = AreMarksGrown-chain c.args.initiations.now c.loop-i.initiations c.reserve.new.self c.loop-i.invariant.grown grown;
-      room = each_up_to-more c.args.touched.now (λ n t. HasRoomIn n t.starts c.loop-i.initiations) (λ n t. HasRoomIn n t.starts c.reserve.new.self) c.loop-i.i c.row-row.result.0.0 c.row-row.result.1
-          (λ n t. HasRoomIn-grown n t.starts c.loop-i.initiations c.reserve.new.self grown) c.loop-i.invariant.room c.row-row.ensures
-          (record { row = c.in_ok-reserve.ensures.row; room = c.in_ok-reserve.ensures.room });
-    }
+loop-i-preserved g c = record {
+  grown = AreMarksGrown-chain c.args.initiations.now c.loop-i.initiations c.make_room_to_start.new.initiations c.loop-i.invariant.grown c.make_room_to_start.ensures.grown;
+  room = each_up_to-more c.args.touched.now (λ n t. t.starts ≤ room_at n c.loop-i.initiations) (λ n t. t.starts ≤ room_at n c.make_room_to_start.new.initiations) c.loop-i.i c.row-row.result.0.0 c.row-row.result.1
+      (λ n t. spare-grown n t.starts c.loop-i.initiations c.make_room_to_start.new.initiations c.make_room_to_start.ensures.grown) c.loop-i.invariant.room c.row-row.ensures
+      c.in_ok-make_room_to_start.ensures.room;
+}
 
 pub returns-clause-room : goal.returns-clause-room
 returns-clause-room g c n touched is =
-    each_up_to-all c.args.touched.now (λ m t. HasRoomIn m t.starts c.loop-i.initiations) n touched (λ k m t lt at. c.loop-i.invariant.room k m t (omega (arith, c.len-i-end.ensures.len)) at) is
+    each_up_to-all c.args.touched.now (λ m t. t.starts ≤ room_at m c.loop-i.initiations) n touched (λ k m t lt at. c.loop-i.invariant.room k m t (omega (arith, c.len-i-end.ensures.len)) at) is

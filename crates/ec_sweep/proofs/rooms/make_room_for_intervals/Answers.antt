@@ -1,5 +1,5 @@
 -- Each row that is passed gets its room, and those that were passed keep theirs.
-use Rattle.std.proofs.Common.{arith, length, subst}
+use Rattle.std.proofs.Common.{arith, length}
 use Rattle.ec_points.specs.Table.{marks_at}
 use Rattle.ec_sweep.specs.Rooms.{HasRoomToMove}
 use Rattle.ec_sweep.proofs.GrownRooms.{AreIntervalsGrown-chain, HasRoomToMove-grown, each_up_to-all, each_up_to-more}
@@ -12,7 +12,7 @@ loop-i-preserved g c = record {
       (λ n t. HasRoomToMove n (length (marks_at n c.args.points.now)) t c.make_room_to_move.new.intervals) c.loop-i.i c.row-row.result.0.0 c.row-row.result.1
       (λ n t. HasRoomToMove-grown n (length (marks_at n c.args.points.now)) t c.loop-i.intervals c.make_room_to_move.new.intervals c.make_room_to_move.ensures.grown)
       c.loop-i.invariant.room c.row-row.ensures
-      (subst (λ m. HasRoomToMove c.row-row.result.0.0 m c.row-row.result.1 c.make_room_to_move.new.intervals) c.mark_count.ensures c.in_ok-make_room_to_move.ensures.room);
+      c.in_ok-make_room_to_move.ensures.room;
 }
 
 pub returns-clause-room : goal.returns-clause-room
