@@ -1,4 +1,4 @@
-ghost use Rattle.std.specs.Prelude.{◌≡◌, ◌≤◌, [], ◌++◌, IfOk, OnOk, OnErr};
+ghost use Rattle.std.specs.Prelude.{◌≡◌, ◌+◌, ◌≤◌, [], ◌++◌, length, IfOk, OnOk, OnErr};
 ghost use Rattle.std.specs.Bool.{OnTrue, OnFalse};
 ghost use Rattle.ec_outside.specs.Counts.{Rose, last_count};
 ghost use Rattle.ec_outside.specs.BufferedState.{stands_with_waiting};
@@ -98,6 +98,8 @@ impl<K: Sink> Sink for Buffered<K> {
 
     ghost faults = { λ b. K.faults b.0 };
 
+    ghost waiting = { λ b. length b.1 + K.waiting b.0 };
+
     fn write(&mut self, from: &[u8]) -> Result<usize, Failed> {
         if self.keep(from) {
             return Ok(from.len());
@@ -111,6 +113,7 @@ impl<K: Sink> Sink for Buffered<K> {
 
     fn flush(&mut self) -> Result<(), Failed>
         // As for every sink.
+        ensures handed_on { OnOk result (length self.new.1 + K.waiting self.new.0 ≡ 0) }
         ensures kept { Kept (stands_with_waiting K.stands) self.old self.new }
         ensures failed { OnErr result (Rose (K.faults self.old.0) (K.faults self.new.0)) }
         ensures counted { K.faults self.old.0 ≤ K.faults self.new.0 }

@@ -75,6 +75,8 @@ impl Sink for MemSink {
 
     ghost faults = { λ s. s.faults };
 
+    ghost waiting = { λ _. 0 };
+
     fn write(&mut self, from: &[u8]) -> Result<usize, Failed>
         // As for every sink.
         ensures within { IfOk result (λ n. n ≤ length from.now) }

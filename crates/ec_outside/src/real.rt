@@ -82,6 +82,8 @@ impl<W: Write> Sink for RealSink<W> {
 
     ghost faults = { λ s. s };
 
+    ghost waiting = { λ _. 0 };
+
     fn write(&mut self, from: &[u8]) -> Result<usize, Failed> {
         match self.output.write(from) {
             Ok(count) if count > 0 || from.is_empty() => Ok(count),

@@ -12,6 +12,9 @@ pub trait Sink {
     // How many calls have failed so far.
     ghost faults: { Self → ℕ };
 
+    // How many of the bytes that were written it still holds back.
+    ghost waiting: { Self → ℕ };
+
     /// Takes the first bytes of `from`, and says how many; of a piece that is not empty it takes
     /// one at least.
     fn write(&mut self, from: &[u8]) -> Result<usize, Failed>
@@ -25,6 +28,7 @@ pub trait Sink {
 
     /// Hands on what the sink still holds back.
     fn flush(&mut self) -> Result<(), Failed>
+        ensures handed_on { OnOk result (waiting self.new ≡ 0) }
         ensures kept { Kept stands self.old self.new }
         ensures failed { OnErr result (Rose (faults self.old) (faults self.new)) }
         ensures counted { faults self.old ≤ faults self.new }

@@ -1,8 +1,11 @@
 -- Exit statuses and their numbers, and shapes.
-use Rattle.std.proofs.Common.{◌≡◌, ◌==◌, ◌⊎◌, ℕ, Option, Some, None, IsSome, refl, sym, ap, ◌∙◌, inl, inr, cond}
+use Rattle.std.proofs.Common.{◌≡◌, ◌==◌, ◌⊎◌, ℕ, true, Option, Some, None, IsSome, IsTrue, refl, sym, ap, subst, ◌∙◌, inl, inr, cond}
+use Rattle.std.proofs.lemmas.Bool.{false≢true}
+use Rattle.ec_server.specs.declared.ending.Ending.{Ending}
+use Rattle.ec_server.specs.declared.ending.Ending.TheVariants.{WriteFault}
 use Rattle.ec_server.specs.declared.status.Status.{Status}
 use Rattle.ec_server.specs.declared.status.Status.TheVariants as status
-use Rattle.ec_server.specs.ExitStatus.{code_of}
+use Rattle.ec_server.specs.ExitStatus.{code_of, hands_on, status_of}
 use Rattle.ec_server.specs.Words.{Shape}
 
 -- ---- statuses
@@ -39,6 +42,19 @@ status_same {code} {s} t one other = sym (of_code-code s) ∙ ap of_code (sym on
 pub either_code : {code : ℕ} {s : Status} (a b : Status) → code ≡ code_of s → (s ≡ a) ⊎ (s ≡ b) → (code ≡ code_of a) ⊎ (code ≡ code_of b)
 either_code a b is (inl one) = inl (is ∙ ap code_of one)
 either_code a b is (inr other) = inr (is ∙ ap code_of other)
+
+-- a run with one of these numbers has handed on what it wrote
+pub hands_on-code : {code : ℕ} (s : Status) → code ≡ code_of s → (code ≡ 0) ⊎ ((code ≡ 4) ⊎ (code ≡ 8)) → IsTrue (hands_on s)
+unfolding code_of hands_on
+hands_on-code s is (inl none) = subst (λ (t : Status). IsTrue (hands_on t)) (status_same {s = status.Done} s none is) refl
+hands_on-code s is (inr (inl four)) = subst (λ (t : Status). IsTrue (hands_on t)) (status_same {s = status.ReadFault} s four is) refl
+hands_on-code s is (inr (inr eight)) = subst (λ (t : Status). IsTrue (hands_on t)) (status_same {s = status.LimitReached} s eight is) refl
+
+-- where serving ended other than by a write that failed, nothing waits
+pub hands_on-ending : (ending : Ending) (waits : ℕ) → (ending ≡ WriteFault) ⊎ (waits ≡ 0) → IsTrue (hands_on (status_of ending)) → waits ≡ 0
+unfolding hands_on status_of
+hands_on-ending ending waits (inr none) on = none
+hands_on-ending ending waits (inl fault) on = absurd (false≢true (subst (λ (e : Ending). hands_on (status_of e) ≡ true) fault on))
 
 -- ---- shapes
 

@@ -1,5 +1,5 @@
 -- The exit status of the program.
-use Rattle.std.specs.Prelude.{◌≡◌, ℕ}
+use Rattle.std.specs.Prelude.{◌≡◌, ℕ, Bool, true, false}
 use Rattle.ec_server.specs.declared.status.Status.{Status}
 use Rattle.ec_server.specs.declared.status.Status.TheVariants as status
 use Rattle.ec_server.specs.declared.ending.Ending.{Ending}
@@ -24,6 +24,18 @@ status_of ending.Quit = status.Done
 status_of ending.Limit = status.LimitReached
 status_of ending.ReadFault = status.ReadFault
 status_of ending.WriteFault = status.WriteFault
+
+-- whether a run with a status has handed on all that it wrote: it answered all lines, or those that it could read
+unfoldable pub hands_on : Status → Bool
+hands_on status.Done = true
+hands_on status.NoShape = false
+hands_on status.BadTheory = false
+hands_on status.ReadFault = true
+hands_on status.WriteFault = false
+hands_on status.NoMemory = false
+hands_on status.FolderFault = false
+hands_on status.LimitReached = true
+hands_on status.LongLines = false
 
 -- the exit statuses of the program
 abbrev pub IsExitCode : ℕ → Type 0

@@ -1,6 +1,7 @@
 //! What the shapes of the words that name a theory do, and what is said where there is none.
-ghost use Rattle.std.specs.Prelude.{◌≡◌};
+ghost use Rattle.std.specs.Prelude.{◌≡◌, IsTrue, false};
 ghost use Rattle.ec_server.specs.CommandEnds.{HasChecked, HasReplayed, HasServed, SaysAccepted, Wrote};
+ghost use Rattle.ec_server.specs.ExitStatus.{hands_on};
 ghost use Rattle.ec_server.specs.Loading.{IsRefusal, IsShortReason};
 ghost use Rattle.ec_server.specs.Words.{usage_line};
 
@@ -25,9 +26,11 @@ pub(crate) fn refuse_words<K: Sink>(output: &mut K) -> Status
 }
 
 /// Says why there is no theory, where something is to be said. If that fails, nothing more is said.
+#[tactic(auto, unfolding(crate::specs::ExitStatus::hands_on))]
 fn refuse<K: Sink>(reason: NoTheory, output: &mut K) -> Status
     requires { IsShortReason reason }
-    ensures { IsRefusal K.stands K.faults reason result output.old output.new }
+    ensures refusal { IsRefusal K.stands K.faults reason result output.old output.new }
+    ensures handed_on { hands_on result ≡ false }
 {
     match reason {
         NoTheory::FolderFault => Status::FolderFault,
@@ -40,8 +43,10 @@ fn refuse<K: Sink>(reason: NoTheory, output: &mut K) -> Status
 }
 
 /// Says that a theory is accepted, and hands that on.
+#[tactic(auto, unfolding(crate::specs::ExitStatus::hands_on))]
 fn tell_accepted<K: Sink>(theory: &Theory, output: &mut K) -> Status
-    ensures { SaysAccepted K.stands K.faults output.old output.new theory.now result }
+    ensures accepted { SaysAccepted K.stands K.faults output.old output.new theory.now result }
+    ensures handed_on { IsTrue (hands_on result) → K.waiting output.new ≡ 0 }
 {
     if write_all(output, accepted_line(theory).as_bytes()).is_err() || output.flush().is_err() {
         Status::WriteFault
@@ -61,7 +66,8 @@ pub fn check_command<F: Folder, K: Sink>(
     files: &mut F,
     output: &mut K,
 ) -> Status
-    ensures { HasChecked K.stands K.faults (F.files files.old) theory.now (F.faults files.old) (F.faults files.new) output.old output.new result }
+    ensures checked { HasChecked K.stands K.faults (F.files files.old) theory.now (F.faults files.old) (F.faults files.new) output.old output.new result }
+    ensures handed_on { IsTrue (hands_on result) → K.waiting output.new ≡ 0 }
 {
     match load(alloc, theory, files) {
         Ok(checked) => tell_accepted(checked.theory(), output),
@@ -80,8 +86,9 @@ pub fn serve_command<F: Folder, S: Source, K: Sink>(
     input: &mut S,
     output: &mut K,
 ) -> Status
-    ensures { HasServed S.left S.faults K.stands K.faults (F.files files.old) theory.now (F.faults files.old) (F.faults files.new)
+    ensures served { HasServed S.left S.faults K.stands K.faults (F.files files.old) theory.now (F.faults files.old) (F.faults files.new)
         input.old input.new output.old output.new result }
+    ensures handed_on { IsTrue (hands_on result) → K.waiting output.new ≡ 0 }
 {
     match load(alloc, theory, files) {
         Ok(checked) => serve(alloc, checked, input, output, MOST_INPUT),
@@ -102,7 +109,8 @@ pub fn replay<F: Folder, K: Sink>(
     files: &mut F,
     output: &mut K,
 ) -> Status
-    ensures { HasReplayed K.stands K.faults (F.files files.old) theory.now lines.now (F.faults files.old) (F.faults files.new) output.old output.new result }
+    ensures replayed { HasReplayed K.stands K.faults (F.files files.old) theory.now lines.now (F.faults files.old) (F.faults files.new) output.old output.new result }
+    ensures handed_on { IsTrue (hands_on result) → K.waiting output.new ≡ 0 }
 {
     match load(alloc, theory, files) {
         Ok(checked) => replay_with(alloc, checked, lines, files, output),

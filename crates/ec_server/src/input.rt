@@ -76,6 +76,7 @@ fn finish<T: Moment, M: MarkRow<T>, I: SpanRow<T>, X: TimeRow<T>, K: Sink, L: Le
         ⊎ ((result ≡ Ending.WriteFault) × AnswersPart K.stands language (lines_of taken) start out.new) }
     ensures either { (result ≡ Ending.End) ⊎ (result ≡ Ending.WriteFault) }
     ensures failed { result ≡ Ending.WriteFault → Rose (K.faults out.old) (K.faults out.new) }
+    ensures handed_on { (result ≡ Ending.WriteFault) ⊎ (K.waiting out.new ≡ 0) }
 {
     match answer_rest(sessions, feed, out, steps) {
         Handled::WriteFault => Ending::WriteFault,
@@ -88,6 +89,7 @@ fn hand_on<K: Sink>(out: &mut K, ending: Ending) -> Ending
     ensures kept { Kept K.stands out.old out.new }
     ensures either { (result ≡ ending) ⊎ ((result ≡ Ending.WriteFault) × Rose (K.faults out.old) (K.faults out.new)) }
     ensures counted { K.faults out.old ≤ K.faults out.new }
+    ensures handed_on { (result ≡ Ending.WriteFault) ⊎ (K.waiting out.new ≡ 0) }
 {
     match out.flush() {
         Ok(()) => ending,
@@ -120,6 +122,7 @@ pub(crate) fn serve_input<
         × IsEnding K.stands (record { theory = sessions.old.theory; spelt = T.spelt; canon = T.canon }) result limit (S.left input.new) taken output.old output.new }
     ensures read_fault { result ≡ Ending.ReadFault → Rose (S.faults input.old) (S.faults input.new) }
     ensures write_fault { result ≡ Ending.WriteFault → Rose (K.faults output.old) (K.faults output.new) }
+    ensures handed_on { (result ≡ Ending.WriteFault) ⊎ (K.waiting output.new ≡ 0) }
 {
     let mut buffer = [0; PIECE];
     let mut left = limit;

@@ -1,7 +1,8 @@
 //! Serving the lines of a file.
-ghost use Rattle.std.specs.Prelude.{◌≡◌, ◌≤◌, length};
+ghost use Rattle.std.specs.Prelude.{◌≡◌, ◌≤◌, IsTrue, length};
 ghost use Rattle.ec_server.specs.Answered.{in_ticks};
 ghost use Rattle.ec_server.specs.CommandEnds.{SaysBytes, SaysReplayed};
+ghost use Rattle.ec_server.specs.ExitStatus.{hands_on};
 
 use crate::file_source::FileSource;
 use crate::served::{MOST_INPUT, serve};
@@ -16,13 +17,15 @@ pub const MOST_REPLAYED: usize = 67_108_864;
 /// Serves the lines of bytes with a theory.
 fn serve_bytes<K: Sink>(alloc: Global, checked: Checked, bytes: Vec<u8>, output: &mut K) -> Status
     requires { length bytes.items ≤ MOST_REPLAYED }
-    ensures { SaysBytes K.stands K.faults (in_ticks checked) output.old output.new bytes.items result }
+    ensures says { SaysBytes K.stands K.faults (in_ticks checked) output.old output.new bytes.items result }
+    ensures handed_on { IsTrue (hands_on result) → K.waiting output.new ≡ 0 }
 {
     let mut source = FileSource::new(bytes);
     serve(alloc, checked, &mut source, output, MOST_INPUT)
 }
 
 /// Serves the lines of a file with a theory.
+#[tactic(auto, unfolding(crate::specs::ExitStatus::hands_on))]
 pub(crate) fn replay_with<F: Folder, K: Sink>(
     alloc: Global,
     checked: Checked,
@@ -30,7 +33,8 @@ pub(crate) fn replay_with<F: Folder, K: Sink>(
     files: &mut F,
     output: &mut K,
 ) -> Status
-    ensures { SaysReplayed K.stands K.faults (F.files files.old) lines.now (F.faults files.old) (F.faults files.new) output.old output.new checked result }
+    ensures says { SaysReplayed K.stands K.faults (F.files files.old) lines.now (F.faults files.old) (F.faults files.new) output.old output.new checked result }
+    ensures handed_on { IsTrue (hands_on result) → K.waiting output.new ≡ 0 }
 {
     let mut bytes = Vec::new(alloc);
     match files.read_whole(lines, &mut bytes, MOST_REPLAYED) {

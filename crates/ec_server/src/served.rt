@@ -1,7 +1,8 @@
 //! Serving an input with a theory.
-ghost use Rattle.std.specs.Prelude.{◌≡◌, ◌<◌};
+ghost use Rattle.std.specs.Prelude.{◌≡◌, ◌<◌, IsTrue};
 ghost use Rattle.ec_server.specs.Answered.{in_ticks};
 ghost use Rattle.ec_server.specs.Ending.{SaysServed};
+ghost use Rattle.ec_server.specs.ExitStatus.{hands_on};
 
 use crate::input::serve_input;
 use crate::status::Status;
@@ -20,6 +21,7 @@ use std::sync::ledger::{Blank, Ledger};
 pub const MOST_INPUT: u64 = 1_099_511_627_776;
 
 /// Serves the lines of an input, with steps that are counted on the ledger of the blank.
+#[tactic(auto, unfolding(crate::specs::ExitStatus::hands_on))]
 fn serve_counted<S: Source, K: Sink, L: Ledger>(
     alloc: Global,
     checked: Checked,
@@ -31,7 +33,8 @@ fn serve_counted<S: Source, K: Sink, L: Ledger>(
     requires name { blank.name ≡ L.name }
     requires parts { blank.parts ≡ L.parts }
     requires some { 0 < L.parts }
-    ensures { SaysServed S.left S.faults K.stands K.faults (in_ticks checked) limit input.old input.new output.old output.new result }
+    ensures served { SaysServed S.left S.faults K.stands K.faults (in_ticks checked) limit input.old input.new output.old output.new result }
+    ensures handed_on { IsTrue (hands_on result) → K.waiting output.new ≡ 0 }
 {
     let mut steps = Steps::<L>::new(blank);
     let Ok(mut feed) = Feed::new(alloc) else {
@@ -58,7 +61,8 @@ pub fn serve<S: Source, K: Sink>(
     output: &mut K,
     limit: u64,
 ) -> Status
-    ensures { SaysServed S.left S.faults K.stands K.faults (in_ticks checked) limit input.old input.new output.old output.new result }
+    ensures served { SaysServed S.left S.faults K.stands K.faults (in_ticks checked) limit input.old input.new output.old output.new result }
+    ensures handed_on { IsTrue (hands_on result) → K.waiting output.new ≡ 0 }
 {
     serve_counted::<S, K, Brand>(alloc, checked, input, output, limit, Blank::new(1))
 }

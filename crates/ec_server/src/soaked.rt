@@ -1,8 +1,9 @@
 //! Serving generated lines.
-ghost use Rattle.std.specs.Prelude.{◌≡◌, ◌≤◌, ◌⊎◌, IfOk, length};
+ghost use Rattle.std.specs.Prelude.{◌≡◌, ◌<◌, ◌≤◌, ◌⊎◌, IfOk, IsTrue, OnErr, length};
 ghost use Rattle.ec_outside.specs.Counts.{Rose};
 ghost use Rattle.ec_outside.specs.Streams.{Kept};
 ghost use Rattle.ec_server.specs.CommandEnds.{SaysSoaked};
+ghost use Rattle.ec_server.specs.ExitStatus.{hands_on};
 ghost use Rattle.ec_server.specs.Soaking.{IsSoaked, soak_text};
 
 use crate::served::serve;
@@ -50,6 +51,7 @@ fn soak(alloc: Global, lines: u32, seed: u64) -> Result<Counts, NoMemory>
 fn without_refusals(counts: Counts) -> Result<Counts, NoMemory>
     ensures same { IfOk result (λ all. all ≡ counts) }
     ensures none { IfOk result (λ all. all.memory ≡ 0) }
+    ensures some { OnErr result (0 < counts.memory) }
 {
     if counts.memory == 0 {
         Ok(counts)
@@ -59,9 +61,11 @@ fn without_refusals(counts: Counts) -> Result<Counts, NoMemory>
 }
 
 /// Hands on the one line of a run.
+#[tactic(auto, unfolding(crate::specs::ExitStatus::hands_on))]
 fn hand_on_line<K: Sink>(output: &mut K) -> Status
     ensures kept { Kept K.stands output.old output.new }
     ensures either { (result ≡ Status.Done) ⊎ ((result ≡ Status.WriteFault) × Rose (K.faults output.old) (K.faults output.new)) }
+    ensures handed_on { IsTrue (hands_on result) → K.waiting output.new ≡ 0 }
 {
     match output.flush() {
         Ok(()) => Status::Done,
@@ -70,9 +74,11 @@ fn hand_on_line<K: Sink>(output: &mut K) -> Status
 }
 
 /// Writes the line that sums up a run, and hands it on.
+#[tactic(auto, unfolding(crate::specs::ExitStatus::hands_on))]
 fn tell_summary<K: Sink>(lines: u32, seed: u64, counts: &Counts, output: &mut K) -> Status
     requires { IsSoaked lines seed counts.now }
-    ensures { SaysSoaked K.stands K.faults output.old output.new lines seed result }
+    ensures says { SaysSoaked K.stands K.faults output.old output.new lines seed result }
+    ensures handed_on { IsTrue (hands_on result) → K.waiting output.new ≡ 0 }
 {
     match write_summary(lines, counts, output) {
         Ok(()) => hand_on_line(output),
@@ -84,8 +90,10 @@ fn tell_summary<K: Sink>(lines: u32, seed: u64, counts: &Counts, output: &mut K)
 ///
 /// The status is `Done` if the line was written, `WriteFault` if the output failed, and `NoMemory` if memory ran out, be it for one
 /// line; then nothing was written.
+#[tactic(auto, unfolding(crate::specs::ExitStatus::hands_on))]
 pub fn soak_command<K: Sink>(alloc: Global, lines: u32, seed: u64, output: &mut K) -> Status
-    ensures { SaysSoaked K.stands K.faults output.old output.new lines seed result }
+    ensures says { SaysSoaked K.stands K.faults output.old output.new lines seed result }
+    ensures handed_on { IsTrue (hands_on result) → K.waiting output.new ≡ 0 }
 {
     match soak(alloc, lines, seed) {
         Ok(counts) => tell_summary(lines, seed, &counts, output),

@@ -1,5 +1,5 @@
 //! The top call: what the words ask for, done whole.
-ghost use Rattle.std.specs.Prelude.{◌≡◌, ◌≤◌, ◌⊎◌, ◌↔◌, ℕ, true, false, List, Some, None, IsSome, length, drop};
+ghost use Rattle.std.specs.Prelude.{◌≡◌, ◌≤◌, ◌⊎◌, ◌↔◌, ℕ, true, false, List, Some, None, IsSome, IsTrue, length, drop};
 ghost use Rattle.ec_terms.specs.declared.theory.Theory.{Theory};
 ghost use Rattle.ec_axioms.specs.Lines.{lines_of, whole_lines};
 ghost use Rattle.ec_outside.specs.Counts.{Rose};
@@ -11,7 +11,7 @@ ghost use Rattle.ec_server.specs.ByShape.{HasLongTheory, IsReady, IsRefused, Lac
 ghost use Rattle.ec_server.specs.CommandEnds.{Wrote};
 ghost use Rattle.ec_server.specs.Ending.{GoesOn};
 ghost use Rattle.ec_server.specs.Ends.{Ends};
-ghost use Rattle.ec_server.specs.ExitStatus.{IsExitCode};
+ghost use Rattle.ec_server.specs.ExitStatus.{IsExitCode, hands_on};
 ghost use Rattle.ec_server.specs.InputLimits.{most_input, IsLong, StopsAtLimit};
 ghost use Rattle.ec_server.specs.LineFiles.{most_replayed};
 ghost use Rattle.ec_server.specs.ShownShape.{asked};
@@ -28,6 +28,7 @@ use std::alloc::Global;
 use std::string::String;
 
 /// Does what the words ask for.
+#[tactic(auto, unfolding(crate::specs::ExitStatus::hands_on))]
 fn obey<F: Folder, S: Source, K: Sink>(
     alloc: Global,
     words: &[String],
@@ -38,6 +39,8 @@ fn obey<F: Folder, S: Source, K: Sink>(
     ensures ends { Ends S.left S.faults K.stands K.faults (F.files files.old) (F.faults files.old) (F.faults files.new)
         input.old input.new output.old output.new (asked words.now) result }
     ensures folder { (lines seed : ℕ) → asked words.now ≡ Some (soak_lines lines seed) → files.new ≡ files.old }
+    ensures no_words { asked words.now ≡ None → files.new ≡ files.old }
+    ensures handed_on { IsTrue (hands_on result) → K.waiting output.new ≡ 0 }
 {
     match shape_of(words) {
         Some(Shape::Check(theory)) => check_command(alloc, theory, files, output),
@@ -70,6 +73,9 @@ pub fn run<F: Folder, S: Source, K: Sink>(
         (theory : Theory) × (text : List ℕ) × Serves (F.files files.old) (S.left input.old) shape theory text
         × AnswersLines K.stands (in_ticks theory) (lines_of text) output.old output.new }
 
+    // With 0, and where the input failed or its limit was reached, the output holds nothing back: all that was written is handed on.
+    ensures handed_on { (result ≡ 0) ⊎ ((result ≡ 4) ⊎ (result ≡ 8)) → K.waiting output.new ≡ 0 }
+
     // It comes to 0, or memory runs out, if nothing fails, the theory is accepted, and the input or the file of lines is not too long.
     // This is so for each shape.
     ensures completes { (shape : PlainShape) → asked words.now ≡ Some shape → IsReady (F.files files.old) (S.left input.old) shape →
@@ -90,6 +96,7 @@ pub fn run<F: Folder, S: Source, K: Sink>(
     // Words that are none of the forms.
     ensures no_shape { (result ≡ 2) ↔ (asked words.now ≡ None) }
     ensures usage { result ≡ 2 → Wrote K.stands K.faults output.old output.new usage_line }
+    ensures no_file { result ≡ 2 → files.new ≡ files.old }
 
     // A theory that is not accepted. A file is found too long only if no call on the folder failed.
     ensures refused { result ≡ 3 → (shape : PlainShape) → asked words.now ≡ Some shape → IsSome (F.files files.old) →

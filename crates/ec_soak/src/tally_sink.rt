@@ -74,6 +74,8 @@ impl Sink for TallySink {
 
     ghost faults = { λ _. 0 };
 
+    ghost waiting = { λ _. 0 };
+
     fn write(&mut self, from: &[u8]) -> Result<usize, Failed> {
         for byte in from {
             self.take(*byte);

@@ -1,5 +1,6 @@
 //! Laws of the grammar and of the walk, each the contract of a function.
 ghost use Rattle.std.specs.Prelude.{◌≡◌, ◌↔◌, List, Some, None, map};
+ghost use Rattle.ec_check.specs.Numbering.{IsNumbered};
 ghost use Rattle.ec_terms.specs.declared.theory.Theory.{Theory};
 ghost use Rattle.ec_tokens.specs.declared.place.Place.{Place};
 ghost use Rattle.ec_tokens.specs.Lexeme.{Lexeme, Lexemes};
@@ -11,6 +12,12 @@ ghost use Rattle.ec_theory.specs.Reading.{Reads, IsReadable, GoesWrongAt};
 #[tactic(auto, using(crate::proofs::OneReading::reading_same))]
 pub fn one_reading_law()
     ensures { (tokens : Lexemes) (a b : Theory) → Reads tokens a → Reads tokens b → a ≡ b }
+{}
+
+/// What a list of tokens reads as is numbered, so that a text that has a reading is accepted exactly when its theory has no fault.
+#[tactic(auto, using(crate::proofs::NumberedReadings::reads_numbered))]
+pub fn numbered_reading_law()
+    ensures { (tokens : Lexemes) (theory : Theory) → Reads tokens theory → IsNumbered theory }
 {}
 
 /// The walk over a list of tokens ends at a clause's beginning, and so stops nowhere, exactly when the

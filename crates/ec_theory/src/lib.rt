@@ -13,6 +13,6 @@ mod text;
 mod variables;
 
 pub use fault::SyntaxFault;
-pub use laws::{one_reading_law, reading_law, stop_law, way_back_law};
+pub use laws::{numbered_reading_law, one_reading_law, reading_law, stop_law, way_back_law};
 pub use reader::read_theory;
 pub use text::{Refused, accept};

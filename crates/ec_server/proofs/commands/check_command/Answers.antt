@@ -5,20 +5,20 @@ use Rattle.ec_server.specs.CommandEnds.{SaysAccepted}
 use Rattle.ec_server.proofs.TheoryTexts.{SaysRefused-of}
 use Rattle.ec_server.proofs.commands.check_command.Goals as goal
 
-pub returns-in-Ok : goal.returns-in-Ok
-returns-in-Ok g c = record {
+pub returns-in-Ok-clause-checked : goal.returns-in-Ok-clause-checked
+returns-in-Ok-clause-checked g c = record {
   says = inl (
     c.in-Ok.checked,
     c.in-Ok.ensures.theory,
-    subst (λ (theory : Theory). SaysAccepted g.K.Sink.stands g.K.Sink.faults c.args.output.now c.tell_accepted.new.output theory c.tell_accepted.result) c.theory.ensures.theory c.tell_accepted.ensures,
+    subst (λ (theory : Theory). SaysAccepted g.K.Sink.stands g.K.Sink.faults c.args.output.now c.tell_accepted.new.output theory c.tell_accepted.result) c.theory.ensures.theory c.tell_accepted.ensures.accepted,
   );
 }
 
-pub returns-in-Err : goal.returns-in-Err
-returns-in-Err g c = record {
+pub returns-in-Err-clause-checked : goal.returns-in-Err-clause-checked
+returns-in-Err-clause-checked g c = record {
   says = inr (
     SaysRefused-of g.K.Sink.stands g.K.Sink.faults (g.F.Folder.files c.args.files.now) c.args.theory.now (g.F.Folder.faults c.args.files.now) _ c.args.output.now c.refuse.new.output
-        c.in-Err.reason c.refuse.result c.in-Err.ensures.reason c.refuse.ensures,
+        c.in-Err.reason c.refuse.result c.in-Err.ensures.reason c.refuse.ensures.refusal,
     tt,
   );
 }

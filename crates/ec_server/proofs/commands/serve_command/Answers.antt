@@ -3,14 +3,14 @@ use Rattle.std.proofs.Common.{inl, inr, refl}
 use Rattle.ec_server.proofs.TheoryTexts.{SaysRefused-of}
 use Rattle.ec_server.proofs.commands.serve_command.Goals as goal
 
-pub returns-in-Ok : goal.returns-in-Ok
-returns-in-Ok g c = record { says = inl (c.in-Ok.checked, c.in-Ok.ensures.theory, c.serve.ensures) }
+pub returns-in-Ok-clause-served : goal.returns-in-Ok-clause-served
+returns-in-Ok-clause-served g c = record { says = inl (c.in-Ok.checked, c.in-Ok.ensures.theory, c.serve.ensures.served) }
 
-pub returns-in-Err : goal.returns-in-Err
-returns-in-Err g c = record {
+pub returns-in-Err-clause-served : goal.returns-in-Err-clause-served
+returns-in-Err-clause-served g c = record {
   says = inr (
     SaysRefused-of g.K.Sink.stands g.K.Sink.faults (g.F.Folder.files c.args.files.now) c.args.theory.now (g.F.Folder.faults c.args.files.now) _ c.args.output.now c.refuse.new.output
-        c.in-Err.reason c.refuse.result c.in-Err.ensures.reason c.refuse.ensures,
+        c.in-Err.reason c.refuse.result c.in-Err.ensures.reason c.refuse.ensures.refusal,
     refl,
   );
 }

@@ -9,4 +9,5 @@ returns-in_default g c = record {
       c.answer_rest.new.out c.hand_on.new.out (c.answer_rest.ensures.answered taken start at) c.in_default.not-WriteFault c.hand_on.ensures.kept c.hand_on.ensures.either;
   either = ending_either c.hand_on.result c.hand_on.ensures.either;
   failed = ending_fault c.hand_on.result c.answer_rest.ensures.counted c.hand_on.ensures.either;
+  handed_on = c.hand_on.ensures.handed_on;
 }

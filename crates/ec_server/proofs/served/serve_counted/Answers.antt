@@ -1,14 +1,19 @@
 -- What the ending of the serving says is what the status says.
-use Rattle.std.proofs.Common.{sym, subst}
+use Rattle.std.proofs.Common.{IsTrue, sym, subst}
 use Rattle.ec_terms.specs.declared.theory.Theory.{Theory}
 use Rattle.ec_server.specs.declared.status.Status.{Status}
 use Rattle.ec_server.specs.Ending.{IsEnding, SaysServed}
 use Rattle.ec_server.specs.Answered.{in_ticks}
+use Rattle.ec_server.specs.ExitStatus.{hands_on}
 use Rattle.ec_server.proofs.Endings.{SaysServed-of}
+use Rattle.ec_server.proofs.StatusCodes.{hands_on-ending}
 use Rattle.ec_server.proofs.served.serve_counted.Goals as goal
 
-pub returns : goal.returns
-returns g c =
+pub returns-clause-handed_on : goal.returns-clause-handed_on
+returns-clause-handed_on g c = λ on. hands_on-ending c.serve_input.result (g.K.Sink.waiting c.serve_input.new.output) c.serve_input.ensures.handed_on (subst (λ (s : Status). IsTrue (hands_on s)) c.status.ensures on)
+
+pub returns-clause-served : goal.returns-clause-served
+returns-clause-served g c =
     let ending = c.serve_input.ensures.ending in
     subst (λ (s : Status). SaysServed g.S.Source.left g.S.Source.faults g.K.Sink.stands g.K.Sink.faults (in_ticks c.args.checked) c.args.limit c.args.input.now c.serve_input.new.input c.args.output.now c.serve_input.new.output s) (sym c.status.ensures)
     (SaysServed-of g.S.Source.left g.S.Source.faults g.K.Sink.stands g.K.Sink.faults (in_ticks c.args.checked) c.args.limit c.args.input.now c.serve_input.new.input c.args.output.now c.serve_input.new.output c.serve_input.result (record {

@@ -5,11 +5,11 @@ use Rattle.ec_server.specs.Soaking.{IsSoakLine}
 use Rattle.ec_server.proofs.CommandEnds.{line_handed_on}
 use Rattle.ec_server.proofs.soaked.tell_summary.Goals as goal
 
-pub returns-in-Ok : goal.returns-in-Ok
-returns-in-Ok g c =
+pub returns-in-Ok-clause-says : goal.returns-in-Ok-clause-says
+returns-in-Ok-clause-says g c =
     line_handed_on g.K.Sink.stands g.K.Sink.faults c.args.output.now c.hand_on_line.new.output (IsSoakLine c.args.lines c.args.seed) c.write_summary.new.out
     (summary_line c.args.lines c.args.counts.now) c.hand_on_line.result (c.args.counts.now, c.requires, refl) c.in-Ok.ensures.written c.hand_on_line.ensures.kept
     c.write_summary.ensures.counted c.hand_on_line.ensures.either
 
-pub returns-in-Err : goal.returns-in-Err
-returns-in-Err g c = (c.in-Err.ensures.failed, (summary_line c.args.lines c.args.counts.now, (c.args.counts.now, c.requires, refl), c.in-Err.ensures.part))
+pub returns-in-Err-clause-says : goal.returns-in-Err-clause-says
+returns-in-Err-clause-says g c = (c.in-Err.ensures.failed, (summary_line c.args.lines c.args.counts.now, (c.args.counts.now, c.requires, refl), c.in-Err.ensures.part))

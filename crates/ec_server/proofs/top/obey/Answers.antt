@@ -6,19 +6,19 @@ use Rattle.ec_server.proofs.top.obey.Goals as goal
 
 pub returns-in-Some-Check-clause-ends : goal.returns-in-Some-Check-clause-ends
 returns-in-Some-Check-clause-ends g c =
-    Ends-asked (sym c.in-Some-Check.ensures ∙ ap (λ (s : _). Some (plain_shape s)) c.in-Some-Check.field-0-is) (record { says = (c.check_command.ensures, refl) })
+    Ends-asked (sym c.in-Some-Check.ensures ∙ ap (λ (s : _). Some (plain_shape s)) c.in-Some-Check.field-0-is) (record { says = (c.check_command.ensures.checked, refl) })
 
 pub returns-in-Some-Serve-clause-ends : goal.returns-in-Some-Serve-clause-ends
 returns-in-Some-Serve-clause-ends g c =
-    Ends-asked (sym c.in-Some-Serve.ensures ∙ ap (λ (s : _). Some (plain_shape s)) c.in-Some-Serve.field-0-is) (record { says = c.serve_command.ensures })
+    Ends-asked (sym c.in-Some-Serve.ensures ∙ ap (λ (s : _). Some (plain_shape s)) c.in-Some-Serve.field-0-is) (record { says = c.serve_command.ensures.served })
 
 pub returns-in-Some-Replay-clause-ends : goal.returns-in-Some-Replay-clause-ends
 returns-in-Some-Replay-clause-ends g c =
-    Ends-asked (sym c.in-Some-Replay.ensures ∙ ap (λ (s : _). Some (plain_shape s)) c.in-Some-Replay.field-0-is) (record { says = (c.replay.ensures, refl) })
+    Ends-asked (sym c.in-Some-Replay.ensures ∙ ap (λ (s : _). Some (plain_shape s)) c.in-Some-Replay.field-0-is) (record { says = (c.replay.ensures.replayed, refl) })
 
 pub returns-in-Some-Soak-clause-ends : goal.returns-in-Some-Soak-clause-ends
 returns-in-Some-Soak-clause-ends g c =
-    Ends-asked (sym c.in-Some-Soak.ensures ∙ ap (λ (s : _). Some (plain_shape s)) c.in-Some-Soak.field-0-is) (record { says = (c.soak_command.ensures, refl) })
+    Ends-asked (sym c.in-Some-Soak.ensures ∙ ap (λ (s : _). Some (plain_shape s)) c.in-Some-Soak.field-0-is) (record { says = (c.soak_command.ensures.says, refl) })
 
 pub returns-in-None-clause-ends : goal.returns-in-None-clause-ends
 returns-in-None-clause-ends g c = Ends-asked (sym c.in-None.ensures) (record { says = (c.refuse_words.ensures.status, c.refuse_words.ensures.usage, refl) })

@@ -1,5 +1,6 @@
 -- What the status says is what the exit status says.
 use Rattle.ec_server.proofs.RunEnds.{accepted, completes, ended, finds_long, folder_fault, limit, long_lines, long_theory, no_shape, part, read_fault, refused, refuses, replies, rest, serves_alone, soaks, stops, unasked, unread, untouched, usage, whole, within, write_fault}
+use Rattle.ec_server.proofs.StatusCodes.{hands_on-code}
 use Rattle.ec_server.proofs.top.run.Goals as goal
 
 pub returns-clause-replies : goal.returns-clause-replies
@@ -76,3 +77,9 @@ returns-clause-unread g c = unread (record { ended = c.obey.result; is = c.code.
 
 pub returns-clause-serves_alone : goal.returns-clause-serves_alone
 returns-clause-serves_alone g c = serves_alone (record { ended = c.obey.result; is = c.code.ensures; ends = c.obey.ensures.ends })
+
+pub returns-clause-handed_on : goal.returns-clause-handed_on
+returns-clause-handed_on g c = λ either. c.obey.ensures.handed_on (hands_on-code c.obey.result c.code.ensures either)
+
+pub returns-clause-no_file : goal.returns-clause-no_file
+returns-clause-no_file g c = λ two. c.obey.ensures.no_words ((no_shape (record { ended = c.obey.result; is = c.code.ensures; ends = c.obey.ensures.ends })).0 two)
