@@ -1,13 +1,22 @@
 //! Lines beside their replies.
-use crate::texts::theory_of;
 use crate::whole::{ROOM, folder_with_lines, serves, words};
-use ec_layers::tables::row_of;
 use ec_outside::{MemSink, MemSource};
 use ec_server::run;
 use ec_terms::NoMemory;
 use std::alloc::Global;
-use std::process::Abort;
-use std::test::Fail;
+
+/// A line and its reply, both without their ends. A line that gets no reply has an empty one here.
+pub type Turn = (&'static str, &'static str);
+
+/// Lines over one theory, and their replies.
+pub struct Dialogue {
+    /// What can be seen in it.
+    pub shows: &'static str,
+    /// The theory.
+    pub theory: &'static [u8],
+    /// The lines and the replies.
+    pub turns: &'static [Turn],
+}
 
 /// The bytes of many lines, and those of the replies to them.
 #[derive(Drop)]
@@ -38,12 +47,10 @@ impl Script {
         Ok(())
     }
 
-    /// Adds the lines of a table and their replies. A line that gets no reply has nothing behind its arrow.
-    pub fn add_all(&mut self, turns: &str) -> Result<(), NoMemory> {
-        for row in turns.lines() {
-            if let Some((line, reply)) = row_of(row) {
-                self.add(line, reply)?;
-            }
+    /// Adds lines and their replies.
+    pub fn add_all(&mut self, turns: &[Turn]) -> Result<(), NoMemory> {
+        for (line, reply) in turns {
+            self.add(line, reply)?;
         }
         Ok(())
     }
@@ -64,19 +71,4 @@ impl Script {
         let status = run(alloc, &words, &mut files, &mut input, &mut output);
         Ok(status == 0 && output.bytes() == self.replies.as_slice())
     }
-}
-
-/// Sees that each dialogue of a text is served. A dialogue is a heading, `== theory : what it shows`, and its turns.
-pub fn play(rt: &impl Abort, alloc: Global, dialogues: &str) -> Result<(), Fail> {
-    for dialogue in dialogues.split("== ") {
-        let Some((heading, turns)) = dialogue.split_once('\n') else {
-            continue;
-        };
-        let (theory, shows) = heading.split_once(" : ").expect(rt, heading);
-        let theory = theory_of(alloc, theory)?;
-        let mut script = Script::new(alloc);
-        script.add_all(turns)?;
-        assert!(rt; script.is_served(alloc, &theory)?, "{shows}");
-    }
-    Ok(())
 }

@@ -6,53 +6,44 @@ use ec_server::{Status, run, serve};
 use ec_terms::NoMemory;
 use ec_theory::accept;
 use std::alloc::Global;
-use std::process::Abort;
 use std::test::Fail;
 
 const LINES: &[u8] = b"assert p 5 plug\nholds powered 6\nquit\nholds powered 6\n";
 
 const USAGE: &[u8] = b"usage: ec check THEORY / serve THEORY / replay THEORY LINES / soak N SEED\n";
 
-/// Words without a shape, with commas between them.
-const SHAPELESS: &str = "serve
-check
-serve,t.ec,t.ec
-replay,t.ec
-replay,t.ec,t.ec,t.ec
-soak,1
-soak,0,1
-soak,000000,1
-soak,100001,1
-soak,0000001,1
-soak,,1
-soak,1,
-soak,+1,1
-soak,1,-1
-soak,1,18446744073709551616
-soak,1,000000000000000000000
-soak,1,1,1
---help
---version
-Serve,t.ec";
-
-/// Sees that words get the usage line.
-fn expect_usage(rt: &impl Abort, alloc: Global, all: &[&str]) -> Result<(), Fail> {
-    let (status, output) = ran(alloc, all, LAMP, LINES, 4_096)?;
-    assert_eq!(rt; status, 2);
-    assert_eq!(rt; output.bytes(), USAGE);
-    Ok(())
-}
+/// Words without a shape.
+const SHAPELESS: [&[&str]; 22] = [
+    &[],
+    &["serve"],
+    &["check"],
+    &["serve", "t.ec", "t.ec"],
+    &["replay", "t.ec"],
+    &["replay", "t.ec", "t.ec", "t.ec"],
+    &["soak", "1"],
+    &["soak", "0", "1"],
+    &["soak", "000000", "1"],
+    &["soak", "100001", "1"],
+    &["soak", "0000001", "1"],
+    &["soak", "", "1"],
+    &["soak", "1", ""],
+    &["soak", "+1", "1"],
+    &["soak", "1", "-1"],
+    &["soak", "1", "1 "],
+    &["soak", "1", "18446744073709551616"],
+    &["soak", "1", "000000000000000000000"],
+    &["soak", "1", "1", "1"],
+    &["--help"],
+    &["--version"],
+    &["Serve", "t.ec"],
+];
 
 #[test]
 fn words_without_a_shape_get_the_usage_line(rt: HostRuntime) -> Result<(), Fail> {
-    expect_usage(&rt, rt.alloc(), &[])?;
-    expect_usage(&rt, rt.alloc(), &["soak", "1", "1 "])?;
-    for row in SHAPELESS.lines() {
-        let mut all = Vec::new(rt.alloc());
-        for word in row.split(',') {
-            all.push(word)?;
-        }
-        expect_usage(&rt, rt.alloc(), &all)?;
+    for all in SHAPELESS {
+        let (status, output) = ran(rt.alloc(), all, LAMP, LINES, 4_096)?;
+        assert_eq!(rt; status, 2);
+        assert_eq!(rt; output.bytes(), USAGE);
     }
     Ok(())
 }

@@ -1,19 +1,9 @@
 //! Histories that are full, and an event that changes what many later ones do.
 use crate::dialogue::Script;
+use crate::limits::text_of;
 use crate::texts::ROOMS;
 use crate::whole::serves;
-use ec_layers::tables::bytes_of;
 use std::test::Fail;
-
-/// Lines behind as many events as there may be, and the replies.
-const EVENTS: &str = "
-assert z 0 idle => refused full-events 131072
-assert e1 0 idle => refused duplicate e1
-# an event that goes makes room for one
-retract e1 => ok
-assert z 0 idle => ok
-assert e1 0 idle => refused full-events 131072
-";
 
 #[test]
 fn a_history_holds_131072_events(rt: HostRuntime) -> Result<(), Fail> {
@@ -22,39 +12,49 @@ fn a_history_holds_131072_events(rt: HostRuntime) -> Result<(), Fail> {
         let line = format!(in rt.alloc(); "assert e{k} 0 idle")?;
         script.add(line.as_str(), "ok")?;
     }
-    script.add_all(EVENTS)?;
+    script.add_all(&[
+        ("assert z 0 idle", "refused full-events 131072"),
+        ("assert e1 0 idle", "refused duplicate e1"),
+        // an event that goes makes room for one
+        ("retract e1", "ok"),
+        ("assert z 0 idle", "ok"),
+        ("assert e1 0 idle", "refused full-events 131072"),
+    ])?;
     assert!(rt; serves(rt.alloc(), ROOMS, &script.lines, 4_096, 0, &script.replies)?);
     Ok(())
 }
 
-/// Rules that give an event 64 times seventeen mentions, another 64 times thirteen, and one that gives one.
-const MENTIONING: &str = "
-{64 initiates e h if c1, c2, c3, c4, c5, c6, c7, c8, c9, c10, c11, c12, c13, c14, c15, c16.|}
-{64 initiates f h if c1, c2, c3, c4, c5, c6, c7, c8, c9, c10, c11, c12.|}
-initiates g h.
-";
+/// A rule that gives an event seventeen mentions.
+const SIXTEEN_LITERALS: &[u8] =
+    b"initiates e h if c1, c2, c3, c4, c5, c6, c7, c8, c9, c10, c11, c12, c13, c14, c15, c16.\n";
 
-/// Lines behind the last event that there is room for, and the replies.
-const MENTIONS: &str = "
-assert k964 0 e => refused full-mentions 1048576
-retract k1 => ok
-assert k964 0 e => ok
-# the 832 that are left, one too many, and none
-assert f1 0 f => ok
-assert g1 0 g => refused full-mentions 1048576
-assert i1 0 idle => ok
-";
+/// A rule that gives an event thirteen mentions.
+const TWELVE_LITERALS: &[u8] =
+    b"initiates f h if c1, c2, c3, c4, c5, c6, c7, c8, c9, c10, c11, c12.\n";
 
 #[test]
 fn a_history_holds_1048576_mentions(rt: HostRuntime) -> Result<(), Fail> {
-    let theory = bytes_of(rt.alloc(), MENTIONING)?;
+    let pieces = [
+        (64, SIXTEEN_LITERALS),
+        (64, TWELVE_LITERALS),
+        (1, b"initiates g h.".as_slice()),
+    ];
+    let theory = text_of(rt.alloc(), &pieces)?;
     let mut script = Script::new(rt.alloc());
     // 1,088 mentions each
     for k in 1..=963_u32 {
         let line = format!(in rt.alloc(); "assert k{k} 0 e")?;
         script.add(line.as_str(), "ok")?;
     }
-    script.add_all(MENTIONS)?;
+    script.add_all(&[
+        ("assert k964 0 e", "refused full-mentions 1048576"),
+        ("retract k1", "ok"),
+        ("assert k964 0 e", "ok"),
+        // the 832 that are left, one too many, and none
+        ("assert f1 0 f", "ok"),
+        ("assert g1 0 g", "refused full-mentions 1048576"),
+        ("assert i1 0 idle", "ok"),
+    ])?;
     assert!(rt;
         serves(
             rt.alloc(),
@@ -75,14 +75,6 @@ at(P,Y), at(P,Y), at(P,Y), at(P,Y), at(P,Y), at(P,Y), at(P,Y), at(P,Y).
 exclusive at(X,Y) at(X,Z).
 ";
 
-/// Lines behind as many links as there may be, and the replies.
-const LINKS: &str = "
-assert s4097 1 see(bob,h0) => refused full-links 16777216
-assert t 1 see(ann,h0) => ok
-retract s1 => ok
-assert s4097 1 see(bob,h0) => ok
-";
-
 #[test]
 fn a_history_holds_16777216_links(rt: HostRuntime) -> Result<(), Fail> {
     let mut script = Script::new(rt.alloc());
@@ -92,7 +84,12 @@ fn a_history_holds_16777216_links(rt: HostRuntime) -> Result<(), Fail> {
         let line = format!(in rt.alloc(); "assert s{k} 1 see(bob,h{place})")?;
         script.add(line.as_str(), "ok")?;
     }
-    script.add_all(LINKS)?;
+    script.add_all(&[
+        ("assert s4097 1 see(bob,h0)", "refused full-links 16777216"),
+        ("assert t 1 see(ann,h0)", "ok"),
+        ("retract s1", "ok"),
+        ("assert s4097 1 see(bob,h0)", "ok"),
+    ])?;
     assert!(rt; serves(rt.alloc(), SEEN, &script.lines, 4_096, 0, &script.replies)?);
     Ok(())
 }
@@ -113,14 +110,6 @@ fn one_instant_has_room_for_4096_moves(rt: HostRuntime) -> Result<(), Fail> {
     Ok(())
 }
 
-/// A late push, and what it changes.
-const LATE: &str = "
-holds lit(a) 20002 => no
-assert t 1 push(bob,a) => ok
-holds lit(a) 20002 => yes
-last => last seen 40000 on 20000 off 20000 props 1
-";
-
 #[test]
 fn a_late_push_changes_the_effect_of_20000_later_ones(rt: HostRuntime) -> Result<(), Fail> {
     let mut script = Script::new(rt.alloc());
@@ -130,7 +119,12 @@ fn a_late_push_changes_the_effect_of_20000_later_ones(rt: HostRuntime) -> Result
         let line = format!(in rt.alloc(); "assert s{k} {time} push(bob,a)")?;
         script.add(line.as_str(), "ok")?;
     }
-    script.add_all(LATE)?;
+    script.add_all(&[
+        ("holds lit(a) 20002", "no"),
+        ("assert t 1 push(bob,a)", "ok"),
+        ("holds lit(a) 20002", "yes"),
+        ("last", "last seen 40000 on 20000 off 20000 props 1"),
+    ])?;
     assert!(rt; serves(rt.alloc(), ROOMS, &script.lines, 4_096, 0, &script.replies)?);
     Ok(())
 }

@@ -1,7 +1,4 @@
-//! Theories that several modules use, and how a table spells a theory.
-use ec_layers::tables::bytes_of;
-use ec_terms::NoMemory;
-use std::alloc::Global;
+//! Theories that several modules use.
 
 /// One lamp that has power or not.
 pub const LAMP: &[u8] = b"initiates plug powered. terminates unplug powered.";
@@ -20,6 +17,30 @@ terminates leave(P,Y) at(P,Y).
 exclusive at(X,Y) at(X,Z).
 ";
 
+/// The rooms and lamps, where who moves to a place begins to be there anew.
+pub const STRONG_ROOMS: &[u8] = b"initiates push(P,L) lit(L) if powered(L), not lit(L).
+terminates push(P,L) lit(L) if lit(L).
+initiates plug(L) powered(L).
+terminates unplug(L) powered(L).
+terminates unplug(L) lit(L).
+initiates move(P,Y) at(P,Y).
+terminates leave(P,Y) at(P,Y).
+exclusive at(X,Y) at(X,Z).
+strong at/2.
+";
+
+/// The rooms and lamps, where who is at home answers a call.
+pub const CALLED_ROOMS: &[u8] = b"initiates push(P,L) lit(L) if powered(L), not lit(L).
+terminates push(P,L) lit(L) if lit(L).
+initiates plug(L) powered(L).
+terminates unplug(L) powered(L).
+terminates unplug(L) lit(L).
+initiates move(P,Y) at(P,Y).
+terminates leave(P,Y) at(P,Y).
+exclusive at(X,Y) at(X,Z).
+initiates ring(P) answered(P) if at(P,home).
+";
+
 /// A lending library: only members borrow, and a book is lent to one of them at a time.
 pub const LIBRARY: &[u8] = b"% a lending library
 initiates borrow(M,B) has_book(M,B) if member(M), not lent(B).
@@ -31,16 +52,3 @@ terminates leave(M) member(M).
 initiates shelve(B,S) place(B,S).
 exclusive place(B,X) place(B,Y).
 ";
-
-/// The theory that is spelt as `rooms`, by its name, as `rooms + strong at/2.`, with clauses added to it, or as its clauses alone.
-pub fn theory_of(alloc: Global, spelt: &str) -> Result<Vec<u8>, NoMemory> {
-    let (name, clauses) = spelt.split_once(" + ").unwrap_or((spelt, ""));
-    let mut text = match name {
-        "lamp" => LAMP.to_vec(alloc)?,
-        "lamps" => LAMPS.to_vec(alloc)?,
-        "rooms" => ROOMS.to_vec(alloc)?,
-        _ => bytes_of(alloc, name)?,
-    };
-    text.extend_from_slice(clauses.as_bytes())?;
-    Ok(text)
-}

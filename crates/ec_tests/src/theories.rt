@@ -1,102 +1,113 @@
 //! Theories that are accepted and theories that are not, by `check` and by `serve`.
-use crate::texts::theory_of;
+use crate::texts::{ROOMS, STRONG_ROOMS};
 use crate::whole::ran;
-use ec_layers::tables::{bytes_of, row_of};
-use std::alloc::Global;
-use std::process::Abort;
 use std::test::Fail;
 
-/// Texts that are no theories, and the line about each.
-const FAULTS: &str = "
-initiates push(P) lit(L). => theory 1 unbound|
-initiates plug(L) powered(L) => theory 1 29 syntax|
-initiates plug(L powered(L). => theory 1 18 syntax|
-initiates a b; => theory 1 14 byte|
-initiates a 9223372036854775808. => theory 1 13 number|
-initiates a -5. => theory 1 13 syntax|
-initiates push(P) lit(_). => theory 1 any|
-strong at/9. => theory 1 arity|
-strong a/-1. => theory 1 arity|
-strong a/1.\r|\t% a note|strong a/2 => theory 3 11 syntax|
-strong a/1| => theory 2 1 syntax|
-strong a/1 % note => theory 1 18 syntax|
-strong a/1 - => theory 1 12 byte|
-strong {65 a}/1. => theory 1 8 long-name|
-# a fault of the tokens comes before one of the syntax, wherever it stands
-strong strong strong.||  ! => theory 3 3 byte|
-initially p(X). => theory 1 unbound|
-initially p(_). => theory 1 any|
-initially p(a,b,c,d,e,f,g,h,i). => theory 1 arity|
-# an initial property that ends too early, and one that does not end
-initially => theory 1 10 syntax|
-initially powered(a)| => theory 2 1 syntax|
-initially p if q. => theory 1 13 syntax|
+/// The rooms and lamps, where one lamp has power from before all events.
+const POWERED_ROOMS: &[u8] = b"initiates push(P,L) lit(L) if powered(L), not lit(L).
+terminates push(P,L) lit(L) if lit(L).
+initiates plug(L) powered(L).
+terminates unplug(L) powered(L).
+terminates unplug(L) lit(L).
+initiates move(P,Y) at(P,Y).
+terminates leave(P,Y) at(P,Y).
+exclusive at(X,Y) at(X,Z).
+initially powered(a).
 ";
 
-/// Sees that `check` and `serve` tell the fault of a text by a line.
-fn expect_fault(rt: &impl Abort, alloc: Global, text: &[u8], line: &[u8]) -> Result<(), Fail> {
-    for command in ["check", "serve"] {
-        let (status, output) = ran(alloc, &[command, "t.ec"], text, b"quit\n", 4_096)?;
-        assert_eq!(rt; status, 3);
+/// Texts that are no theories, and the line about each.
+const FAULTS: [(&[u8], &[u8]); 22] = [
+    (b"initiates push(P) lit(L).", b"theory 1 unbound\n"),
+    (b"initiates plug(L) powered(L)", b"theory 1 29 syntax\n"),
+    (b"initiates plug(L powered(L).", b"theory 1 18 syntax\n"),
+    (b"initiates a b;", b"theory 1 14 byte\n"),
+    (b"initiates a 9223372036854775808.", b"theory 1 13 number\n"),
+    (b"initiates a -5.", b"theory 1 13 syntax\n"),
+    (b"initiates push(P) lit(_).", b"theory 1 any\n"),
+    (b"strong at/9.", b"theory 1 arity\n"),
+    (b"strong a/-1.", b"theory 1 arity\n"),
+    (
+        b"strong a/1.\r\n\t% a note\nstrong a/2",
+        b"theory 3 11 syntax\n",
+    ),
+    (b"strong a/1\n", b"theory 2 1 syntax\n"),
+    (b"strong a/1 % note", b"theory 1 18 syntax\n"),
+    (b"strong a/1 \x80", b"theory 1 12 byte\n"),
+    (b"strong a/1 -", b"theory 1 12 byte\n"),
+    (
+        b"strong aaaaaaaaaaaaaaaaaaaaaaaaaaaaaaaaaaaaaaaaaaaaaaaaaaaaaaaaaaaaaaaaa/1.",
+        b"theory 1 8 long-name\n",
+    ),
+    // a fault of the tokens comes before one of the syntax, wherever it stands
+    (b"strong strong strong.\n\n  !", b"theory 3 3 byte\n"),
+    (b"initially p(X).", b"theory 1 unbound\n"),
+    (b"initially p(_).", b"theory 1 any\n"),
+    (b"initially p(a,b,c,d,e,f,g,h,i).", b"theory 1 arity\n"),
+    // an initial property that ends too early, and one that does not end
+    (b"initially", b"theory 1 10 syntax\n"),
+    (b"initially powered(a)\n", b"theory 2 1 syntax\n"),
+    (b"initially p if q.", b"theory 1 13 syntax\n"),
+];
+
+#[test]
+fn texts_that_are_no_theories_are_told_by_check_and_serve(rt: HostRuntime) -> Result<(), Fail> {
+    for (theory, line) in FAULTS {
+        for command in ["check", "serve"] {
+            let (status, output) = ran(rt.alloc(), &[command, "t.ec"], theory, b"quit\n", 4_096)?;
+            assert_eq!(rt; status, 3);
+            assert_eq!(rt; output.bytes(), line);
+        }
+    }
+    Ok(())
+}
+
+/// Theories, and what `check` says of them.
+const ACCEPTED: [(&[u8], &[u8]); 6] = [
+    (b"", b"accepted rules 0 exclusives 0 strongs 0\n"),
+    (ROOMS, b"accepted rules 7 exclusives 1 strongs 0\n"),
+    (STRONG_ROOMS, b"accepted rules 7 exclusives 1 strongs 1\n"),
+    (
+        POWERED_ROOMS,
+        b"accepted rules 7 exclusives 1 strongs 0 initials 1\n",
+    ),
+    (
+        b"initially initially. initially initially.",
+        b"accepted rules 0 exclusives 0 strongs 0 initials 2\n",
+    ),
+    // a name like others where no clause begins
+    (
+        b"initiates initially(initially) initially if not initially. strong initially/0.",
+        b"accepted rules 1 exclusives 0 strongs 1\n",
+    ),
+];
+
+#[test]
+fn theories_are_counted_by_check(rt: HostRuntime) -> Result<(), Fail> {
+    for (theory, line) in ACCEPTED {
+        let (status, output) = ran(rt.alloc(), &["check", "t.ec"], theory, b"", 4_096)?;
+        assert_eq!(rt; status, 0);
         assert_eq!(rt; output.bytes(), line);
     }
     Ok(())
 }
 
-#[test]
-fn texts_that_are_no_theories_are_told_by_check_and_serve(rt: HostRuntime) -> Result<(), Fail> {
-    for row in FAULTS.lines() {
-        if let Some((text, line)) = row_of(row) {
-            let text = bytes_of(rt.alloc(), text)?;
-            let line = bytes_of(rt.alloc(), line)?;
-            expect_fault(&rt, rt.alloc(), &text, &line)?;
-        }
-    }
-    expect_fault(&rt, rt.alloc(), b"strong a/1 \x80", b"theory 1 12 byte\n")
-}
-
-/// Theories, and what `check` says of them.
-const ACCEPTED: &str = "
- => accepted rules 0 exclusives 0 strongs 0|
-rooms => accepted rules 7 exclusives 1 strongs 0|
-rooms + strong at/2. => accepted rules 7 exclusives 1 strongs 1|
-rooms + initially powered(a). => accepted rules 7 exclusives 1 strongs 0 initials 1|
-initially initially. initially initially. => accepted rules 0 exclusives 0 strongs 0 initials 2|
-# a name like others where no clause begins
-initiates initially(initially) initially if not initially. strong initially/0. => accepted rules 1 exclusives 0 strongs 1|
-";
-
-#[test]
-fn theories_are_counted_by_check(rt: HostRuntime) -> Result<(), Fail> {
-    for row in ACCEPTED.lines() {
-        let Some((theory, line)) = row_of(row) else {
-            continue;
-        };
-        let theory = theory_of(rt.alloc(), theory)?;
-        let line = bytes_of(rt.alloc(), line)?;
-        let (status, output) = ran(rt.alloc(), &["check", "t.ec"], &theory, b"", 4_096)?;
-        assert_eq!(rt; status, 0, "{row}");
-        assert_eq!(rt; output.bytes(), line.as_slice(), "{row}");
-    }
-    Ok(())
-}
-
 /// Theories that are accepted, with literals and declarations.
-const SERVED: &str = "rooms
-rooms + strong at/2.
-rooms + initially powered(a).
-initially p.
-initiates a b if c.
-initiates a b. exclusive b c.
-initiates a b. strong b/0.";
+const SERVED: [&[u8]; 7] = [
+    ROOMS,
+    STRONG_ROOMS,
+    POWERED_ROOMS,
+    b"initially p.",
+    b"initiates a b if c.",
+    b"initiates a b. exclusive b c.",
+    b"initiates a b. strong b/0.",
+];
 
 #[test]
 fn each_theory_that_is_accepted_is_served(rt: HostRuntime) -> Result<(), Fail> {
-    for row in SERVED.lines() {
-        let theory = theory_of(rt.alloc(), row)?;
-        let (status, output) = ran(rt.alloc(), &["serve", "t.ec"], &theory, b"quit\n", 4_096)?;
-        assert_eq!(rt; status, 0, "{row}");
-        assert_eq!(rt; output.bytes(), b"bye\n".as_slice(), "{row}");
+    for theory in SERVED {
+        let (status, output) = ran(rt.alloc(), &["serve", "t.ec"], theory, b"quit\n", 4_096)?;
+        assert_eq!(rt; status, 0);
+        assert_eq!(rt; output.bytes(), b"bye\n".as_slice());
     }
     Ok(())
 }

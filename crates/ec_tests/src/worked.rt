@@ -1,130 +1,207 @@
 //! Small histories that each show a rule, and a draft that is full.
-use crate::dialogue::{Script, play};
-use crate::texts::ROOMS;
+use crate::dialogue::{Dialogue, Script};
+use crate::texts::{CALLED_ROOMS, ROOMS, STRONG_ROOMS};
 use std::test::Fail;
 
-/// Dialogues, each of which shows a rule.
-const DIALOGUES: &str = "== rooms : a lamp that is plugged and pushed, and a late unplug
-assert p 5 plug(a) => ok
-assert q 10 push(bob,a) => ok
-holds lit(a) 10 => no
-holds lit(a) 11 => yes
-intervals lit(a) => 1 (10,inf)
-assert u 7 unplug(a) => ok
-holds lit(a) 11 => no
-last => last seen 1 on 0 off 1 props 2
-== rooms : a late push flips the later ones, until it is taken back
-assert p 5 plug(a) => ok
-assert q 10 push(bob,a) => ok
-assert r 20 push(bob,a) => ok
-assert s 30 push(bob,a) => ok
-intervals lit(a) => 2 (10,20] (30,inf)
-assert t 7 push(bob,a) => ok
-intervals lit(a) => 2 (7,10] (20,30]
-last => last seen 6 on 3 off 3 props 1
-retract t => ok
-intervals lit(a) => 2 (10,20] (30,inf)
-last => last seen 6 on 3 off 3 props 1
-== rooms : refused updates change nothing
-assert p 5 plug(a) => ok
-assert q 10 push(bob,a) => ok
-holds lit(a) 10 => no
-holds lit(a) 11 => yes
-intervals lit(a) => 1 (10,inf)
-assert p 6 plug(b) => refused duplicate p
-retract z => refused unknown z
-intervals lit(a) => 1 (10,inf)
-holds powered(b) 9 => no
-== rooms : contexts read what was current before their instant
-assert q 10 push(bob,a) => ok
-assert p 10 plug(a) => ok
-intervals lit(a) => 0
-== rooms : an end and a start at one instant
-assert p 5 plug(a) => ok
-assert v 10 plug(a) => ok
-assert u 10 unplug(a) => ok
-intervals powered(a) => 2 (5,10] (10,inf)
-through powered(a) 6 20 => yes
-through powered(a) 5 20 => no
-holds powered(a) 10 => yes
-holds powered(a) 11 => yes
-retract v => ok
-holds powered(a) 11 => no
-== rooms : a move breaks the last place, and a leave closes it after all
-assert m1 10 move(bob,home) => ok
-assert m2 20 move(bob,work) => ok
-intervals at(bob,home) => 0
-broken at(bob,home) => 1 10 20
-why at(bob,home) 15 => no broken 10 20 by m2 rule 6
-why at(bob,work) 21 => yes 20 inf by m2 rule 6
-assert l1 18 leave(bob,home) => ok
-intervals at(bob,home) => 1 (10,18]
-broken at(bob,home) => 0
-why at(bob,home) 15 => yes 10 18 by m1 rule 6 until l1 rule 7
-why at(bob,home) 19 => no ended 10 18 by l1 rule 7
-== rooms + initiates ring(P) answered(P) if at(P,home). : a property that is current and does not hold
-assert m1 10 move(bob,home) => ok
-assert m2 20 move(bob,work) => ok
-assert g 15 ring(bob) => ok
-holds at(bob,home) 15 => no
-intervals answered(bob) => 1 (15,inf)
-== rooms : a property that is initiated once more goes on
-assert m1 10 move(bob,home) => ok
-assert m2 14 move(bob,home) => ok
-assert l1 20 leave(bob,home) => ok
-intervals at(bob,home) => 1 (10,20]
-broken at(bob,home) => 0
-== rooms + strong at/2. : a strong property that is initiated once more begins anew
-assert m1 10 move(bob,home) => ok
-assert m2 14 move(bob,home) => ok
-assert l1 20 leave(bob,home) => ok
-intervals at(bob,home) => 1 (14,20]
-broken at(bob,home) => 1 10 14
-why at(bob,home) 12 => no broken 10 14 by m2 rule 6
-why at(bob,home) 20 => yes 14 20 by m2 rule 6 until l1 rule 7
-why at(bob,home) 21 => no ended 14 20 by l1 rule 7
-why at(bob,home) 10 => no never
-== rooms : a clash
-assert m1 10 move(bob,home) => ok
-assert m2 10 move(bob,work) => ok
-intervals at(bob,home) => 1 (10,inf)
-intervals at(bob,work) => 1 (10,inf)
-clashes => 1 10
-at 11 => 2 at(bob,home) at(bob,work)
-== rooms : the ends of time
-assert p -9223372036854775808 plug(a) => ok
-assert q 9223372036854775807 plug(b) => ok
-holds powered(a) -9223372036854775808 => no
-holds powered(a) -9223372036854775807 => yes
-holds powered(b) 9223372036854775807 => no
-intervals powered(b) => 1 (9223372036854775807,inf)
-assert r 9223372036854775808 plug(c) => refused syntax
-== rooms : the drafts of two sessions
-@1 begin => @1 ok
-@1 assert x 1 plug(a) => @1 drafted 1
-@2 holds powered(a) 2 => @2 no
-@1 assert x 2 plug(b) => @1 drafted 2
-@1 commit => @1 refused commit 2 duplicate x
-@1 commit => @1 refused commit 2 duplicate x
-@1 abort => @1 ok
-@1 abort => @1 refused no-draft
-events => 0
-== rooms : small refusals, and lines without a reply
-assert p 5 plug(a) => ok
-through powered(a) 9 8 => refused order
-begin => ok
-begin => refused in-draft
-@64 last => refused syntax
-holds Lit 3 => refused syntax
-   =>
-% note =>
-@3 => @3 refused syntax
-last => last seen 0 on 0 off 0 props 1
-";
+const DIALOGUES: [Dialogue; 13] = [
+    Dialogue {
+        shows: "a lamp that is plugged and pushed, and a late unplug",
+        theory: ROOMS,
+        turns: &[
+            ("assert p 5 plug(a)", "ok"),
+            ("assert q 10 push(bob,a)", "ok"),
+            ("holds lit(a) 10", "no"),
+            ("holds lit(a) 11", "yes"),
+            ("intervals lit(a)", "1 (10,inf)"),
+            ("assert u 7 unplug(a)", "ok"),
+            ("holds lit(a) 11", "no"),
+            ("last", "last seen 1 on 0 off 1 props 2"),
+        ],
+    },
+    Dialogue {
+        shows: "a late push flips the later ones, until it is taken back",
+        theory: ROOMS,
+        turns: &[
+            ("assert p 5 plug(a)", "ok"),
+            ("assert q 10 push(bob,a)", "ok"),
+            ("assert r 20 push(bob,a)", "ok"),
+            ("assert s 30 push(bob,a)", "ok"),
+            ("intervals lit(a)", "2 (10,20] (30,inf)"),
+            ("assert t 7 push(bob,a)", "ok"),
+            ("intervals lit(a)", "2 (7,10] (20,30]"),
+            ("last", "last seen 6 on 3 off 3 props 1"),
+            ("retract t", "ok"),
+            ("intervals lit(a)", "2 (10,20] (30,inf)"),
+            ("last", "last seen 6 on 3 off 3 props 1"),
+        ],
+    },
+    Dialogue {
+        shows: "refused updates change nothing",
+        theory: ROOMS,
+        turns: &[
+            ("assert p 5 plug(a)", "ok"),
+            ("assert q 10 push(bob,a)", "ok"),
+            ("holds lit(a) 10", "no"),
+            ("holds lit(a) 11", "yes"),
+            ("intervals lit(a)", "1 (10,inf)"),
+            ("assert p 6 plug(b)", "refused duplicate p"),
+            ("retract z", "refused unknown z"),
+            ("intervals lit(a)", "1 (10,inf)"),
+            ("holds powered(b) 9", "no"),
+        ],
+    },
+    Dialogue {
+        shows: "contexts read what was current before their instant",
+        theory: ROOMS,
+        turns: &[
+            ("assert q 10 push(bob,a)", "ok"),
+            ("assert p 10 plug(a)", "ok"),
+            ("intervals lit(a)", "0"),
+        ],
+    },
+    Dialogue {
+        shows: "an end and a start at one instant",
+        theory: ROOMS,
+        turns: &[
+            ("assert p 5 plug(a)", "ok"),
+            ("assert v 10 plug(a)", "ok"),
+            ("assert u 10 unplug(a)", "ok"),
+            ("intervals powered(a)", "2 (5,10] (10,inf)"),
+            ("through powered(a) 6 20", "yes"),
+            ("through powered(a) 5 20", "no"),
+            ("holds powered(a) 10", "yes"),
+            ("holds powered(a) 11", "yes"),
+            ("retract v", "ok"),
+            ("holds powered(a) 11", "no"),
+        ],
+    },
+    Dialogue {
+        shows: "a move breaks the last place, and a leave closes it after all",
+        theory: ROOMS,
+        turns: &[
+            ("assert m1 10 move(bob,home)", "ok"),
+            ("assert m2 20 move(bob,work)", "ok"),
+            ("intervals at(bob,home)", "0"),
+            ("broken at(bob,home)", "1 10 20"),
+            ("why at(bob,home) 15", "no broken 10 20 by m2 rule 6"),
+            ("why at(bob,work) 21", "yes 20 inf by m2 rule 6"),
+            ("assert l1 18 leave(bob,home)", "ok"),
+            ("intervals at(bob,home)", "1 (10,18]"),
+            ("broken at(bob,home)", "0"),
+            (
+                "why at(bob,home) 15",
+                "yes 10 18 by m1 rule 6 until l1 rule 7",
+            ),
+            ("why at(bob,home) 19", "no ended 10 18 by l1 rule 7"),
+        ],
+    },
+    Dialogue {
+        shows: "a property that is current and does not hold",
+        theory: CALLED_ROOMS,
+        turns: &[
+            ("assert m1 10 move(bob,home)", "ok"),
+            ("assert m2 20 move(bob,work)", "ok"),
+            ("assert g 15 ring(bob)", "ok"),
+            ("holds at(bob,home) 15", "no"),
+            ("intervals answered(bob)", "1 (15,inf)"),
+        ],
+    },
+    Dialogue {
+        shows: "a property that is initiated once more goes on",
+        theory: ROOMS,
+        turns: &[
+            ("assert m1 10 move(bob,home)", "ok"),
+            ("assert m2 14 move(bob,home)", "ok"),
+            ("assert l1 20 leave(bob,home)", "ok"),
+            ("intervals at(bob,home)", "1 (10,20]"),
+            ("broken at(bob,home)", "0"),
+        ],
+    },
+    Dialogue {
+        shows: "a strong property that is initiated once more begins anew",
+        theory: STRONG_ROOMS,
+        turns: &[
+            ("assert m1 10 move(bob,home)", "ok"),
+            ("assert m2 14 move(bob,home)", "ok"),
+            ("assert l1 20 leave(bob,home)", "ok"),
+            ("intervals at(bob,home)", "1 (14,20]"),
+            ("broken at(bob,home)", "1 10 14"),
+            ("why at(bob,home) 12", "no broken 10 14 by m2 rule 6"),
+            (
+                "why at(bob,home) 20",
+                "yes 14 20 by m2 rule 6 until l1 rule 7",
+            ),
+            ("why at(bob,home) 21", "no ended 14 20 by l1 rule 7"),
+            ("why at(bob,home) 10", "no never"),
+        ],
+    },
+    Dialogue {
+        shows: "a clash",
+        theory: ROOMS,
+        turns: &[
+            ("assert m1 10 move(bob,home)", "ok"),
+            ("assert m2 10 move(bob,work)", "ok"),
+            ("intervals at(bob,home)", "1 (10,inf)"),
+            ("intervals at(bob,work)", "1 (10,inf)"),
+            ("clashes", "1 10"),
+            ("at 11", "2 at(bob,home) at(bob,work)"),
+        ],
+    },
+    Dialogue {
+        shows: "the ends of time",
+        theory: ROOMS,
+        turns: &[
+            ("assert p -9223372036854775808 plug(a)", "ok"),
+            ("assert q 9223372036854775807 plug(b)", "ok"),
+            ("holds powered(a) -9223372036854775808", "no"),
+            ("holds powered(a) -9223372036854775807", "yes"),
+            ("holds powered(b) 9223372036854775807", "no"),
+            ("intervals powered(b)", "1 (9223372036854775807,inf)"),
+            ("assert r 9223372036854775808 plug(c)", "refused syntax"),
+        ],
+    },
+    Dialogue {
+        shows: "the drafts of two sessions",
+        theory: ROOMS,
+        turns: &[
+            ("@1 begin", "@1 ok"),
+            ("@1 assert x 1 plug(a)", "@1 drafted 1"),
+            ("@2 holds powered(a) 2", "@2 no"),
+            ("@1 assert x 2 plug(b)", "@1 drafted 2"),
+            ("@1 commit", "@1 refused commit 2 duplicate x"),
+            ("@1 commit", "@1 refused commit 2 duplicate x"),
+            ("@1 abort", "@1 ok"),
+            ("@1 abort", "@1 refused no-draft"),
+            ("events", "0"),
+        ],
+    },
+    Dialogue {
+        shows: "small refusals, and lines without a reply",
+        theory: ROOMS,
+        turns: &[
+            ("assert p 5 plug(a)", "ok"),
+            ("through powered(a) 9 8", "refused order"),
+            ("begin", "ok"),
+            ("begin", "refused in-draft"),
+            ("@64 last", "refused syntax"),
+            ("holds Lit 3", "refused syntax"),
+            ("  ", ""),
+            ("% note", ""),
+            ("@3", "@3 refused syntax"),
+            ("last", "last seen 0 on 0 off 0 props 1"),
+        ],
+    },
+];
 
 #[test]
 fn each_rule_shows_in_the_replies(rt: HostRuntime) -> Result<(), Fail> {
-    play(&rt, rt.alloc(), DIALOGUES)
+    for dialogue in &DIALOGUES {
+        let shows = dialogue.shows;
+        let mut script = Script::new(rt.alloc());
+        script.add_all(dialogue.turns)?;
+        assert!(rt; script.is_served(rt.alloc(), dialogue.theory)?, "{shows}");
+    }
+    Ok(())
 }
 
 /// The last line of a full draft, the reply to its commit, and the counts afterwards.
