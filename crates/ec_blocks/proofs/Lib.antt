@@ -2,6 +2,7 @@ pub mod ChainLemmas
 pub mod CountLemmas
 pub mod DebtLemmas
 pub mod EditLemmas
+pub mod FreeLemmas
 pub mod HalvingLemmas
 pub mod JoinLemmas
 pub mod NumberLemmas

@@ -61,6 +61,10 @@ module _ (parts bases : List ℕ) where
   pub numbers-length : length (numbers_of parts bases) ≡ length parts
   numbers-length = length-map-range_with_len (number_at parts bases) 0 (length parts)
 
+  -- behind free places there are so many fewer
+  pub numbers-behind : (f : ℕ) → length (numbers_of (drop f parts) bases) ≡ length parts - f
+  numbers-behind f = length-map-range_with_len (number_at (drop f parts) bases) 0 (length (drop f parts)) ∙ length-drop f parts
+
   pub number-is : (k d : ℕ) → k < length parts → get_or (numbers_of parts bases) k d ≡ number_at parts bases k
   number-is k d within = get_or-map-range_with_len (number_at parts bases) 0 (length parts) k k d within (omega arith)
 

@@ -2,6 +2,7 @@
 ghost use Rattle.std.specs.Prelude.{◌≡◌, ℕ, ◌+◌, ◌-◌, ◌*◌, ◌/◌, ◌%◌, ◌^◌, ◌<◌, ◌≤◌, ◌++◌, ◌∷◌, [], ◌⊎◌, if◌then◌else◌, IsTrue, true, false, OnOk, nat_lt, nat_le, length, take, drop, map, vec_len, slice_index_or};
 ghost use Rattle.std.specs.List.{insert, remove, list_all};
 ghost use Rattle.std.specs.List.Sorted.{IsNonDecreasingBy, IsPartitionPoint};
+ghost use Rattle.std.specs.Vec.{vec_capacity};
 ghost use Rattle.ec_blocks.specs.Starts.{number_at};
 
 use crate::bases::{Bases, add};
@@ -33,24 +34,28 @@ const STEP: usize = 96;
 
 /// A list of numbers, in which all behind a place are raised or lowered by one at little cost. Each group of 64 has
 /// a base, and a number is the sum of its own part and of the base of its group, modulo 2^64: so a part
-/// can be moved to any base. It is seen as the list of the numbers, and how many there is room for.
+/// can be moved to any base. In front of the parts some places are kept free, so that an insertion moves the parts on one side
+/// alone. It is seen as the list of the numbers, and how many there is room for.
 #[derive(Drop)]
 pub(crate) struct Starts {
+    /// The free places, and behind them the parts.
     parts: Vec<usize>,
+    /// How many places are free.
+    free: usize,
     /// One for each group, and for groups to come.
     bases: Bases,
 }
 
 impl Model for Starts {
-    ghost use Rattle.std.specs.Prelude.{◌*◌, ◌≤◌, length, min, vec_len};
+    ghost use Rattle.std.specs.Prelude.{◌-◌, ◌*◌, ◌≤◌, length, drop, min, vec_len};
     ghost use Rattle.std.specs.Vec.{vec_capacity};
     ghost use Rattle.ec_blocks.specs.Starts.{Listed, numbers_of};
 
     ghost Value = { Listed };
 
-    ghost view = { λ starts. record { items = numbers_of starts.parts.items starts.bases; room = min (vec_capacity starts.parts) (64 * length starts.bases) } };
+    ghost view = { λ starts. record { items = numbers_of (drop starts.free starts.parts.items) starts.bases; room = min (vec_capacity starts.parts - starts.free) (64 * length starts.bases) } };
 
-    ghost invariant = { λ starts. vec_len starts.parts ≤ 64 * length starts.bases };
+    ghost invariant = { λ starts. (starts.free ≤ vec_len starts.parts) × (vec_len starts.parts - starts.free ≤ 64 * length starts.bases) };
 }
 
 impl Starts {
@@ -60,8 +65,16 @@ impl Starts {
     {
         Starts {
             parts: Vec::new(alloc),
+            free: 0,
             bases: Bases::new(alloc),
         }
+    }
+
+    /// How many numbers there are.
+    fn len(&self) -> usize
+        ensures { result ≡ length self.now.items }
+    {
+        self.parts.len() - self.free
     }
 
     /// The number at a place.
@@ -69,7 +82,7 @@ impl Starts {
         requires { k < length self.now.items }
         ensures { result ≡ slice_index_or self.now.items k 0 }
     {
-        self.parts[k].wrapping_add(self.bases.get(k / GROUP))
+        self.parts[self.free + k].wrapping_add(self.bases.get(k / GROUP))
     }
 
     /// A place about where the numbers up to one end, and how far on both sides of it a search looks at first. It is the place
@@ -78,7 +91,7 @@ impl Starts {
         requires some { 1 ≤ length self.now.items }
         requires above { i < last }
     {
-        let end = self.parts.len() - 1;
+        let end = self.len() - 1;
         let steady = (i.wrapping_mul(end) / last).min(end);
         if end < MANY {
             return (steady, ROUND + end / STRAY);
@@ -98,7 +111,7 @@ impl Starts {
         ensures before { (result.0 ≡ 0) ⊎ (slice_index_or self.now.items result.0 0 ≤ i) }
         ensures behind { (result.1 + 1 ≡ length self.now.items) ⊎ (i < slice_index_or self.now.items result.1 0) }
     {
-        let end = self.parts.len() - 1;
+        let end = self.len() - 1;
         if end <= FEW {
             return (0, end);
         }
@@ -117,7 +130,7 @@ impl Starts {
         ensures within { result ≤ length self.now.items }
         ensures cut { IsPartitionPoint (λ start. nat_le start i ≡ true) (λ start. nat_le start i ≡ false) self.now.items result }
     {
-        let count = self.parts.len();
+        let count = self.len();
         if count == 0 {
             return 0;
         }
@@ -164,9 +177,9 @@ impl Starts {
         ensures items { self.new.items ≡ take (k + 1) self.old.items ++ map (λ start. (start + more) % 2 ^ 64) (drop (k + 1) self.old.items) }
         ensures room { self.new.room ≡ self.old.room }
     {
-        let count = self.parts.len();
         let group = k / GROUP + 1;
-        add(&mut self.parts, k + 1, count.min(group * GROUP), more);
+        let end = self.parts.len().min(self.free + group * GROUP);
+        add(&mut self.parts, self.free + k + 1, end, more);
         self.bases.add_from(group, more);
     }
 
@@ -178,8 +191,9 @@ impl Starts {
         ensures room { self.old.room ≤ self.new.room }
     {
         let group = k / GROUP;
-        insert_within(&mut self.parts, k, rebased(start, 0, self.bases.get(group)));
-        carry_up(&mut self.parts, &self.bases, group + 1);
+        let part = rebased(start, 0, self.bases.get(group));
+        self.free = insert_part(&mut self.parts, self.free, k, part);
+        carry_up(&mut self.parts[self.free..], &self.bases, group + 1);
     }
 
     /// Adds a number at the end, where there is room for it.
@@ -188,7 +202,7 @@ impl Starts {
         ensures items { self.new.items ≡ self.old.items ++ start ∷ [] }
         ensures room { self.old.room ≤ self.new.room }
     {
-        let end = self.parts.len();
+        let end = self.len();
         self.insert(end, start);
     }
 
@@ -198,8 +212,8 @@ impl Starts {
         ensures items { self.new.items ≡ remove self.old.items k }
         ensures room { self.new.room ≡ self.old.room }
     {
-        self.parts.remove(k);
-        carry_down(&mut self.parts, &self.bases, k / GROUP);
+        self.parts.remove(self.free + k);
+        carry_down(&mut self.parts[self.free..], &self.bases, k / GROUP);
     }
 
     /// Makes room for further numbers. `Err`: memory ran out.
@@ -210,15 +224,17 @@ impl Starts {
         ensures ok { OnOk result (length self.old.items + more ≤ self.new.room) }
     {
         self.parts.reserve(more)?;
-        let groups = (self.parts.len() + more).div_ceil(GROUP);
+        self.free = free_front(&mut self.parts, self.free);
+        let groups = (self.len() + more).div_ceil(GROUP);
         self.bases.extend(groups)
     }
 
     /// Takes out all numbers.
     pub(crate) fn clear(&mut self)
         ensures items { self.new.items ≡ [] }
-        ensures room { self.new.room ≡ self.old.room }
+        ensures room { self.old.room ≤ self.new.room }
     {
+        self.free = 0;
         self.parts.clear();
     }
 }
@@ -228,6 +244,50 @@ pub(crate) fn choose(first: bool, one: usize, other: usize) -> usize
     ensures { result ≡ (if first then one else other) }
 {
     if first { one } else { other }
+}
+
+/// Puts a part in at a place behind the free ones, and tells how many are free then: none less if the parts behind it are
+/// moved, and one less if those in front of it are, which it does if they are fewer.
+fn insert_part(parts: &mut Vec<usize>, free: usize, k: usize, part: usize) -> usize
+    requires within { free + k ≤ vec_len parts.old }
+    requires room { vec_len parts.old < vec_capacity parts.old }
+    ensures items { drop result parts.new.items ≡ insert (drop free parts.old.items) k part }
+    ensures free { result ≤ free }
+    ensures len { vec_len parts.new + free ≡ vec_len parts.old + result + 1 }
+    ensures capacity { vec_capacity parts.old ≤ vec_capacity parts.new }
+{
+    if free == 0 || parts.len() - free < 2 * k {
+        insert_within(parts, free + k, part);
+        return free;
+    }
+    parts.copy_within(free..free + k, free - 1);
+    parts[free + k - 1] = part;
+    free - 1
+}
+
+/// Makes places in front of the parts free, half as many as there are parts, if there is memory; and tells how many are
+/// free. If some are free already, or the parts are few, it does nothing.
+fn free_front(parts: &mut Vec<usize>, free: usize) -> usize
+    requires { free ≤ vec_len parts.old }
+    ensures items { drop result parts.new.items ≡ drop free parts.old.items }
+    ensures free { free ≤ result }
+    ensures len { vec_len parts.new + free ≡ vec_len parts.old + result }
+    ensures capacity { vec_capacity parts.old + result ≤ vec_capacity parts.new + free }
+{
+    let count = parts.len();
+    if 0 < free || count < GROUP {
+        return free;
+    }
+    let all = count + count / 2;
+    let unused = parts.capacity() - count;
+    if parts.reserve(unused + count / 2).is_err() {
+        return free;
+    }
+    while parts.len() < all {
+        parts.push_reserved(0);
+    }
+    parts.rotate_right(all - count);
+    all - count
 }
 
 /// What a part beside one base is beside another.
