@@ -26,7 +26,7 @@ const SHAPELESS: [&[&str]; 9] = [
     &["Serve", "t.ec"],
 ];
 
-/// What stands behind `soak` without a shape.
+/// Words behind `soak` that name no numbers of lines and of a seed.
 const UNSOAKED: [&[&str]; 13] = [
     &["soak", "1"],
     &["soak", "0", "1"],

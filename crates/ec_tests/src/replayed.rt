@@ -1,5 +1,5 @@
 //! Files of lines that are replayed.
-use crate::limits::text_of;
+use crate::limits::{Piece, text_of};
 use crate::whole::{Outcome, folder_with_lines, ran_over, sink, source, wide_sink};
 use ec_terms::NoMemory;
 use std::alloc::Global;
@@ -175,10 +175,13 @@ fn a_replay_tells_what_fails(rt: HostRuntime) -> Result<(), Fail> {
     Ok(())
 }
 
-/// How many spaces the file of lines has, the status and what is written.
-const LENGTHS: [(usize, u8, &[u8]); 2] = [
-    (67_108_864, 0, b"refused long-line\n"),
-    (67_108_865, 9, b""),
+/// So many spaces.
+const SPACES_64: &[u8] = b"                                                                ";
+
+/// The spaces that the file of lines has, the status and what is written.
+const LENGTHS: [(&[Piece], u8, &[u8]); 2] = [
+    (&[(1_048_576, SPACES_64)], 0, b"refused long-line\n"),
+    (&[(1_048_576, SPACES_64), (1, b" ")], 9, b""),
 ];
 
 /// Whether a replay of a file of lines comes to a status and these bytes.
@@ -191,9 +194,9 @@ fn replays(alloc: Global, lines: &[u8], status: u8, written: &[u8]) -> Result<bo
 
 #[test]
 fn the_file_of_lines_has_a_limit(rt: HostRuntime) -> Result<(), Fail> {
-    for (length, code, written) in &LENGTHS {
-        let spaces = text_of(rt.alloc(), &[(*length, b" ".as_slice())])?;
-        assert!(rt; replays(rt.alloc(), &spaces, *code, written)?, "{length}");
+    for (pieces, code, written) in &LENGTHS {
+        let spaces = text_of(rt.alloc(), pieces)?;
+        assert!(rt; replays(rt.alloc(), &spaces, *code, written)?, "{code}");
     }
     Ok(())
 }
