@@ -137,6 +137,22 @@ fn term_of<'a>(rt: &impl Abort, text: &'a [u8]) -> GroundRef<'a>
     term
 }
 
+/// Keeps the term that a text spells, and adds it.
+fn enter_text(
+    rt: &impl Abort,
+    theory: &Theory,
+    props: &mut PropTable,
+    neighbours: &mut Neighbours,
+    text: &str,
+) -> Result<PropId, NoMemory>
+    requires matchable { IsMatchable theory.now }
+    requires neighbours { AreNeighbours theory.now props.old neighbours.old }
+    ensures { OnOk result (AreNeighbours theory.now props.new neighbours.new) }
+{
+    let term = term_of(rt, text.as_bytes());
+    enter(theory, props, neighbours, &term)
+}
+
 /// Keeps the terms of a text, adds them one by one, and gives their numbers.
 fn enter_all(
     rt: &impl Abort,
@@ -152,8 +168,7 @@ fn enter_all(
 {
     let mut ids = Vec::new(alloc);
     for text in terms.split_whitespace() {
-        let term = term_of(rt, text.as_bytes());
-        let p = enter(theory, props, neighbours, &term)?;
+        let p = enter_text(rt, theory, props, neighbours, text)?;
         ids.push(p)?;
     }
     Ok(ids)

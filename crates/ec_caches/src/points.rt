@@ -74,10 +74,15 @@ fn has_marks<M: MarkRow<Tick>>(points: &Points<Tick, M>, p: usize, marks: &[(i64
     true
 }
 
+/// Whether a property is current at a time.
+fn is_current_at<C: Current<Tick>>(table: &C, p: usize, at: i64) -> bool {
+    table.current(PropId(p), Tick(at))
+}
+
 /// Whether a property is current at these times just as they say.
 fn is_current<C: Current<Tick>>(table: &C, p: usize, times: &[(i64, bool)]) -> bool {
     for (at, current) in times {
-        if table.current(PropId(p), Tick(*at)) != *current {
+        if is_current_at(table, p, *at) != *current {
             return false;
         }
     }
