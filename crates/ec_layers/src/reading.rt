@@ -75,11 +75,16 @@ fn reads_each_name(rt: HostRuntime) {
     }
 }
 
+/// Whether a text is this number.
+fn is_number(text: &str, number: usize) -> bool {
+    text.parse::<usize>() == Ok(number)
+}
+
 /// Whether the number that is read in front has this length and this value, or there is none.
 fn reads_int(bytes: &[u8], wanted: &str) -> bool {
     match (read_int(bytes), wanted.split_once(' ')) {
         (Some((number, count)), Some((length, value))) => {
-            length.parse::<usize>() == Ok(count) && value.parse::<i64>() == Ok(number)
+            is_number(length, count) && value.parse::<i64>() == Ok(number)
         }
         (None, None) => wanted == "none",
         _ => false,
@@ -103,7 +108,7 @@ fn reads(alloc: Global, bytes: &[u8], wanted: &str) -> bool {
             let Ok(kept) = term.to_ground(alloc) else {
                 return false;
             };
-            length.parse::<usize>() == Ok(count)
+            is_number(length, count)
                 && text(&term).as_str() == canonical
                 && text(&kept.borrow()).as_str() == canonical
         }
@@ -157,17 +162,23 @@ fn terms_are_built_and_borrowed(rt: HostRuntime) {
     };
     assert!(rt; term.args.len() == 3);
     assert!(rt; text(&term.borrow()).as_str() == "on(lamp,-3,high)");
+}
+
+/// The term `on(lamp,-3)`.
+fn shown() -> GroundRef<'static> {
     let mut args = ArgRefs::new();
     args.push(ArgRef::Word(b"lamp"));
     args.push(ArgRef::Int(-3));
-    let shown = GroundRef { name: b"on", args };
-    let copy = shown.copied();
-    assert!(rt; copy.name == b"on".as_slice());
-    assert!(rt; copy.args.len() == 2);
-    assert!(rt;
-        matches!(
-            copy.args.as_slice(),
-            [ArgRef::Word(b"lamp"), ArgRef::Int(-3)]
-        )
-    );
+    GroundRef { name: b"on", args }
+}
+
+/// Whether a term has this name and these arguments.
+fn has_parts(term: &GroundRef<'_>, name: &[u8], args: &[ArgRef<'_>]) -> bool {
+    term.name == name && term.args.as_slice() == args
+}
+
+#[test]
+fn terms_are_copied(rt: HostRuntime) {
+    let copy = shown().copied();
+    assert!(rt; has_parts(&copy, b"on", &[ArgRef::Word(b"lamp"), ArgRef::Int(-3)]));
 }

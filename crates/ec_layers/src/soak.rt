@@ -1,6 +1,7 @@
 //! Generated lines beside those that were made apart from the program, and counted replies.
-use ec_outside::{MemSink, Sink, Source, write_all};
+use ec_outside::{Failed, MemSink, Sink, Source, write_all};
 use ec_soak::{Counts, SoakSource, TallySink, write_summary};
+use std::alloc::Global;
 use std::test::Fail;
 
 /// The lines of seed 0, made apart from the program.
@@ -39,77 +40,102 @@ holds lit(l26) 95278\n\
 holds at(p9,h4) 82178\n\
 assert e6 98641 push(p1,l51)\n";
 
-/// Reads a source to its end into a buffer of this length.
-fn read_all(source: &mut SoakSource, buffer: &mut [u8], into: &mut Vec<u8>) -> Result<(), Fail> {
-    for _ in 0..100_000u32 {
-        let count = source.read(buffer)?;
-        if count == 0 {
-            break;
-        }
-        into.extend_from_slice(&buffer[..count])?;
-    }
-    Ok(())
+/// Reads the next piece of a source, and says how long it is.
+fn read_piece(source: &mut impl Source, buffer: &mut [u8], into: &mut Vec<u8>) -> Option<usize> {
+    let count = source.read(buffer).ok()?;
+    into.extend_from_slice(&buffer[..count]).ok()?;
+    Some(count)
 }
 
-#[test]
-fn a_seed_gives_its_lines_in_pieces_of_any_size(rt: HostRuntime) -> Result<(), Fail> {
+/// All lines of a seed, read to their end into a buffer of this length.
+fn all_lines(alloc: Global, lines: u32, seed: u64, size: usize) -> Option<Vec<u8>> {
+    let mut source = SoakSource::new(lines, seed);
     let mut buffer = [0; 4096];
-    for size in [1, 7, 4096] {
-        for (lines, seed, text) in [
-            (24, 0, SEED_0),
-            (6, 18_446_744_073_709_551_615, LAST_SEED),
-            (0, 5, b"".as_slice()),
-        ] {
-            let mut bytes = Vec::new(rt.alloc());
-            read_all(
-                &mut SoakSource::new(lines, seed),
-                &mut buffer[..size],
-                &mut bytes,
-            )?;
-            assert_eq!(rt; bytes.as_slice(), text);
+    let size = size.min(buffer.len());
+    let mut bytes = Vec::new(alloc);
+    for _ in 0..100_000u32 {
+        if read_piece(&mut source, &mut buffer[..size], &mut bytes)? == 0 {
+            break;
         }
     }
-    Ok(())
+    Some(bytes)
+}
+
+/// How many lines of which seed, and their text.
+const LOADS: [(u32, u64, &[u8]); 3] = [
+    (24, 0, SEED_0),
+    (6, 18_446_744_073_709_551_615, LAST_SEED),
+    (0, 5, b""),
+];
+
+#[test]
+fn a_seed_gives_its_lines_in_pieces_of_any_size(rt: HostRuntime) {
+    for size in [1, 7, 4096] {
+        for (lines, seed, text) in &LOADS {
+            let bytes = all_lines(rt.alloc(), *lines, *seed, size);
+            assert!(rt;
+                bytes.is_some_and(|bytes| bytes.as_slice() == *text),
+                "seed {seed} in pieces of {size}"
+            );
+        }
+    }
+}
+
+/// Replies, the last without a line end.
+const REPLIES: &[u8] =
+    b"ok\nyes\nno\nok\nokay\nrefused duplicate e1\nrefused memory\nrefused memory \n\nlast seen 1\nok";
+
+/// What is counted of them.
+const COUNTED: Counts = Counts {
+    ok: 2,
+    yes: 1,
+    no: 1,
+    refused: 3,
+    bytes: 85,
+    memory: 1,
+};
+
+/// Writes bytes in pieces of this size, and hands on all of them.
+fn write_pieces(sink: &mut impl Sink, bytes: &[u8], size: usize) -> Result<(), Failed> {
+    for piece in bytes.chunks(size.max(1)) {
+        write_all(sink, piece)?;
+    }
+    sink.flush()
 }
 
 #[test]
 fn replies_are_counted_in_pieces_of_any_size(rt: HostRuntime) -> Result<(), Fail> {
-    let replies =
-        b"ok\nyes\nno\nok\nokay\nrefused duplicate e1\nrefused memory\nrefused memory \n\nlast seen 1\nok";
-    let counts = Counts {
-        ok: 2,
-        yes: 1,
-        no: 1,
-        refused: 3,
-        bytes: 85,
-        memory: 1,
-    };
     for size in [1, 7, 4096] {
         let mut sink = TallySink::new();
-        for piece in replies.chunks(size) {
-            write_all(&mut sink, piece)?;
-        }
-        assert_eq!(rt; sink.flush(), Ok(()));
-        assert_eq!(rt; sink.counts(), counts);
+        write_pieces(&mut sink, REPLIES, size)?;
+        assert!(rt; sink.counts() == COUNTED, "pieces of {size}");
     }
     Ok(())
 }
 
+/// Counts whose sum is a long line.
+const LARGE: Counts = Counts {
+    ok: 18_446_744_073_709_551_615,
+    yes: 2,
+    no: 30,
+    refused: 400,
+    bytes: 5000,
+    memory: 6,
+};
+
+/// The line that sums up these counts.
+fn summed_up(alloc: Global, lines: u32, counts: &Counts) -> Result<MemSink, Fail> {
+    let mut sink = MemSink::new(alloc, 160, 7, &[], &[])?;
+    write_summary(lines, counts, &mut sink)?;
+    Ok(sink)
+}
+
 #[test]
 fn a_run_is_summed_up_in_a_line(rt: HostRuntime) -> Result<(), Fail> {
-    let counts = Counts {
-        ok: 18_446_744_073_709_551_615,
-        yes: 2,
-        no: 30,
-        refused: 400,
-        bytes: 5000,
-        memory: 6,
-    };
-    let mut sink = MemSink::new(rt.alloc(), 160, 7, &[], &[])?;
-    write_summary(4_294_967_295, &counts, &mut sink)?;
-    assert_eq!(rt;
-        sink.bytes(),
-        b"soak lines 4294967295 ok 18446744073709551615 yes 2 no 30 refused 400 bytes 5000\n".as_slice()
+    let sink = summed_up(rt.alloc(), 4_294_967_295, &LARGE)?;
+    assert!(rt;
+        sink.bytes()
+            == b"soak lines 4294967295 ok 18446744073709551615 yes 2 no 30 refused 400 bytes 5000\n".as_slice()
     );
     Ok(())
 }

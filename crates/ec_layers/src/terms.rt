@@ -13,6 +13,7 @@ use ec_terms::{
 };
 use std::alloc::Global;
 use std::cmp::Ordering;
+use std::fmt::{Debug, Display};
 use std::process::Abort;
 use std::test::Fail;
 
@@ -254,61 +255,106 @@ fn held(rt: &impl Abort, rule: &Rule, binding: &Binding<'_>) -> bool {
     tests_hold(rule, binding)
 }
 
+/// The same argument, with a name of its own.
+fn owned(rt: &impl Abort, arg: ArgRef<'_>) -> Arg {
+    match arg {
+        ArgRef::Int(number) => Arg::Int(number),
+        ArgRef::Word(bytes) => Arg::Word(name(rt, bytes)),
+    }
+}
+
 /// A side of a test: the variable, or where there is none the argument itself.
 fn side(rt: &impl Abort, arg: ArgRef<'_>, variable: Option<u32>) -> PatArg {
     match variable {
         Some(variable) => PatArg::Var(variable),
-        None => PatArg::Fixed(match arg {
-            ArgRef::Int(number) => Arg::Int(number),
-            ArgRef::Word(bytes) => Arg::Word(name(rt, bytes)),
-        }),
+        None => PatArg::Fixed(owned(rt, arg)),
     }
 }
 
+/// The rule that has this test alone.
+fn rule_of_test(rt: &impl Abort, alloc: Global, test: Test) -> Result<Rule, NoMemory> {
+    let mut tests = Tests::new(alloc);
+    tests.push(test)?;
+    Ok(rule_with(rt, alloc, tests))
+}
+
+/// The variables 0 and 1 with these values.
+fn two_values<'a>(rt: &impl Abort, first: ArgRef<'a>, second: ArgRef<'a>) -> Binding<'a> {
+    assert!(rt; is_named_arg(&first) && is_named_arg(&second));
+    let mut binding = Binding::new();
+    binding.set(0, first);
+    binding.set(1, second);
+    binding
+}
+
+/// The variables that stand for the left and for the right side of a test, where the side is not itself given.
+const VARIABLES: [(Option<u32>, Option<u32>); 4] = [
+    (None, None),
+    (Some(0), None),
+    (None, Some(1)),
+    (Some(0), Some(1)),
+];
+
+/// Whether a comparison of two arguments has this answer, however its sides are given.
+fn compares(
+    rt: &impl Abort,
+    alloc: Global,
+    op: TestOp,
+    sides: (ArgRef<'_>, ArgRef<'_>),
+    answer: bool,
+) -> Result<bool, NoMemory> {
+    let binding = two_values(rt, sides.0, sides.1);
+    for (left, right) in &VARIABLES {
+        let test = Test {
+            op,
+            left: side(rt, sides.0, *left),
+            right: side(rt, sides.1, *right),
+        };
+        if held(rt, &rule_of_test(rt, alloc, test)?, &binding) != answer {
+            return Ok(false);
+        }
+    }
+    Ok(true)
+}
+
+/// The operators of tests.
+const OPERATORS: [TestOp; 4] = [TestOp::Same, TestOp::Differ, TestOp::Less, TestOp::AtMost];
+
 #[test]
 fn a_test_compares_what_its_sides_stand_for(rt: HostRuntime) -> Result<(), Fail> {
-    let operators = [TestOp::Same, TestOp::Differ, TestOp::Less, TestOp::AtMost];
-    let variables = [
-        (None, None),
-        (Some(0), None),
-        (None, Some(1)),
-        (Some(0), Some(1)),
-    ];
-    for (i, (left, right, want)) in COMPARISONS.into_iter().enumerate() {
-        assert!(rt; is_named_arg(&left) && is_named_arg(&right));
-        let mut binding = Binding::new();
-        binding.set(0, left);
-        binding.set(1, right);
-        for (op, want) in operators.into_iter().zip(want) {
-            for (left_variable, right_variable) in variables {
-                let mut tests = Tests::new(rt.alloc());
-                tests.push(Test {
-                    op,
-                    left: side(&rt, left, left_variable),
-                    right: side(&rt, right, right_variable),
-                })?;
-                let rule = rule_with(&rt, rt.alloc(), tests);
-                assert!(rt; held(&rt, &rule, &binding) == want, "{op:?} at {i}");
-            }
+    for (i, (left, right, answers)) in COMPARISONS.iter().enumerate() {
+        for (op, answer) in OPERATORS.iter().zip(answers) {
+            let does = compares(&rt, rt.alloc(), *op, (*left, *right), *answer)?;
+            assert!(rt; does, "{op:?} at {i}");
         }
     }
     Ok(())
+}
+
+/// A test that holds or not.
+fn test_that(holds: bool) -> Test {
+    Test {
+        op: if holds { TestOp::Same } else { TestOp::Differ },
+        left: PatArg::Fixed(Arg::Int(4)),
+        right: PatArg::Fixed(Arg::Int(4)),
+    }
+}
+
+/// Whether the tests of a rule hold, of which each holds or not.
+fn all_hold(rt: &impl Abort, alloc: Global, each: &[bool]) -> Result<bool, NoMemory> {
+    let mut tests = Tests::new(alloc);
+    for holds in each {
+        tests.push(test_that(*holds))?;
+    }
+    Ok(held(rt, &rule_with(rt, alloc, tests), &Binding::new()))
 }
 
 #[test]
 fn all_tests_of_a_rule_have_to_hold(rt: HostRuntime) -> Result<(), Fail> {
     for first in [false, true] {
         for second in [false, true] {
-            let mut tests = Tests::new(rt.alloc());
-            for holds in [first, second] {
-                tests.push(Test {
-                    op: if holds { TestOp::Same } else { TestOp::Differ },
-                    left: PatArg::Fixed(Arg::Int(4)),
-                    right: PatArg::Fixed(Arg::Int(4)),
-                })?;
-            }
-            let rule = rule_with(&rt, rt.alloc(), tests);
-            assert!(rt; held(&rt, &rule, &Binding::new()) == (first && second));
+            let holds = all_hold(&rt, rt.alloc(), &[first, second])?;
+            assert!(rt; holds == (first && second), "{first} and {second}");
         }
     }
     Ok(())
@@ -319,28 +365,46 @@ fn the_last_member_of_a_list_is_taken_out(rt: HostRuntime) -> Result<(), Fail> {
     let mut members = Sequence::new(rt.alloc());
     members.push(4u8)?;
     members.push(7)?;
-    assert_eq!(rt; members.pop(), Some(7));
-    assert_eq!(rt; members.pop(), Some(4));
-    assert_eq!(rt; members.pop(), None);
+    for last in [Some(7), Some(4), None] {
+        assert!(rt; members.pop() == last, "{last:?}");
+    }
     Ok(())
+}
+
+/// Whether a value is displayed so.
+fn displays(alloc: Global, value: &impl Display, wanted: &str) -> bool {
+    match format!(in alloc; "{value}") {
+        Ok(shown) => shown.as_str() == wanted,
+        Err(_) => false,
+    }
+}
+
+/// Whether a value is shown so for a developer.
+fn debugs(alloc: Global, value: &impl Debug, wanted: &str) -> bool {
+    match format!(in alloc; "{value:?}") {
+        Ok(shown) => shown.as_str() == wanted,
+        Err(_) => false,
+    }
 }
 
 #[test]
 fn each_printed_form(rt: HostRuntime) -> Result<(), Fail> {
+    let alloc = rt.alloc();
     let lamp = name(&rt, b"lamp");
-    let shown = format!(in rt.alloc();
-        "{lamp} {lamp:?} {NoMemory} {:?} {:?} {:?}",
-        PropId(3),
-        Slot(4),
-        Kind::Initiates
-    )?;
-    assert_eq!(rt;
-        shown.as_str(),
-        "lamp \"lamp\" out of memory PropId(3) Slot(4) Initiates"
-    );
+    assert!(rt; displays(alloc, &lamp, "lamp"));
+    assert!(rt; debugs(alloc, &lamp, "\"lamp\""));
+    assert!(rt; displays(alloc, &NoMemory, "out of memory"));
+    assert!(rt; debugs(alloc, &PropId(3), "PropId(3)"));
+    assert!(rt; debugs(alloc, &Slot(4), "Slot(4)"));
+    assert!(rt; debugs(alloc, &Kind::Initiates, "Initiates"));
+    Ok(())
+}
+
+#[test]
+fn the_printed_form_of_a_term(rt: HostRuntime) -> Result<(), Fail> {
     let (whole, _) = read_ground(b"lamp(-5)").ok_or("a term")?;
     let text = text(&whole);
-    let shown = format!(in rt.alloc(); "{text} {text:?}")?;
-    assert_eq!(rt; shown.as_str(), "lamp(-5) \"lamp(-5)\"");
+    assert!(rt; displays(rt.alloc(), &text, "lamp(-5)"));
+    assert!(rt; debugs(rt.alloc(), &text, "\"lamp(-5)\""));
     Ok(())
 }
