@@ -6,7 +6,7 @@ use ec_axioms::{Current, Event, Steps};
 use ec_context::{Entry, EntryList, EntryLiteral, Rules, entries_of, evaluate};
 use ec_moment::Tick;
 use ec_props::PropTable;
-use ec_terms::{Kind, Name, NoMemory, PropId, read_ground};
+use ec_terms::{Ground, Kind, Name, NoMemory, PropId, read_ground};
 use ec_theory::accept;
 use std::alloc::Global;
 use std::marker::Brand;
@@ -37,12 +37,24 @@ push(bob) =>
 ring =>
 ";
 
-fn event(rt: &impl Abort, alloc: Global, spelt: &[u8]) -> Result<Event<Tick>, NoMemory> {
+/// The term of a text.
+fn term_of(rt: &impl Abort, alloc: Global, spelt: &[u8]) -> Result<Ground, NoMemory> {
     let (term, _) = read_ground(spelt).expect(rt, "a term");
+    term.to_ground(alloc)
+}
+
+/// The identity of each event.
+fn identity(rt: &impl Abort) -> Name {
+    Name::from_bytes(b"e").expect(rt, "a name")
+}
+
+/// The event whose term is that of a text.
+fn event(rt: &impl Abort, alloc: Global, spelt: &[u8]) -> Result<Event<Tick>, NoMemory> {
+    let term = term_of(rt, alloc, spelt)?;
     Ok(Event {
-        id: Name::from_bytes(b"e").expect(rt, "a name"),
+        id: identity(rt),
         at: Tick(10),
-        term: term.to_ground(alloc)?,
+        term,
     })
 }
 
@@ -124,6 +136,20 @@ fn are_entries(rt: &impl Abort, props: &PropTable, found: &[Entry], wanted: &str
     found.len() == count_of(wanted, "; ")
 }
 
+/// Whether the event of a text has the entries that are wanted.
+fn row_stands(
+    rt: &impl Abort,
+    alloc: Global,
+    rules: &Rules,
+    row: (&str, &str),
+    props: &mut PropTable,
+) -> Result<bool, NoMemory> {
+    let (spelt, wanted) = row;
+    let event = event(rt, alloc, spelt.as_bytes())?;
+    let found = entries(rt, alloc, rules, &event, props)?;
+    Ok(are_entries(rt, props, found.as_slice(), wanted))
+}
+
 /// Whether each event of a table has the entries that are wanted, all kept in one table of so many properties.
 fn rows_stand(
     rt: &impl Abort,
@@ -134,12 +160,9 @@ fn rows_stand(
 ) -> Result<bool, NoMemory> {
     let mut props = PropTable::new(alloc)?;
     for line in table.lines() {
-        let Some((spelt, wanted)) = row_of(line) else {
-            continue;
-        };
-        let event = event(rt, alloc, spelt.as_bytes())?;
-        let found = entries(rt, alloc, rules, &event, &mut props)?;
-        assert!(rt; are_entries(rt, &props, found.as_slice(), wanted), "{line}");
+        if let Some(row) = row_of(line) {
+            assert!(rt; row_stands(rt, alloc, rules, row, &mut props)?, "{line}");
+        }
     }
     Ok(props.len() == count)
 }

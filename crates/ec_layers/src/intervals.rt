@@ -152,6 +152,12 @@ fn marks_of(rt: &impl Abort, alloc: Global, spelt: &str) -> Result<Vec<Given>, N
     Ok(marks)
 }
 
+/// The begin and the end that are spelt as `5..10`.
+fn pair_of(rt: &impl Abort, spelt: &str) -> (Option<i64>, Option<i64>) {
+    let (from, until) = spelt.split_once("..").expect(rt, "a pair");
+    (time_of(from), time_of(until))
+}
+
 /// The begins and ends that are spelt as `5..10 20..inf`.
 fn pairs_of(
     rt: &impl Abort,
@@ -160,8 +166,7 @@ fn pairs_of(
 ) -> Result<Vec<(Option<i64>, Option<i64>)>, NoMemory> {
     let mut pairs = Vec::new(alloc);
     for pair in spelt.split_whitespace() {
-        let (from, until) = pair.split_once("..").expect(rt, "a pair");
-        pairs.push((time_of(from), time_of(until)))?;
+        pairs.push(pair_of(rt, pair))?;
     }
     Ok(pairs)
 }
@@ -221,6 +226,27 @@ fn has_broken<M: MarkRow<Tick>>(
     broken_after(row, strong, initial, after).is_none()
 }
 
+/// The intervals that a row of marks spells, rebuilt over those of the other kind of property.
+fn rebuilt_over_others(
+    alloc: Global,
+    row: &VecMarks<Tick>,
+    strong: bool,
+    initial: bool,
+) -> Result<Intervals<Tick, VecSpans<Tick>>, NoMemory> {
+    let mut intervals = Intervals::new(alloc);
+    rebuild(&mut intervals, P, row, !strong, true)?;
+    rebuild(&mut intervals, P, row, strong, initial)?;
+    Ok(intervals)
+}
+
+/// Whether a property has these intervals, and the last begins that follow from them.
+fn has_wanted(
+    intervals: &Intervals<Tick, VecSpans<Tick>>,
+    wanted: &[(Option<i64>, Option<i64>)],
+) -> bool {
+    has_members(intervals, wanted) && has_last_begins(intervals, wanted)
+}
+
 /// Whether marks spell these intervals and these broken begins.
 fn spells(
     alloc: Global,
@@ -231,14 +257,8 @@ fn spells(
     broken: &[(Option<i64>, Option<i64>)],
 ) -> Result<bool, NoMemory> {
     let row: VecMarks<Tick> = mark_row(alloc, marks)?;
-    let mut intervals: Intervals<Tick, VecSpans<Tick>> = Intervals::new(alloc);
-    rebuild(&mut intervals, P, &row, !strong, true)?;
-    rebuild(&mut intervals, P, &row, strong, initial)?;
-    Ok(
-        has_members(&intervals, wanted)
-            && has_last_begins(&intervals, wanted)
-            && has_broken(&row, strong, initial, broken),
-    )
+    let intervals = rebuilt_over_others(alloc, &row, strong, initial)?;
+    Ok(has_wanted(&intervals, wanted) && has_broken(&row, strong, initial, broken))
 }
 
 /// The kind of a property and its marks, each with its time and its counts of starts, ends and clashes; the intervals and, behind
@@ -291,8 +311,44 @@ fn have_same_members<I: SpanRow<Tick>>(
     true
 }
 
+/// Three marks whose kinds are the digits of a number.
+fn three_marks(kinds: usize) -> [Given; 3] {
+    let kind = |digit: usize| KINDS[digit % 6];
+    let (a, b, c) = (kind(kinds), kind(kinds / 6), kind(kinds / 36));
+    [(1, a.0, a.1, a.2), (3, b.0, b.1, b.2), (5, c.0, c.1, c.2)]
+}
+
+/// The intervals that a row of marks spells.
+fn rebuilt(
+    alloc: Global,
+    row: &VecMarks<Tick>,
+    strong: bool,
+    initial: bool,
+) -> Result<Intervals<Tick, VecSpans<Tick>>, NoMemory> {
+    let mut intervals = Intervals::new(alloc);
+    rebuild(&mut intervals, P, row, strong, initial)?;
+    Ok(intervals)
+}
+
+/// The intervals that a row of marks spells, mended by one more mark that is put into it. A mark with no count changes
+/// nothing.
+fn mended(
+    alloc: Global,
+    row: &mut VecMarks<Tick>,
+    mark: Mark<Tick>,
+    strong: bool,
+    initial: bool,
+) -> Result<Intervals<Tick, VecSpans<Tick>>, NoMemory> {
+    let mut intervals = Intervals::new(alloc);
+    rebuild(&mut intervals, P, row, strong, initial)?;
+    if is_counted(mark) {
+        mend(&mut intervals, row, strong, initial, mark)?;
+    }
+    Ok(intervals)
+}
+
 /// Whether a row of three marks whose kinds are the digits of a number, mended by one more mark, has the intervals of
-/// the row rebuilt. A mark with no count changes nothing.
+/// the row rebuilt.
 fn is_mended(
     alloc: Global,
     kinds: usize,
@@ -300,19 +356,9 @@ fn is_mended(
     strong: bool,
     initial: bool,
 ) -> Result<bool, NoMemory> {
-    let kind = |digit: usize| KINDS[digit % 6];
-    let (a, b, c) = (kind(kinds), kind(kinds / 6), kind(kinds / 36));
-    let marks = [(1, a.0, a.1, a.2), (3, b.0, b.1, b.2), (5, c.0, c.1, c.2)];
-    let mut row: VecMarks<Tick> = mark_row(alloc, &marks)?;
-    let mut intervals: Intervals<Tick, VecSpans<Tick>> = Intervals::new(alloc);
-    rebuild(&mut intervals, P, &row, strong, initial)?;
-    let mark = mark(given);
-    if !is_counted(mark) {
-        return Ok(true);
-    }
-    mend(&mut intervals, &mut row, strong, initial, mark)?;
-    let mut wanted: Intervals<Tick, VecSpans<Tick>> = Intervals::new(alloc);
-    rebuild(&mut wanted, P, &row, strong, initial)?;
+    let mut row: VecMarks<Tick> = mark_row(alloc, &three_marks(kinds))?;
+    let intervals = mended(alloc, &mut row, mark(given), strong, initial)?;
+    let wanted = rebuilt(alloc, &row, strong, initial)?;
     Ok(have_same_members(&intervals, &wanted))
 }
 

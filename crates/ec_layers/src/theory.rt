@@ -73,6 +73,12 @@ fn said(alloc: Global, bytes: &[u8]) -> Result<String, AllocError> {
     }
 }
 
+/// Whether this is said of a text.
+fn is_said(alloc: Global, text: &str, wanted: &str) -> Result<bool, AllocError> {
+    let answer = said(alloc, text.as_bytes())?;
+    Ok(answer.as_str() == wanted)
+}
+
 const LIGHTS: &str = "initiates push(P,L) lit(L) if powered(L), not lit(L).
 terminates push(P,L) lit(L) if lit(L).
 initiates plug(L) powered(L).
@@ -151,8 +157,8 @@ fn play(rt: &impl Abort, alloc: Global, table: &str) -> Result<(), Fail> {
 #[test]
 fn texts(rt: HostRuntime) -> Result<(), Fail> {
     for whole in [LIGHTS, LENDING] {
-        let answer = said(rt.alloc(), whole.as_bytes())?;
-        assert_eq!(rt; answer.as_str(), "accepted rules 7 exclusives 1 strongs 0");
+        let holds = is_said(rt.alloc(), whole, "accepted rules 7 exclusives 1 strongs 0")?;
+        assert!(rt; holds, "{whole}");
     }
     play(&rt, rt.alloc(), TEXTS)
 }
@@ -226,22 +232,24 @@ fn limits(rt: HostRuntime) -> Result<(), Fail> {
     play(&rt, rt.alloc(), LIMITS)
 }
 
+/// The text of 1,024 rules over 16 events with 64 rules each.
+fn rules_over_events(alloc: Global) -> Result<String, AllocError> {
+    let mut text = String::new(alloc);
+    for i in 0..1024u32 {
+        let event = i / 64;
+        let rule = format!(in alloc; "initiates e{event} p.\n")?;
+        text.push_str(rule.as_str())?;
+    }
+    Ok(text)
+}
+
 /// 1,025 rules over 17 events with at most 64 rules each, and one less.
 #[test]
 fn many_rules(rt: HostRuntime) -> Result<(), Fail> {
-    let mut text = String::new(rt.alloc());
-    for i in 0..1024u32 {
-        let event = i / 64;
-        let rule = format!(in rt.alloc(); "initiates e{event} p.\n")?;
-        text.push_str(rule.as_str())?;
-    }
-    let answer = said(rt.alloc(), text.as_bytes())?;
-    assert_eq!(rt;
-        answer.as_str(),
-        "accepted rules 1024 exclusives 0 strongs 0"
-    );
+    let mut text = rules_over_events(rt.alloc())?;
+    let accepted = "accepted rules 1024 exclusives 0 strongs 0";
+    assert!(rt; is_said(rt.alloc(), text.as_str(), accepted)?);
     text.push_str("initiates last p.")?;
-    let answer = said(rt.alloc(), text.as_bytes())?;
-    assert_eq!(rt; answer.as_str(), "theory 1025 many-rules");
+    assert!(rt; is_said(rt.alloc(), text.as_str(), "theory 1025 many-rules")?);
     Ok(())
 }
