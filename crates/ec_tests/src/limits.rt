@@ -1,8 +1,7 @@
 //! Theories and lines at each of their limits, and one over it.
-use crate::whole::{checks, serves};
+use crate::whole::{ran, serves};
 use ec_terms::NoMemory;
 use std::alloc::Global;
-use std::process::Abort;
 use std::test::Fail;
 
 /// A piece of a text, and how often it stands there.
@@ -29,19 +28,7 @@ initiates m h. initiates n h. initiates o h. initiates p h. initiates q h.
 const FOUR_RULES: &[u8] = b"initiates a h. initiates b h. initiates c h. initiates d h.\n";
 
 /// The pieces of a theory, the status of `check`, and its line.
-type Checked = (&'static [Piece], u8, &'static [u8]);
-
-/// Checks theories, and stops at the first that `check` tells otherwise of.
-fn check_all(rt: &impl Abort, alloc: Global, theories: &[Checked]) -> Result<(), NoMemory> {
-    for (pieces, code, line) in theories {
-        let theory = text_of(alloc, pieces)?;
-        assert!(rt; checks(alloc, &theory, *code, line)?, "{line:?}");
-    }
-    Ok(())
-}
-
-/// Numbers of clauses.
-const CLAUSES: [Checked; 12] = [
+const THEORIES: [(&[Piece], u8, &[u8]); 36] = [
     // rules
     (
         &[(60, SEVENTEEN_RULES), (1, FOUR_RULES)],
@@ -116,22 +103,6 @@ const CLAUSES: [Checked; 12] = [
         3,
         b"theory 1345 many-event-rules\n",
     ),
-    // initial properties, beside others
-    (
-        &[(1_024, b"initially p.\n"), (256, b"exclusive a b.\n")],
-        0,
-        b"accepted rules 0 exclusives 256 strongs 0 initials 1024\n",
-    ),
-];
-
-#[test]
-fn the_clauses_of_a_theory_have_limits(rt: HostRuntime) -> Result<(), Fail> {
-    check_all(&rt, rt.alloc(), &CLAUSES)?;
-    Ok(())
-}
-
-/// Numbers of tests, literals and variables.
-const BODIES: [Checked; 8] = [
     // tests and literals of a rule
     (
         &[(1, b"initiates e h if 1 = 1"), (15, b", 1 = 1"), (1, b".")],
@@ -185,16 +156,6 @@ const BODIES: [Checked; 8] = [
         3,
         b"theory 1 many-variables\n",
     ),
-];
-
-#[test]
-fn tests_literals_and_variables_have_limits(rt: HostRuntime) -> Result<(), Fail> {
-    check_all(&rt, rt.alloc(), &BODIES)?;
-    Ok(())
-}
-
-/// Numbers of arguments.
-const ARGUMENTS: [Checked; 6] = [
     // arguments of a term
     (
         &[(1, b"initiates e(A,B,C,D,E,F,G,H) h(A,A,A,A,A,A,A,A).")],
@@ -226,16 +187,6 @@ const ARGUMENTS: [Checked; 6] = [
         0,
         b"accepted rules 0 exclusives 0 strongs 1\n",
     ),
-];
-
-#[test]
-fn the_arguments_of_a_term_have_limits(rt: HostRuntime) -> Result<(), Fail> {
-    check_all(&rt, rt.alloc(), &ARGUMENTS)?;
-    Ok(())
-}
-
-/// Lengths of names, and numbers.
-const NAMES: [Checked; 10] = [
     // bytes of a name and of a variable
     (
         &[(1, b"initiates "), (64, b"a"), (1, b" b.")],
@@ -288,11 +239,22 @@ const NAMES: [Checked; 10] = [
         3,
         b"theory 1 13 number\n",
     ),
+    // initial properties, beside others
+    (
+        &[(1_024, b"initially p.\n"), (256, b"exclusive a b.\n")],
+        0,
+        b"accepted rules 0 exclusives 256 strongs 0 initials 1024\n",
+    ),
 ];
 
 #[test]
-fn names_and_numbers_of_a_theory_have_limits(rt: HostRuntime) -> Result<(), Fail> {
-    check_all(&rt, rt.alloc(), &NAMES)?;
+fn theories_have_limits(rt: HostRuntime) -> Result<(), Fail> {
+    for (pieces, code, line) in THEORIES {
+        let theory = text_of(rt.alloc(), pieces)?;
+        let (status, output) = ran(rt.alloc(), &["check", "t.ec"], &theory, b"", 4_096)?;
+        assert_eq!(rt; status, code);
+        assert_eq!(rt; output.bytes(), line);
+    }
     Ok(())
 }
 
@@ -346,13 +308,10 @@ const LINES: [(&[Piece], &[u8]); 14] = [
 
 #[test]
 fn names_terms_and_numbers_of_lines_have_limits(rt: HostRuntime) -> Result<(), Fail> {
-    for (pieces, replies) in &LINES {
+    for (pieces, replies) in LINES {
         let lines = text_of(rt.alloc(), pieces)?;
         for most in [1, 4_096] {
-            assert!(rt;
-                serves(rt.alloc(), b"", &lines, most, 0, replies)?,
-                "{replies:?}"
-            );
+            assert!(rt; serves(rt.alloc(), b"", &lines, most, 0, replies)?);
         }
     }
     Ok(())

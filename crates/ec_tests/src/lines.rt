@@ -1,10 +1,6 @@
 //! Lines and their replies.
-use crate::limits::text_of;
 use crate::texts::{LAMP, LAMPS};
 use crate::whole::serves;
-use ec_terms::NoMemory;
-use std::alloc::Global;
-use std::process::Abort;
 use std::test::Fail;
 
 const NOTHING: &[u8] = b"";
@@ -70,7 +66,7 @@ const RUNS: [(&[u8], &[u8], &[u8]); 11] = [
 
 #[test]
 fn lines_have_their_replies_in_whatever_pieces_they_come(rt: HostRuntime) -> Result<(), Fail> {
-    for (theory, lines, replies) in &RUNS {
+    for (theory, lines, replies) in RUNS {
         for most in [1, 2, 3, 7, 4_096] {
             assert!(rt; serves(rt.alloc(), theory, lines, most, 0, replies)?);
         }
@@ -89,11 +85,8 @@ fn a_cut_at_any_place_changes_nothing(rt: HostRuntime) -> Result<(), Fail> {
     Ok(())
 }
 
-/// A line that is refused, or silent, and what is written.
-type Bad = (&'static [u8], &'static [u8]);
-
-/// Prefixes, comments and blanks.
-const PREFIXES: [Bad; 15] = [
+/// Lines that are refused, or silent, and what is written.
+const BAD: [(&[u8], &[u8]); 30] = [
     (b"@64 last", b"refused syntax\n"),
     (b"@", b"refused syntax\n"),
     (b"@ last", b"refused syntax\n"),
@@ -109,10 +102,6 @@ const PREFIXES: [Bad; 15] = [
     (b"%", b""),
     (b" %last", b""),
     (b"\t", b""),
-];
-
-/// Commands, and bytes that no command has.
-const COMMANDS: [Bad; 15] = [
     (b"last now", b"refused syntax\n"),
     (b"retract", b"refused syntax\n"),
     (b"retract Z", b"refused syntax\n"),
@@ -133,23 +122,11 @@ const COMMANDS: [Bad; 15] = [
     (b"\x0bretract z", b"refused syntax\n"),
 ];
 
-/// Serves each line, and stops at the first that something else is written for.
-fn serve_all(rt: &impl Abort, alloc: Global, lines: &[Bad]) -> Result<(), NoMemory> {
-    for (line, reply) in lines {
-        assert!(rt; serves(alloc, LAMPS, line, 4_096, 0, reply)?, "{line:?}");
+#[test]
+fn bad_lines_are_refused_and_silent_ones_are_not_answered(rt: HostRuntime) -> Result<(), Fail> {
+    for (line, reply) in BAD {
+        assert!(rt; serves(rt.alloc(), LAMPS, line, 4_096, 0, reply)?);
     }
-    Ok(())
-}
-
-#[test]
-fn prefixes_are_refused_and_silent_lines_are_not_answered(rt: HostRuntime) -> Result<(), Fail> {
-    serve_all(&rt, rt.alloc(), &PREFIXES)?;
-    Ok(())
-}
-
-#[test]
-fn bad_commands_are_refused(rt: HostRuntime) -> Result<(), Fail> {
-    serve_all(&rt, rt.alloc(), &COMMANDS)?;
     Ok(())
 }
 
@@ -179,11 +156,13 @@ const LONG: [(&[u8], usize, &[u8], &[u8]); 9] = [
 
 #[test]
 fn a_line_of_more_than_4096_bytes_is_long(rt: HostRuntime) -> Result<(), Fail> {
-    for (start, spaces, end, reply) in &LONG {
-        let line = text_of(
-            rt.alloc(),
-            &[(1, *start), (*spaces, b" ".as_slice()), (1, *end)],
-        )?;
+    for (start, spaces, end, reply) in LONG {
+        let mut line = Vec::new(rt.alloc());
+        line.extend_from_slice(start)?;
+        for _ in 0..spaces {
+            line.push(b' ')?;
+        }
+        line.extend_from_slice(end)?;
         for most in [1, 4_096] {
             assert!(rt; serves(rt.alloc(), LAMPS, &line, most, 0, reply)?);
         }

@@ -220,7 +220,7 @@ const COMMITS: [(&str, &str, &str); 2] = [
 
 #[test]
 fn a_full_draft_takes_no_line_and_is_committed_whole(rt: HostRuntime) -> Result<(), Fail> {
-    for (line, committed, last) in &COMMITS {
+    for (line, committed, last) in COMMITS {
         let mut script = Script::new(rt.alloc());
         script.add("begin", "ok")?;
         for k in 1..=1_023 {
