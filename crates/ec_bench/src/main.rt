@@ -11,6 +11,8 @@ mod draws;
 mod insertions;
 mod neighbours;
 mod sizes;
+#[cfg(test)]
+mod tests;
 
 use anyhow::{Context, Result, bail};
 use insertions::{Place, checksum, filled};
