@@ -11,8 +11,6 @@ mod draws;
 mod insertions;
 mod neighbours;
 mod sizes;
-#[cfg(test)]
-mod tests;
 
 use anyhow::{Context, Result, bail};
 use insertions::{Place, checksum, filled};
