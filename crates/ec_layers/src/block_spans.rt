@@ -87,24 +87,26 @@ fn is_row(spans: &[Span<Tick>]) -> bool
     true
 }
 
-/// Puts spans in place of those of a row from one place up to another, if what comes of it is a row of spans.
+/// Puts spans in place of those of a row from one place up to another, if what comes of it is a row of spans, and tells
+/// whether it is.
 fn splice_row<S: SpanRow<Tick>>(
     alloc: Global,
     row: &mut S,
     from: usize,
     to: usize,
     with: &[Span<Tick>],
-) -> Result<(), NoMemory> {
+) -> Result<bool, NoMemory> {
     let spans = spans_of(alloc, row)?;
     if to < from || spans.len() < to {
-        return Ok(());
+        return Ok(false);
     }
     let wanted = spliced(alloc, &spans, from, to, with)?;
-    if is_row(&wanted) {
-        row.reserve(with.len())?;
-        row.splice(from, to, with);
+    if !is_row(&wanted) {
+        return Ok(false);
     }
-    Ok(())
+    row.reserve(with.len())?;
+    row.splice(from, to, with);
+    Ok(true)
 }
 
 /// A span of five ticks.
@@ -115,20 +117,22 @@ fn short(from: i64) -> Span<Tick> {
     }
 }
 
-/// Puts up to three spans from some time on in place of up to two, in both rows.
+/// Puts up to three spans in place of those that begin within fifty ticks, in both rows, and tells whether both could be spliced.
 fn splice_both<A: SpanRow<Tick>, B: SpanRow<Tick>>(
     alloc: Global,
     draws: &mut Draws,
     a: &mut A,
     b: &mut B,
-) -> Result<(), NoMemory> {
-    let at = draws.draw(100_000) as i64;
+) -> Result<bool, NoMemory> {
+    let at = draws.draw(200) as i64 * 50;
     let spans = [short(at), short(at + 5), short(at + 20)];
     let count = draws.draw(4) as usize;
     let from = a.count_before(Tick(at));
-    let to = from.saturating_add(draws.draw(3) as usize);
-    splice_row(alloc, a, from, to, &spans[..count])?;
-    splice_row(alloc, b, from, to, &spans[..count])
+    let to = a.count_before(Tick(at + 50));
+    Ok(
+        splice_row(alloc, a, from, to, &spans[..count])?
+            && splice_row(alloc, b, from, to, &spans[..count])?,
+    )
 }
 
 /// Whether the spans of two rows are the same.
@@ -150,12 +154,11 @@ fn go_the_same_way<A: SpanRow<Tick>, B: SpanRow<Tick>>(alloc: Global) -> Result<
     let mut a = A::new(alloc)?;
     let mut b = B::new(alloc)?;
     for _ in 0..500 {
-        splice_both(alloc, &mut draws, &mut a, &mut b)?;
-        if !are_same(&a, &b) {
+        if !splice_both(alloc, &mut draws, &mut a, &mut b)? || !are_same(&a, &b) {
             return Ok(false);
         }
     }
-    Ok(100 < a.len())
+    Ok(128 < a.len()) // more than one block
 }
 
 #[test]

@@ -78,7 +78,7 @@ fn go_the_same_way<A: TimeRow<Tick>, B: TimeRow<Tick>>(alloc: Global) -> Result<
             return Ok(false);
         }
     }
-    Ok(100 < a.len())
+    Ok(128 < a.len()) // more than one block
 }
 
 #[test]

@@ -45,13 +45,14 @@ fn are_same<A: MarkRow<Tick>, B: MarkRow<Tick>>(a: &A, b: &B) -> bool {
     true
 }
 
-/// Puts a mark in both rows, or takes one out of both.
+/// Puts a mark in both rows, or takes the one at a place out of both.
 fn change<A: MarkRow<Tick>, B: MarkRow<Tick>>(
     draws: &mut Draws,
     a: &mut A,
     b: &mut B,
 ) -> Result<(), NoMemory> {
-    if draws.draw(10) < 7 {
+    let count = a.len();
+    if count == 0 || draws.draw(10) < 7 {
         let mark = Mark {
             at: Tick(draws.draw(1000) as i64),
             inits: 1,
@@ -62,14 +63,12 @@ fn change<A: MarkRow<Tick>, B: MarkRow<Tick>>(
         b.reserve(1)?;
         a.put(mark);
         b.put(mark);
-    } else {
-        let place = draws.draw(400) as usize;
-        if place < a.len() {
-            let _ = a.take_out(place);
-        }
-        if place < b.len() {
-            let _ = b.take_out(place);
-        }
+        return Ok(());
+    }
+    let place = draws.draw(count as u64) as usize;
+    let _ = a.take_out(place);
+    if place < b.len() {
+        let _ = b.take_out(place);
     }
     Ok(())
 }
@@ -85,7 +84,7 @@ fn go_the_same_way<A: MarkRow<Tick>, B: MarkRow<Tick>>(alloc: Global) -> Result<
             return Ok(false);
         }
     }
-    Ok(100 < a.len())
+    Ok(128 < a.len()) // more than one block
 }
 
 /// How many members fill several groups of blocks.

@@ -269,7 +269,7 @@ fn counts_are_shown_by_their_names(rt: HostRuntime) -> Result<(), Fail> {
 }
 
 /// Answers with the session of their line and their text.
-const ANSWERS: [(Option<u8>, Answer, &[u8]); 16] = [
+const ANSWERS: [(Option<u8>, Answer, &[u8]); 18] = [
     (Some(0), Answer::Ok, b"@0 ok\n"),
     (None, Answer::Yes, b"yes\n"),
     (Some(63), Answer::No, b"@63 no\n"),
@@ -294,8 +294,18 @@ const ANSWERS: [(Option<u8>, Answer, &[u8]); 16] = [
     ),
     (
         None,
+        Answer::Commit(1, Cut::FullEvents),
+        b"refused commit 1 full-events 131072\n",
+    ),
+    (
+        None,
         Answer::Commit(2, Cut::FullMentions),
         b"refused commit 2 full-mentions 1048576\n",
+    ),
+    (
+        Some(1),
+        Answer::Commit(1_024, Cut::FullLinks),
+        b"@1 refused commit 1024 full-links 16777216\n",
     ),
     (
         None,

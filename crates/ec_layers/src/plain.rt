@@ -29,12 +29,18 @@ const ROWS: &str = "
 p 5 plug, q 10 push => lit 10 no, lit 11 yes, powered 5 no, powered 6 yes
 # an unplug that came late
 p 5 plug, u 7 unplug, q 10 push => lit 11 no, powered 7 yes, powered 8 no
+# pushes in turn, and one that came late and turned them
+p 5 plug, q 10 push, r 20 push, s 30 push => lit 10 no, lit 11 yes, lit 20 yes, lit 21 no, lit 30 no, lit 31 yes
+p 5 plug, t 7 push, q 10 push, r 20 push, s 30 push => lit 7 no, lit 8 yes, lit 10 yes, lit 11 no, lit 20 no, lit 21 yes, lit 31 no
 # contexts read the strict past
 p 10 plug, q 10 push => lit 11 no, powered 11 yes
 # an end and a start at one instant
 p 5 plug, u 10 unplug, v 10 plug => powered 5 no, powered 6 yes, powered 10 yes, powered 11 yes
 # a second move to the same place, which changes nothing
 m1 10 move_home, m2 14 move_home, l1 20 leave_home => home 10 no, home 11 yes, home 14 yes, home 20 yes, home 21 no
+# a move that breaks the stay before it, and one after a leave
+m1 10 move_home, m2 20 move_work => home 11 no, home 15 no, home 20 no, work 20 no, work 21 yes
+m1 10 move_home, l1 18 leave_home, m2 20 move_work => home 11 yes, home 18 yes, home 19 no, work 20 no, work 21 yes
 # two moves at once
 m1 10 move_home, m2 10 move_work => home 11 yes, work 11 yes
 ";
@@ -53,6 +59,18 @@ const STRONG: &[u8] = b"strong home/0.\n";
 /// The second move ends what the first began, without a reason.
 const STRONG_ROWS: &str = "
 m1 10 move_home, m2 14 move_home, l1 20 leave_home => home 11 no, home 14 no, home 15 yes, home 20 yes, home 21 no
+";
+
+/// What is added where power and being at home are initial.
+const INITIAL: &[u8] = b"initially powered.\ninitially home.\n";
+
+/// They hold before all events, if what ends them first terminates them, or nothing does.
+const INITIAL_ROWS: &str = "
+p 5 plug => powered 0 yes, powered 5 yes, powered 6 yes
+u 7 unplug => powered 0 yes, powered 7 yes, powered 8 no
+l1 20 leave_home => home 20 yes, home 21 no, work 21 no
+m2 20 move_work => home 10 no, home 20 no, work 20 no, work 21 yes
+m1 10 move_home => home 5 no, home 10 no, home 11 yes
 ";
 
 /// The words of `lit 10 no`, in the middle a time.
@@ -113,7 +131,12 @@ fn check_rows(rt: &impl Abort, alloc: Global, text: &[u8], table: &str) -> Resul
 #[test]
 fn worked_rows_hold(rt: HostRuntime) -> Result<(), Fail> {
     let mut text = Vec::new(rt.alloc());
-    for (clauses, table) in [(LAMP, ROWS), (RING, RING_ROWS), (STRONG, STRONG_ROWS)] {
+    for (clauses, table) in [
+        (LAMP, ROWS),
+        (RING, RING_ROWS),
+        (STRONG, STRONG_ROWS),
+        (INITIAL, INITIAL_ROWS),
+    ] {
         text.extend_from_slice(clauses)?;
         check_rows(&rt, rt.alloc(), &text, table)?;
     }

@@ -248,9 +248,9 @@ fn orders_times<X: TimeRow<Tick>>(alloc: Global, p: &Name, q: &Name) -> Result<b
         return Ok(false);
     }
     row.put(Tick(10), q.copied(), Slot(7));
-    row.put(Tick(10), p.copied(), Slot(2));
     row.put(Tick(i64::MIN), q.copied(), Slot(0));
     row.put(Tick(i64::MAX), p.copied(), Slot(1));
+    row.put(Tick(10), p.copied(), Slot(2));
     let least = i64::MIN;
     let most = i64::MAX;
     if !has_entries(&row, &[(least, q, 0), (10, p, 2), (10, q, 7), (most, p, 1)])

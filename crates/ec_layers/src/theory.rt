@@ -139,6 +139,12 @@ initiates push(P) lit(_). => theory 1 any
 initiates e p. strong at/9. => theory 2 arity
 strong a/-1. => theory 1 arity
 initiates e(a,b,c,d,e,f,g,h,i) p. => theory 1 arity
+initiates e p if _ = a. => theory 1 any
+initiates e p if a = _. => theory 1 any
+initiates e p if q(_). => theory 1 any
+initiates e p if not q(a,_). => theory 1 any
+# a fault of syntax is told before any other, wherever it stands
+strong at/9. strong => theory 1 20 syntax
 ";
 
 /// Sees that what is said of each text of a table is what stands behind it.
@@ -230,6 +236,22 @@ strong p/8.{1048565  } => accepted rules 0 exclusives 0 strongs 1
 #[test]
 fn limits(rt: HostRuntime) -> Result<(), Fail> {
     play(&rt, rt.alloc(), LIMITS)
+}
+
+/// Clauses with two faults, of which the first in their order is told.
+const ORDER: &str = "
+{1024 strong p/0. }strong p/9. => theory 1025 many-strongs
+{64 initiates e p. }initiates e p(a,b,c,d,e,f,g,h,i). => theory 65 arity
+{64 initiates e p. }initiates e p if a = a{16 , a < b}. => theory 65 many-event-rules
+initiates e p if a = a{16 , a < b}{17 , c}. => theory 1 many-tests
+initiates e(A,B,C,D,E,F,G,H) p(I,J,K,L,M,N,O,P) if q(Q){16 , not b}. => theory 1 many-literals
+initiates e(A,B,C,D,E,F,G,H) p(I,J,K,L,M,N,O,P) if q(Q,_). => theory 1 many-variables
+initiates e p(X,_). => theory 1 any
+";
+
+#[test]
+fn the_first_fault_of_a_clause_is_told(rt: HostRuntime) -> Result<(), Fail> {
+    play(&rt, rt.alloc(), ORDER)
 }
 
 /// The text of 1,024 rules over 16 events with 64 rules each.
