@@ -1,7 +1,5 @@
 //! Lines beside their replies.
-use crate::whole::{ROOM, folder_with_lines, serves, words};
-use ec_outside::{MemSink, MemSource};
-use ec_server::run;
+use crate::whole::{folder_with_lines, ran_over, serves, source, wide_sink};
 use ec_terms::NoMemory;
 use std::alloc::Global;
 
@@ -64,11 +62,10 @@ impl Script {
 
     /// Whether `replay` gives the replies to a file of the lines.
     pub fn is_replayed(&self, alloc: Global, theory: &[u8]) -> Result<bool, NoMemory> {
-        let mut files = folder_with_lines(alloc, theory, &self.lines, &[])?;
-        let mut input = MemSource::new(alloc, b"", 1, &[])?;
-        let mut output = MemSink::new(alloc, ROOM, ROOM, &[], &[])?;
-        let words = words(alloc, &["replay", "t.ec", "a.lines"])?;
-        let status = run(alloc, &words, &mut files, &mut input, &mut output);
-        Ok(status == 0 && output.bytes() == self.replies.as_slice())
+        let files = folder_with_lines(alloc, theory, &self.lines, &[])?;
+        let input = source(alloc, b"", 1, &[])?;
+        let words = ["replay", "t.ec", "a.lines"];
+        let run = ran_over(alloc, &words, files, input, wide_sink(alloc)?)?;
+        Ok(run.is(0, &self.replies))
     }
 }

@@ -1,25 +1,33 @@
 //! Words without a shape, faults of the outside, and the limit of an input.
-use crate::texts::{LAMP, LAMPS, ROOMS};
-use crate::whole::{ROOM, folder, ran, words};
-use ec_outside::{MemSink, MemSource};
-use ec_server::{Status, run, serve};
+use crate::texts::{LAMP, ROOMS};
+use crate::whole::{Outcome, folder, ran, ran_over, sink, source, wide_sink};
+use ec_outside::MemSink;
+use ec_server::{Status, serve};
 use ec_terms::NoMemory;
 use ec_theory::accept;
 use std::alloc::Global;
+use std::process::Abort;
 use std::test::Fail;
 
 const LINES: &[u8] = b"assert p 5 plug\nholds powered 6\nquit\nholds powered 6\n";
 
 const USAGE: &[u8] = b"usage: ec check THEORY / serve THEORY / replay THEORY LINES / soak N SEED\n";
 
-/// Words without a shape.
-const SHAPELESS: [&[&str]; 22] = [
+/// Words that name too few files or too many, or no command.
+const SHAPELESS: [&[&str]; 9] = [
     &[],
     &["serve"],
     &["check"],
     &["serve", "t.ec", "t.ec"],
     &["replay", "t.ec"],
     &["replay", "t.ec", "t.ec", "t.ec"],
+    &["--help"],
+    &["--version"],
+    &["Serve", "t.ec"],
+];
+
+/// Words behind `soak` that name no numbers of lines and of a seed.
+const UNSOAKED: [&[&str]; 13] = [
     &["soak", "1"],
     &["soak", "0", "1"],
     &["soak", "000000", "1"],
@@ -33,18 +41,21 @@ const SHAPELESS: [&[&str]; 22] = [
     &["soak", "1", "18446744073709551616"],
     &["soak", "1", "000000000000000000000"],
     &["soak", "1", "1", "1"],
-    &["--help"],
-    &["--version"],
-    &["Serve", "t.ec"],
 ];
+
+/// Runs with each of these words, and stops at the first that does not get the usage line.
+fn refuse_all(rt: &impl Abort, alloc: Global, shapeless: &[&[&str]]) -> Result<(), NoMemory> {
+    for words in shapeless {
+        let run = ran(alloc, words, LAMP, LINES, 4_096)?;
+        assert!(rt; run.is(2, USAGE), "{words:?}");
+    }
+    Ok(())
+}
 
 #[test]
 fn words_without_a_shape_get_the_usage_line(rt: HostRuntime) -> Result<(), Fail> {
-    for all in SHAPELESS {
-        let (status, output) = ran(rt.alloc(), all, LAMP, LINES, 4_096)?;
-        assert_eq!(rt; status, 2);
-        assert_eq!(rt; output.bytes(), USAGE);
-    }
+    refuse_all(&rt, rt.alloc(), &SHAPELESS)?;
+    refuse_all(&rt, rt.alloc(), &UNSOAKED)?;
     Ok(())
 }
 
@@ -66,20 +77,18 @@ const NOTHING_FAILS: Failing<'static> = Failing {
     most: 16,
 };
 
-/// The status of a run that serves lines with those faults, and what it wrote, a byte at a time.
+/// A run that serves lines with those faults, and writes a byte at a time.
 fn ran_with(
     alloc: Global,
     name: &str,
     theory: &[u8],
     lines: &[u8],
     failing: &Failing<'_>,
-) -> Result<(u8, MemSink), NoMemory> {
-    let mut files = folder(alloc, theory, failing.files)?;
-    let mut input = MemSource::new(alloc, lines, failing.most.max(1), failing.reads)?;
-    let mut output = MemSink::new(alloc, ROOM, 1, failing.writes, failing.flushes)?;
-    let words = words(alloc, &["serve", name])?;
-    let status = run(alloc, &words, &mut files, &mut input, &mut output);
-    Ok((status, output))
+) -> Result<Outcome, NoMemory> {
+    let files = folder(alloc, theory, failing.files)?;
+    let input = source(alloc, lines, failing.most, failing.reads)?;
+    let output = sink(alloc, 1, failing.writes, failing.flushes)?;
+    ran_over(alloc, &["serve", name], files, input, output)
 }
 
 /// The file that is asked for, what fails, the status and what is written.
@@ -147,9 +156,8 @@ const FAULTS: [(&str, Failing<'static>, u8, &[u8]); 8] = [
 #[test]
 fn faults_of_the_outside_have_their_statuses(rt: HostRuntime) -> Result<(), Fail> {
     for (name, failing, code, written) in &FAULTS {
-        let (status, output) = ran_with(rt.alloc(), name, LAMP, LINES, failing)?;
-        assert_eq!(rt; status, *code);
-        assert_eq!(rt; output.bytes(), *written);
+        let run = ran_with(rt.alloc(), name, LAMP, LINES, failing)?;
+        assert!(rt; run.is(*code, written), "{name}, {code}: {written:?}");
     }
     Ok(())
 }
@@ -176,19 +184,25 @@ fn pushed(alloc: Global, taken: usize) -> Result<(Vec<u8>, Vec<u8>), NoMemory> {
     Ok((lines, replies))
 }
 
+/// Whether a run whose write of this number fails has written what the writes before it took. There are as many as replied bytes.
+fn stops_at_write(alloc: Global, number: usize) -> Result<bool, NoMemory> {
+    let (lines, replies) = pushed(alloc, usize::MAX)?;
+    let failing = Failing {
+        writes: &[number as u64],
+        ..NOTHING_FAILS
+    };
+    let run = ran_with(alloc, "t.ec", ROOMS, &lines, &failing)?;
+    let status = if number <= replies.len() { 5 } else { 0 };
+    let taken = replies.len().min(number.saturating_sub(1));
+    Ok(run.is(status, &replies[..taken]))
+}
+
 #[test]
 fn any_write_may_fail(rt: HostRuntime) -> Result<(), Fail> {
-    let (lines, replies) = pushed(rt.alloc(), usize::MAX)?;
+    let (_, replies) = pushed(rt.alloc(), usize::MAX)?;
     assert_eq!(rt; replies.len(), 24);
-    for k in 1..=25_usize {
-        let writes = [k as u64];
-        let failing = Failing {
-            writes: &writes,
-            ..NOTHING_FAILS
-        };
-        let (status, output) = ran_with(rt.alloc(), "t.ec", ROOMS, &lines, &failing)?;
-        assert_eq!(rt; status, if k <= 24 { 5 } else { 0 });
-        assert_eq!(rt; output.bytes(), &replies[..k - 1]);
+    for number in 1..=25 {
+        assert!(rt; stops_at_write(rt.alloc(), number)?, "write {number}");
     }
     Ok(())
 }
@@ -196,29 +210,62 @@ fn any_write_may_fail(rt: HostRuntime) -> Result<(), Fail> {
 /// How many bytes a read gives, and how many reads those lines take, with the one that finds their end.
 const READS: [(usize, usize); 4] = [(1, 93), (19, 6), (22, 6), (4_096, 2)];
 
+/// Whether a run has answered what came before a failing call, where reads give `most` bytes and `before` of them succeed.
+fn answers_before(
+    alloc: Global,
+    most: usize,
+    before: usize,
+    status: u8,
+    failing: &Failing<'_>,
+) -> Result<bool, NoMemory> {
+    let (lines, replies) = pushed(alloc, most.saturating_mul(before))?;
+    Ok(ran_with(alloc, "t.ec", ROOMS, &lines, failing)?.is(status, &replies))
+}
+
+/// Whether a run stops at the read behind so many, where there are `reads` of `most` bytes.
+fn stops_at_read(
+    alloc: Global,
+    most: usize,
+    reads: usize,
+    before: usize,
+) -> Result<bool, NoMemory> {
+    let failing = Failing {
+        reads: &[(before as u64).saturating_add(1)],
+        most,
+        ..NOTHING_FAILS
+    };
+    let status = if before < reads { 4 } else { 0 };
+    answers_before(alloc, most, before, status, &failing)
+}
+
+/// Whether a run stops at the flush behind so many. A flush stands before each read, and one before the end.
+fn stops_at_flush(
+    alloc: Global,
+    most: usize,
+    reads: usize,
+    before: usize,
+) -> Result<bool, NoMemory> {
+    let failing = Failing {
+        flushes: &[(before as u64).saturating_add(1)],
+        most,
+        ..NOTHING_FAILS
+    };
+    let status = if before <= reads { 5 } else { 0 };
+    answers_before(alloc, most, before, status, &failing)
+}
+
 #[test]
 fn any_read_and_any_flush_may_fail(rt: HostRuntime) -> Result<(), Fail> {
     for (most, reads) in READS {
-        for k in 1..=95_usize {
-            let (lines, replies) = pushed(rt.alloc(), most.saturating_mul(k - 1))?;
-            let call = [k as u64];
-            let failing = Failing {
-                reads: &call,
-                most,
-                ..NOTHING_FAILS
-            };
-            let (status, output) = ran_with(rt.alloc(), "t.ec", ROOMS, &lines, &failing)?;
-            assert_eq!(rt; status, if k <= reads { 4 } else { 0 });
-            assert_eq!(rt; output.bytes(), replies.as_slice());
-            // a flush stands before each read, and one before the end
-            let failing = Failing {
-                flushes: &call,
-                most,
-                ..NOTHING_FAILS
-            };
-            let (status, output) = ran_with(rt.alloc(), "t.ec", ROOMS, &lines, &failing)?;
-            assert_eq!(rt; status, if k - 1 <= reads { 5 } else { 0 });
-            assert_eq!(rt; output.bytes(), replies.as_slice());
+        for before in 0..95 {
+            assert!(rt;
+                stops_at_read(rt.alloc(), most, reads, before)?,
+                "{most}: {before}"
+            );
+            assert!(rt;
+                stops_at_flush(rt.alloc(), most, reads, before)?,
+                "{most}: {before}"
+            );
         }
     }
     Ok(())
@@ -238,18 +285,55 @@ const CHECKS: [(&[u64], &[u64], &[u64], u8, &[u8]); 4] = [
     ),
 ];
 
+/// A check of a theory with those faults, which writes a byte at a time. The input fails if it is read.
+fn checked_with(
+    alloc: Global,
+    files: &[u64],
+    writes: &[u64],
+    flushes: &[u64],
+) -> Result<Outcome, NoMemory> {
+    let files = folder(alloc, LAMP, files)?;
+    let input = source(alloc, LINES, 1, &[1])?;
+    let output = sink(alloc, 1, writes, flushes)?;
+    ran_over(alloc, &["check", "t.ec"], files, input, output)
+}
+
 #[test]
 fn a_check_tells_what_fails(rt: HostRuntime) -> Result<(), Fail> {
-    for (files, writes, flushes, code, written) in CHECKS {
-        let mut files = folder(rt.alloc(), LAMP, files)?;
-        let mut input = MemSource::new(rt.alloc(), LINES, 1, &[1])?;
-        let mut output = MemSink::new(rt.alloc(), ROOM, 1, writes, flushes)?;
-        let words = words(rt.alloc(), &["check", "t.ec"])?;
-        assert_eq!(rt;
-            run(rt.alloc(), &words, &mut files, &mut input, &mut output),
-            code
-        );
-        assert_eq!(rt; output.bytes(), written);
+    for (files, writes, flushes, code, written) in &CHECKS {
+        let run = checked_with(rt.alloc(), files, writes, flushes)?;
+        assert!(rt; run.is(*code, written), "{code}: {written:?}");
+    }
+    Ok(())
+}
+
+/// Words and a theory that are told of, the write that fails, the status and what is written.
+const TOLD: [(&[&str], &[u8], u64, u8, &[u8]); 4] = [
+    (&["serve"], LAMP, 1, 2, b""),
+    (&["serve"], LAMP, 6, 2, b"usage"),
+    (&["check", "t.ec"], b"initiates a b;", 1, 3, b""),
+    (&["serve", "t.ec"], b"initiates a b;", 8, 3, b"theory "),
+];
+
+/// A run whose write of this number fails, and which writes a byte at a time.
+fn ran_up_to_write(
+    alloc: Global,
+    words: &[&str],
+    theory: &[u8],
+    number: u64,
+) -> Result<Outcome, NoMemory> {
+    let files = folder(alloc, theory, &[])?;
+    let input = source(alloc, LINES, 4_096, &[])?;
+    ran_over(alloc, words, files, input, sink(alloc, 1, &[number], &[])?)
+}
+
+#[test]
+fn a_failing_write_leaves_the_status_of_bad_words_and_theories(
+    rt: HostRuntime,
+) -> Result<(), Fail> {
+    for (words, theory, number, code, written) in &TOLD {
+        let run = ran_up_to_write(rt.alloc(), words, theory, *number)?;
+        assert!(rt; run.is(*code, written), "{code}: {written:?}");
     }
     Ok(())
 }
@@ -257,9 +341,12 @@ fn a_check_tells_what_fails(rt: HostRuntime) -> Result<(), Fail> {
 /// Two lines, the first of 19 bytes.
 const TWO_LINES: &[u8] = b"assert p 5 plug(a)\nholds powered(a) 6\n";
 
+/// One line, of 16 bytes, without a `quit` behind it.
+const ONE_LINE: &[u8] = b"assert p 5 plug\n";
+
 /// Theories, lines and a limit, the status with it and what is written.
-const LIMITS: [(&[u8], &[u8], u64, Status, &[u8]); 8] = [
-    (LAMPS, TWO_LINES, 19, Status::LimitReached, b"ok\n"),
+const LIMITS: [(&[u8], &[u8], u64, Status, &[u8]); 10] = [
+    (ROOMS, TWO_LINES, 19, Status::LimitReached, b"ok\n"),
     (LAMP, LINES, 0, Status::LimitReached, b""),
     (LAMP, LINES, 15, Status::LimitReached, b""),
     (LAMP, LINES, 16, Status::LimitReached, b"ok\n"),
@@ -267,20 +354,48 @@ const LIMITS: [(&[u8], &[u8], u64, Status, &[u8]); 8] = [
     (LAMP, LINES, 36, Status::LimitReached, b"ok\nyes\n"),
     (LAMP, LINES, 37, Status::Done, b"ok\nyes\nbye\n"),
     (LAMP, LINES, 1_000, Status::Done, b"ok\nyes\nbye\n"),
+    // the end behind the last byte that may be taken is not looked for
+    (LAMP, ONE_LINE, 16, Status::LimitReached, b"ok\n"),
+    (LAMP, ONE_LINE, 17, Status::Done, b"ok\n"),
 ];
+
+/// The most bytes of a theory.
+const MOST_THEORY: usize = 1 << 20;
+
+/// How serving ends where at most `limit` bytes are taken, and what is written. None for a theory that is not accepted.
+fn served_up_to(
+    alloc: Global,
+    theory: &[u8],
+    lines: &[u8],
+    most: usize,
+    limit: u64,
+) -> Result<Option<(Status, MemSink)>, NoMemory> {
+    if theory.len() > MOST_THEORY {
+        return Ok(None);
+    }
+    let Ok(checked) = accept(alloc, theory) else {
+        return Ok(None);
+    };
+    let mut input = source(alloc, lines, most, &[])?;
+    let mut output = wide_sink(alloc)?;
+    let status = serve(alloc, checked, &mut input, &mut output, limit);
+    Ok(Some((status, output)))
+}
+
+/// Whether serving ends with a status and these bytes.
+fn ends_with(served: &Option<(Status, MemSink)>, status: Status, written: &[u8]) -> bool {
+    match served {
+        Some((ended, output)) => *ended == status && output.bytes() == written,
+        None => false,
+    }
+}
 
 #[test]
 fn an_input_has_a_limit(rt: HostRuntime) -> Result<(), Fail> {
-    for (theory, lines, limit, status, written) in LIMITS {
+    for (theory, lines, limit, status, written) in &LIMITS {
         for most in [1, 4_096] {
-            let checked = accept(rt.alloc(), theory)?;
-            let mut input = MemSource::new(rt.alloc(), lines, most.max(1), &[])?;
-            let mut output = MemSink::new(rt.alloc(), ROOM, ROOM, &[], &[])?;
-            assert_eq!(rt;
-                serve(rt.alloc(), checked, &mut input, &mut output, limit),
-                status
-            );
-            assert_eq!(rt; output.bytes(), written);
+            let served = served_up_to(rt.alloc(), theory, lines, most, *limit)?;
+            assert!(rt; ends_with(&served, *status, written), "{limit}");
         }
     }
     Ok(())

@@ -19,6 +19,9 @@ fn a_history_holds_131072_events(rt: HostRuntime) -> Result<(), Fail> {
         ("retract e1", "ok"),
         ("assert z 0 idle", "ok"),
         ("assert e1 0 idle", "refused full-events 131072"),
+        ("begin", "ok"),
+        ("assert e1 0 idle", "drafted 1"),
+        ("commit", "refused commit 1 full-events 131072"),
     ])?;
     assert!(rt; serves(rt.alloc(), ROOMS, &script.lines, 4_096, 0, &script.replies)?);
     Ok(())
@@ -54,6 +57,10 @@ fn a_history_holds_1048576_mentions(rt: HostRuntime) -> Result<(), Fail> {
         ("assert f1 0 f", "ok"),
         ("assert g1 0 g", "refused full-mentions 1048576"),
         ("assert i1 0 idle", "ok"),
+        ("begin", "ok"),
+        ("assert i2 0 idle", "drafted 1"),
+        ("assert g1 0 g", "drafted 2"),
+        ("commit", "refused commit 2 full-mentions 1048576"),
     ])?;
     assert!(rt;
         serves(
@@ -89,6 +96,9 @@ fn a_history_holds_16777216_links(rt: HostRuntime) -> Result<(), Fail> {
         ("assert t 1 see(ann,h0)", "ok"),
         ("retract s1", "ok"),
         ("assert s4097 1 see(bob,h0)", "ok"),
+        ("begin", "ok"),
+        ("assert s1 1 see(bob,h0)", "drafted 1"),
+        ("commit", "refused commit 1 full-links 16777216"),
     ])?;
     assert!(rt; serves(rt.alloc(), SEEN, &script.lines, 4_096, 0, &script.replies)?);
     Ok(())

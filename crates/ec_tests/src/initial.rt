@@ -80,7 +80,7 @@ const DIALOGUES: [(&[u8], &[u8], &[Turn]); 5] = [
 
 #[test]
 fn initial_properties_hold_from_before_all_events(rt: HostRuntime) -> Result<(), Fail> {
-    for (theory, clauses, turns) in DIALOGUES {
+    for (theory, clauses, turns) in &DIALOGUES {
         let mut text = Vec::new(rt.alloc());
         text.extend_from_slice(theory)?;
         text.extend_from_slice(clauses)?;

@@ -1,7 +1,9 @@
 //! Theories and lines at each of their limits, and one over it.
-use crate::whole::{ran, serves};
+use crate::whole::{checks, serves};
+use ec_server::MOST_INPUT;
 use ec_terms::NoMemory;
 use std::alloc::Global;
+use std::process::Abort;
 use std::test::Fail;
 
 /// A piece of a text, and how often it stands there.
@@ -28,7 +30,19 @@ initiates m h. initiates n h. initiates o h. initiates p h. initiates q h.
 const FOUR_RULES: &[u8] = b"initiates a h. initiates b h. initiates c h. initiates d h.\n";
 
 /// The pieces of a theory, the status of `check`, and its line.
-const THEORIES: [(&[Piece], u8, &[u8]); 36] = [
+type Checked = (&'static [Piece], u8, &'static [u8]);
+
+/// Checks theories, and stops at the first that `check` tells otherwise of.
+fn check_all(rt: &impl Abort, alloc: Global, theories: &[Checked]) -> Result<(), NoMemory> {
+    for (pieces, code, line) in theories {
+        let theory = text_of(alloc, pieces)?;
+        assert!(rt; checks(alloc, &theory, *code, line)?, "{line:?}");
+    }
+    Ok(())
+}
+
+/// Numbers of clauses.
+const CLAUSES: [Checked; 12] = [
     // rules
     (
         &[(60, SEVENTEEN_RULES), (1, FOUR_RULES)],
@@ -103,6 +117,22 @@ const THEORIES: [(&[Piece], u8, &[u8]); 36] = [
         3,
         b"theory 1345 many-event-rules\n",
     ),
+    // initial properties, beside others
+    (
+        &[(1_024, b"initially p.\n"), (256, b"exclusive a b.\n")],
+        0,
+        b"accepted rules 0 exclusives 256 strongs 0 initials 1024\n",
+    ),
+];
+
+#[test]
+fn the_clauses_of_a_theory_have_limits(rt: HostRuntime) -> Result<(), Fail> {
+    check_all(&rt, rt.alloc(), &CLAUSES)?;
+    Ok(())
+}
+
+/// Numbers of tests, literals and variables.
+const BODIES: [Checked; 8] = [
     // tests and literals of a rule
     (
         &[(1, b"initiates e h if 1 = 1"), (15, b", 1 = 1"), (1, b".")],
@@ -156,6 +186,16 @@ const THEORIES: [(&[Piece], u8, &[u8]); 36] = [
         3,
         b"theory 1 many-variables\n",
     ),
+];
+
+#[test]
+fn tests_literals_and_variables_have_limits(rt: HostRuntime) -> Result<(), Fail> {
+    check_all(&rt, rt.alloc(), &BODIES)?;
+    Ok(())
+}
+
+/// Numbers of arguments.
+const ARGUMENTS: [Checked; 6] = [
     // arguments of a term
     (
         &[(1, b"initiates e(A,B,C,D,E,F,G,H) h(A,A,A,A,A,A,A,A).")],
@@ -187,6 +227,16 @@ const THEORIES: [(&[Piece], u8, &[u8]); 36] = [
         0,
         b"accepted rules 0 exclusives 0 strongs 1\n",
     ),
+];
+
+#[test]
+fn the_arguments_of_a_term_have_limits(rt: HostRuntime) -> Result<(), Fail> {
+    check_all(&rt, rt.alloc(), &ARGUMENTS)?;
+    Ok(())
+}
+
+/// Lengths of names, and numbers.
+const NAMES: [Checked; 10] = [
     // bytes of a name and of a variable
     (
         &[(1, b"initiates "), (64, b"a"), (1, b" b.")],
@@ -239,22 +289,11 @@ const THEORIES: [(&[Piece], u8, &[u8]); 36] = [
         3,
         b"theory 1 13 number\n",
     ),
-    // initial properties, beside others
-    (
-        &[(1_024, b"initially p.\n"), (256, b"exclusive a b.\n")],
-        0,
-        b"accepted rules 0 exclusives 256 strongs 0 initials 1024\n",
-    ),
 ];
 
 #[test]
-fn theories_have_limits(rt: HostRuntime) -> Result<(), Fail> {
-    for (pieces, code, line) in THEORIES {
-        let theory = text_of(rt.alloc(), pieces)?;
-        let (status, output) = ran(rt.alloc(), &["check", "t.ec"], &theory, b"", 4_096)?;
-        assert_eq!(rt; status, code);
-        assert_eq!(rt; output.bytes(), line);
-    }
+fn names_and_numbers_of_a_theory_have_limits(rt: HostRuntime) -> Result<(), Fail> {
+    check_all(&rt, rt.alloc(), &NAMES)?;
     Ok(())
 }
 
@@ -308,11 +347,20 @@ const LINES: [(&[Piece], &[u8]); 14] = [
 
 #[test]
 fn names_terms_and_numbers_of_lines_have_limits(rt: HostRuntime) -> Result<(), Fail> {
-    for (pieces, replies) in LINES {
+    for (pieces, replies) in &LINES {
         let lines = text_of(rt.alloc(), pieces)?;
         for most in [1, 4_096] {
-            assert!(rt; serves(rt.alloc(), b"", &lines, most, 0, replies)?);
+            assert!(rt;
+                serves(rt.alloc(), b"", &lines, most, 0, replies)?,
+                "{replies:?}"
+            );
         }
     }
     Ok(())
+}
+
+#[test]
+fn the_input_has_a_limit_of_two_to_the_fortieth(rt: HostRuntime) {
+    // too many bytes to be given: what comes at a limit, smaller ones show
+    assert!(rt; MOST_INPUT == 1 << 40);
 }

@@ -1,12 +1,16 @@
 //! Lines and their replies.
+use crate::limits::text_of;
 use crate::texts::{LAMP, LAMPS};
 use crate::whole::serves;
+use ec_terms::NoMemory;
+use std::alloc::Global;
+use std::process::Abort;
 use std::test::Fail;
 
 const NOTHING: &[u8] = b"";
 
 /// Theories, lines and the replies to them.
-const RUNS: [(&[u8], &[u8], &[u8]); 11] = [
+const RUNS: [(&[u8], &[u8], &[u8]); 12] = [
     (LAMP, b"", b""),
     (
         LAMP,
@@ -29,6 +33,12 @@ const RUNS: [(&[u8], &[u8], &[u8]); 11] = [
         LAMP,
         b"assert p 5 plug\nholds powered 9\nassert u 7 unplug\nholds powered 9\nholds powered 7\nretract u\nholds powered 9\n",
         b"ok\nyes\nok\nno\nyes\nok\nyes\n",
+    ),
+    // events told from the last to the first
+    (
+        LAMP,
+        b"assert p 5 plug\nassert u 3 unplug\nholds powered 6\nassert q 2 plug\nholds powered 3\nholds powered 4\n",
+        b"ok\nok\nyes\nok\nyes\nno\n",
     ),
     // blanks, a comment, a prefix, a last line without its end
     (
@@ -66,7 +76,7 @@ const RUNS: [(&[u8], &[u8], &[u8]); 11] = [
 
 #[test]
 fn lines_have_their_replies_in_whatever_pieces_they_come(rt: HostRuntime) -> Result<(), Fail> {
-    for (theory, lines, replies) in RUNS {
+    for (theory, lines, replies) in &RUNS {
         for most in [1, 2, 3, 7, 4_096] {
             assert!(rt; serves(rt.alloc(), theory, lines, most, 0, replies)?);
         }
@@ -85,8 +95,11 @@ fn a_cut_at_any_place_changes_nothing(rt: HostRuntime) -> Result<(), Fail> {
     Ok(())
 }
 
-/// Lines that are refused, or silent, and what is written.
-const BAD: [(&[u8], &[u8]); 30] = [
+/// A line that is refused, or silent, and what is written.
+type Bad = (&'static [u8], &'static [u8]);
+
+/// Prefixes, comments and blanks.
+const PREFIXES: [Bad; 15] = [
     (b"@64 last", b"refused syntax\n"),
     (b"@", b"refused syntax\n"),
     (b"@ last", b"refused syntax\n"),
@@ -102,6 +115,10 @@ const BAD: [(&[u8], &[u8]); 30] = [
     (b"%", b""),
     (b" %last", b""),
     (b"\t", b""),
+];
+
+/// Commands, and bytes that no command has.
+const COMMANDS: [Bad; 15] = [
     (b"last now", b"refused syntax\n"),
     (b"retract", b"refused syntax\n"),
     (b"retract Z", b"refused syntax\n"),
@@ -122,11 +139,23 @@ const BAD: [(&[u8], &[u8]); 30] = [
     (b"\x0bretract z", b"refused syntax\n"),
 ];
 
-#[test]
-fn bad_lines_are_refused_and_silent_ones_are_not_answered(rt: HostRuntime) -> Result<(), Fail> {
-    for (line, reply) in BAD {
-        assert!(rt; serves(rt.alloc(), LAMPS, line, 4_096, 0, reply)?);
+/// Serves each line, and stops at the first that something else is written for.
+fn serve_all(rt: &impl Abort, alloc: Global, lines: &[Bad]) -> Result<(), NoMemory> {
+    for (line, reply) in lines {
+        assert!(rt; serves(alloc, LAMPS, line, 4_096, 0, reply)?, "{line:?}");
     }
+    Ok(())
+}
+
+#[test]
+fn prefixes_are_refused_and_silent_lines_are_not_answered(rt: HostRuntime) -> Result<(), Fail> {
+    serve_all(&rt, rt.alloc(), &PREFIXES)?;
+    Ok(())
+}
+
+#[test]
+fn bad_commands_are_refused(rt: HostRuntime) -> Result<(), Fail> {
+    serve_all(&rt, rt.alloc(), &COMMANDS)?;
     Ok(())
 }
 
@@ -156,13 +185,11 @@ const LONG: [(&[u8], usize, &[u8], &[u8]); 9] = [
 
 #[test]
 fn a_line_of_more_than_4096_bytes_is_long(rt: HostRuntime) -> Result<(), Fail> {
-    for (start, spaces, end, reply) in LONG {
-        let mut line = Vec::new(rt.alloc());
-        line.extend_from_slice(start)?;
-        for _ in 0..spaces {
-            line.push(b' ')?;
-        }
-        line.extend_from_slice(end)?;
+    for (start, spaces, end, reply) in &LONG {
+        let line = text_of(
+            rt.alloc(),
+            &[(1, *start), (*spaces, b" ".as_slice()), (1, *end)],
+        )?;
         for most in [1, 4_096] {
             assert!(rt; serves(rt.alloc(), LAMPS, &line, most, 0, reply)?);
         }

@@ -1,7 +1,6 @@
 //! Files of lines that are replayed.
-use crate::whole::{ROOM, folder_with_lines, words};
-use ec_outside::{MemSink, MemSource};
-use ec_server::run;
+use crate::limits::{Piece, text_of};
+use crate::whole::{Outcome, folder_with_lines, ran_over, sink, source, wide_sink};
 use ec_terms::NoMemory;
 use std::alloc::Global;
 use std::test::Fail;
@@ -22,22 +21,18 @@ struct Failing {
 
 const NONE: &[u64] = &[];
 
-const SPACES: &[u8] = &[b' '; 65_536];
-
-/// The status of a replay of lines over a theory with those faults, where the words name these two files, and what it wrote, a
-/// byte at a time. The theory is in `t.ec` and the lines are in `a.lines`. The input fails if it is read.
+/// A replay of lines over a theory with those faults, where the words name these two files, and a byte is written at a time.
+/// The theory is in `t.ec` and the lines are in `a.lines`. The input fails if it is read.
 fn replayed(
     alloc: Global,
     contents: (&[u8], &[u8]),
     names: (&str, &str),
     failing: &Failing,
-) -> Result<(u8, MemSink), NoMemory> {
-    let mut files = folder_with_lines(alloc, contents.0, contents.1, failing.files)?;
-    let mut input = MemSource::new(alloc, b"holds p 1\n", 4_096, &[1])?;
-    let mut output = MemSink::new(alloc, ROOM, 1, failing.writes, failing.flushes)?;
-    let words = words(alloc, &["replay", names.0, names.1])?;
-    let status = run(alloc, &words, &mut files, &mut input, &mut output);
-    Ok((status, output))
+) -> Result<Outcome, NoMemory> {
+    let files = folder_with_lines(alloc, contents.0, contents.1, failing.files)?;
+    let input = source(alloc, b"holds p 1\n", 4_096, &[1])?;
+    let output = sink(alloc, 1, failing.writes, failing.flushes)?;
+    ran_over(alloc, &["replay", names.0, names.1], files, input, output)
 }
 
 /// A theory and lines, and the names of the files that are asked for; the status, and what is written.
@@ -113,9 +108,9 @@ fn the_lines_of_a_file_are_replayed(rt: HostRuntime) -> Result<(), Fail> {
         flushes: NONE,
     };
     for replay in &REPLAYS {
-        let (status, output) = replayed(rt.alloc(), replay.contents, replay.names, &failing)?;
-        assert_eq!(rt; status, replay.status);
-        assert_eq!(rt; output.bytes(), replay.written);
+        let run = replayed(rt.alloc(), replay.contents, replay.names, &failing)?;
+        let (theory, lines) = replay.names;
+        assert!(rt; run.is(replay.status, replay.written), "{theory} {lines}");
     }
     Ok(())
 }
@@ -174,35 +169,34 @@ const FAULTS: [(Failing, u8, &[u8]); 5] = [
 #[test]
 fn a_replay_tells_what_fails(rt: HostRuntime) -> Result<(), Fail> {
     for (failing, code, written) in &FAULTS {
-        let (status, output) = replayed(rt.alloc(), (LAMPS, LINES), FILES, failing)?;
-        assert_eq!(rt; status, *code);
-        assert_eq!(rt; output.bytes(), *written);
+        let run = replayed(rt.alloc(), (LAMPS, LINES), FILES, failing)?;
+        assert!(rt; run.is(*code, written), "{code}: {written:?}");
     }
     Ok(())
 }
 
-/// How many spaces the file of lines has beyond 67,108,864, the status and what is written.
-const LENGTHS: [(usize, u8, &[u8]); 2] = [(0, 0, b"refused long-line\n"), (1, 9, b"")];
+/// So many spaces.
+const SPACES_64: &[u8] = b"                                                                ";
+
+/// The spaces that the file of lines has, the status and what is written.
+const LENGTHS: [(&[Piece], u8, &[u8]); 2] = [
+    (&[(1_048_576, SPACES_64)], 0, b"refused long-line\n"),
+    (&[(1_048_576, SPACES_64), (1, b" ")], 9, b""),
+];
+
+/// Whether a replay of a file of lines comes to a status and these bytes.
+fn replays(alloc: Global, lines: &[u8], status: u8, written: &[u8]) -> Result<bool, NoMemory> {
+    let files = folder_with_lines(alloc, LAMPS, lines, NONE)?;
+    let input = source(alloc, b"", 1, NONE)?;
+    let words = ["replay", "t.ec", "a.lines"];
+    Ok(ran_over(alloc, &words, files, input, wide_sink(alloc)?)?.is(status, written))
+}
 
 #[test]
 fn the_file_of_lines_has_a_limit(rt: HostRuntime) -> Result<(), Fail> {
-    let mut spaces = Vec::new(rt.alloc());
-    for _ in 0..1_024 {
-        spaces.extend_from_slice(SPACES)?;
-    }
-    for (more, code, written) in LENGTHS {
-        for _ in 0..more {
-            spaces.push(b' ')?;
-        }
-        let mut files = folder_with_lines(rt.alloc(), LAMPS, &spaces, NONE)?;
-        let mut input = MemSource::new(rt.alloc(), b"", 1, NONE)?;
-        let mut output = MemSink::new(rt.alloc(), ROOM, ROOM, NONE, NONE)?;
-        let words = words(rt.alloc(), &["replay", "t.ec", "a.lines"])?;
-        assert_eq!(rt;
-            run(rt.alloc(), &words, &mut files, &mut input, &mut output),
-            code
-        );
-        assert_eq!(rt; output.bytes(), written);
+    for (pieces, code, written) in &LENGTHS {
+        let spaces = text_of(rt.alloc(), pieces)?;
+        assert!(rt; replays(rt.alloc(), &spaces, *code, written)?, "{code}");
     }
     Ok(())
 }

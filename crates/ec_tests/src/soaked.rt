@@ -1,25 +1,21 @@
 //! Runs over generated lines.
-use crate::whole::{ROOM, folder, words};
-use ec_outside::{MemSink, MemSource};
-use ec_server::run;
+use crate::whole::{Outcome, folder, ran_over, sink, source};
 use ec_terms::NoMemory;
 use std::alloc::Global;
 use std::test::Fail;
 
-/// The status of a run over generated lines, where each call on the folder and on the input would fail, and what it wrote.
+/// A run over generated lines, where each call on the folder and on the input would fail.
 fn soaked(
     alloc: Global,
     lines: &str,
     seed: &str,
     writes: &[u64],
     flushes: &[u64],
-) -> Result<(u8, MemSink), NoMemory> {
-    let mut files = folder(alloc, b"", &[1])?;
-    let mut input = MemSource::new(alloc, b"quit\n", 4_096, &[1])?;
-    let mut output = MemSink::new(alloc, ROOM, 8, writes, flushes)?;
-    let words = words(alloc, &["soak", lines, seed])?;
-    let status = run(alloc, &words, &mut files, &mut input, &mut output);
-    Ok((status, output))
+) -> Result<Outcome, NoMemory> {
+    let files = folder(alloc, b"", &[1])?;
+    let input = source(alloc, b"quit\n", 4_096, &[1])?;
+    let output = sink(alloc, 8, writes, flushes)?;
+    ran_over(alloc, &["soak", lines, seed], files, input, output)
 }
 
 const ONE: &[u8] = b"soak lines 1 ok 1 yes 0 no 0 refused 0 bytes 3\n";
@@ -36,9 +32,8 @@ const CASES: [(&str, &str, &[u64], &[u64], u8, &[u8]); 5] = [
 #[test]
 fn generated_lines_are_served_and_counted(rt: HostRuntime) -> Result<(), Fail> {
     for (lines, seed, writes, flushes, code, written) in CASES {
-        let (status, output) = soaked(rt.alloc(), lines, seed, writes, flushes)?;
-        assert_eq!(rt; status, code);
-        assert_eq!(rt; output.bytes(), written);
+        let run = soaked(rt.alloc(), lines, seed, writes, flushes)?;
+        assert!(rt; run.is(code, written), "{lines} {seed}: {code}");
     }
     Ok(())
 }
@@ -61,9 +56,10 @@ const LINES: [(&str, &str, &[u8]); 2] = [
 fn a_seed_gives_the_same_line_each_time(rt: HostRuntime) -> Result<(), Fail> {
     for (lines, seed, line) in LINES {
         for _ in 0..2 {
-            let (status, output) = soaked(rt.alloc(), lines, seed, &[], &[])?;
-            assert_eq!(rt; status, 0);
-            assert_eq!(rt; output.bytes(), line);
+            assert!(rt;
+                soaked(rt.alloc(), lines, seed, &[], &[])?.is(0, line),
+                "{lines}"
+            );
         }
     }
     Ok(())
@@ -84,9 +80,10 @@ const MANY: [(&str, &[u8]); 2] = [
 #[test]
 fn many_generated_lines_are_served(rt: HostRuntime) -> Result<(), Fail> {
     for (lines, line) in MANY {
-        let (status, output) = soaked(rt.alloc(), lines, "7", &[], &[])?;
-        assert_eq!(rt; status, 0);
-        assert_eq!(rt; output.bytes(), line);
+        assert!(rt;
+            soaked(rt.alloc(), lines, "7", &[], &[])?.is(0, line),
+            "{lines}"
+        );
     }
     Ok(())
 }

@@ -1,6 +1,10 @@
 //! Theories that are accepted and theories that are not, by `check` and by `serve`.
+use crate::limits::text_of;
 use crate::texts::{ROOMS, STRONG_ROOMS};
-use crate::whole::ran;
+use crate::whole::{checks, serves};
+use ec_terms::NoMemory;
+use std::alloc::Global;
+use std::process::Abort;
 use std::test::Fail;
 
 /// The rooms and lamps, where one lamp has power from before all events.
@@ -15,8 +19,11 @@ exclusive at(X,Y) at(X,Z).
 initially powered(a).
 ";
 
-/// Texts that are no theories, and the line about each.
-const FAULTS: [(&[u8], &[u8]); 22] = [
+/// A text that is no theory, and the line about it.
+type Fault = (&'static [u8], &'static [u8]);
+
+/// Rules and declarations.
+const FAULTS: [Fault; 16] = [
     (b"initiates push(P) lit(L).", b"theory 1 unbound\n"),
     (b"initiates plug(L) powered(L)", b"theory 1 29 syntax\n"),
     (b"initiates plug(L powered(L).", b"theory 1 18 syntax\n"),
@@ -40,6 +47,10 @@ const FAULTS: [(&[u8], &[u8]); 22] = [
     ),
     // a fault of the tokens comes before one of the syntax, wherever it stands
     (b"strong strong strong.\n\n  !", b"theory 3 3 byte\n"),
+];
+
+/// Initial properties.
+const INITIAL_FAULTS: [Fault; 6] = [
     (b"initially p(X).", b"theory 1 unbound\n"),
     (b"initially p(_).", b"theory 1 any\n"),
     (b"initially p(a,b,c,d,e,f,g,h,i).", b"theory 1 arity\n"),
@@ -49,15 +60,22 @@ const FAULTS: [(&[u8], &[u8]); 22] = [
     (b"initially p if q.", b"theory 1 13 syntax\n"),
 ];
 
+/// Checks and serves each text, and stops at the first that is not refused with its line.
+fn refuse_all(rt: &impl Abort, alloc: Global, faults: &[Fault]) -> Result<(), NoMemory> {
+    for (theory, line) in faults {
+        assert!(rt; checks(alloc, theory, 3, line)?, "{theory:?}");
+        assert!(rt;
+            serves(alloc, theory, b"quit\n", 4_096, 3, line)?,
+            "{theory:?}"
+        );
+    }
+    Ok(())
+}
+
 #[test]
 fn texts_that_are_no_theories_are_told_by_check_and_serve(rt: HostRuntime) -> Result<(), Fail> {
-    for (theory, line) in FAULTS {
-        for command in ["check", "serve"] {
-            let (status, output) = ran(rt.alloc(), &[command, "t.ec"], theory, b"quit\n", 4_096)?;
-            assert_eq!(rt; status, 3);
-            assert_eq!(rt; output.bytes(), line);
-        }
-    }
+    refuse_all(&rt, rt.alloc(), &FAULTS)?;
+    refuse_all(&rt, rt.alloc(), &INITIAL_FAULTS)?;
     Ok(())
 }
 
@@ -83,10 +101,8 @@ const ACCEPTED: [(&[u8], &[u8]); 6] = [
 
 #[test]
 fn theories_are_counted_by_check(rt: HostRuntime) -> Result<(), Fail> {
-    for (theory, line) in ACCEPTED {
-        let (status, output) = ran(rt.alloc(), &["check", "t.ec"], theory, b"", 4_096)?;
-        assert_eq!(rt; status, 0);
-        assert_eq!(rt; output.bytes(), line);
+    for (theory, line) in &ACCEPTED {
+        assert!(rt; checks(rt.alloc(), theory, 0, line)?, "{line:?}");
     }
     Ok(())
 }
@@ -104,10 +120,11 @@ const SERVED: [&[u8]; 7] = [
 
 #[test]
 fn each_theory_that_is_accepted_is_served(rt: HostRuntime) -> Result<(), Fail> {
-    for theory in SERVED {
-        let (status, output) = ran(rt.alloc(), &["serve", "t.ec"], theory, b"quit\n", 4_096)?;
-        assert_eq!(rt; status, 0);
-        assert_eq!(rt; output.bytes(), b"bye\n".as_slice());
+    for theory in &SERVED {
+        assert!(rt;
+            serves(rt.alloc(), theory, b"quit\n", 4_096, 0, b"bye\n")?,
+            "{theory:?}"
+        );
     }
     Ok(())
 }
@@ -124,36 +141,33 @@ const INITIALS: [(usize, u8, &[u8]); 2] = [
 
 #[test]
 fn initial_properties_have_a_limit(rt: HostRuntime) -> Result<(), Fail> {
-    let mut text = Vec::new(rt.alloc());
-    let mut clauses = 0;
-    for (count, code, line) in INITIALS {
-        for _ in clauses..count {
-            text.extend_from_slice(b"initially p(a).\n")?;
-        }
-        clauses = count;
-        let (status, output) = ran(rt.alloc(), &["check", "t.ec"], &text, b"", 4_096)?;
-        assert_eq!(rt; status, code);
-        assert_eq!(rt; output.bytes(), line);
+    for (count, code, line) in &INITIALS {
+        let theory = text_of(rt.alloc(), &[(*count, b"initially p(a).\n".as_slice())])?;
+        assert!(rt; checks(rt.alloc(), &theory, *code, line)?, "{count}");
     }
     Ok(())
 }
 
-/// How many blanks, and what `check` says of them.
-const LENGTHS: [(usize, u8, &[u8]); 2] = [
-    (1_048_576, 0, b"accepted rules 0 exclusives 0 strongs 0\n"),
-    (1_048_577, 3, b"theory too-long\n"),
+/// How many blanks, the status, and what `check` says of them and `serve` answers a `quit` under them.
+const LENGTHS: [(usize, u8, &[u8], &[u8]); 2] = [
+    (
+        1_048_576,
+        0,
+        b"accepted rules 0 exclusives 0 strongs 0\n",
+        b"bye\n",
+    ),
+    (1_048_577, 3, b"theory too-long\n", b"theory too-long\n"),
 ];
 
 #[test]
 fn the_file_of_a_theory_has_a_limit(rt: HostRuntime) -> Result<(), Fail> {
-    let mut blanks = Vec::new(rt.alloc());
-    for (length, code, line) in LENGTHS {
-        for _ in blanks.len()..length {
-            blanks.push(b'\n')?;
-        }
-        let (status, output) = ran(rt.alloc(), &["check", "t.ec"], &blanks, b"", 4_096)?;
-        assert_eq!(rt; status, code);
-        assert_eq!(rt; output.bytes(), line);
+    for (length, code, line, answer) in &LENGTHS {
+        let blanks = text_of(rt.alloc(), &[(*length, b"\n".as_slice())])?;
+        assert!(rt; checks(rt.alloc(), &blanks, *code, line)?, "{length}");
+        assert!(rt;
+            serves(rt.alloc(), &blanks, b"quit\n", 4_096, *code, answer)?,
+            "{length}"
+        );
     }
     Ok(())
 }

@@ -1,4 +1,6 @@
 //! A whole run, and what it came to.
+//!
+//! The contract of `run` is long, so one function alone calls it, and the others call that one.
 use ec_outside::{MemFolder, MemSink, MemSource};
 use ec_server::run;
 use ec_terms::NoMemory;
@@ -6,10 +8,10 @@ use std::alloc::Global;
 use std::string::String;
 
 /// More than any reply or line here has.
-pub const ROOM: usize = 1 << 20;
+const ROOM: usize = 1 << 20;
 
 /// Words as the program gets them.
-pub fn words(alloc: Global, all: &[&str]) -> Result<Vec<String>, NoMemory> {
+fn words(alloc: Global, all: &[&str]) -> Result<Vec<String>, NoMemory> {
     let mut words = Vec::new(alloc);
     for word in all {
         words.push(String::from_str(alloc, word)?)?;
@@ -37,21 +39,85 @@ pub fn folder_with_lines(
     Ok(files)
 }
 
-/// The status of a run over one file named `t.ec` and an input that comes in pieces of at most `most` bytes, and what it
-/// wrote.
+/// An input that comes in pieces of at most `most` bytes, and of one at least, whose reads of these numbers fail.
+pub fn source(
+    alloc: Global,
+    lines: &[u8],
+    most: usize,
+    failing: &[u64],
+) -> Result<MemSource, NoMemory> {
+    MemSource::new(alloc, lines, most.max(1), failing)
+}
+
+/// An output that takes at most `most` bytes at a write, and one at least, whose writes and flushes of these numbers fail.
+pub fn sink(
+    alloc: Global,
+    most: usize,
+    writes: &[u64],
+    flushes: &[u64],
+) -> Result<MemSink, NoMemory> {
+    MemSink::new(alloc, ROOM, most.max(1), writes, flushes)
+}
+
+/// An output that takes all at one write, and never fails.
+pub fn wide_sink(alloc: Global) -> Result<MemSink, NoMemory> {
+    sink(alloc, ROOM, &[], &[])
+}
+
+/// What a run came to.
+#[derive(Drop)]
+pub struct Outcome {
+    status: u8,
+    output: MemSink,
+}
+
+impl Outcome {
+    /// Whether the run ended with this status, and wrote exactly these bytes.
+    pub fn is(&self, status: u8, written: &[u8]) -> bool {
+        self.status == status && self.output.bytes() == written
+    }
+}
+
+/// The status of a run.
+fn status_of(
+    alloc: Global,
+    words: &[String],
+    files: &mut MemFolder,
+    input: &mut MemSource,
+    output: &mut MemSink,
+) -> u8 {
+    run(alloc, words, files, input, output)
+}
+
+/// A run with these words.
+pub fn ran_over(
+    alloc: Global,
+    all: &[&str],
+    mut files: MemFolder,
+    mut input: MemSource,
+    mut output: MemSink,
+) -> Result<Outcome, NoMemory> {
+    let words = words(alloc, all)?;
+    let status = status_of(alloc, &words, &mut files, &mut input, &mut output);
+    Ok(Outcome { status, output })
+}
+
+/// A run over one file named `t.ec` and an input that comes in pieces of at most `most` bytes.
 pub fn ran(
     alloc: Global,
     all: &[&str],
     theory: &[u8],
     lines: &[u8],
     most: usize,
-) -> Result<(u8, MemSink), NoMemory> {
-    let mut files = folder(alloc, theory, &[])?;
-    let mut input = MemSource::new(alloc, lines, most.max(1), &[])?;
-    let mut output = MemSink::new(alloc, ROOM, ROOM, &[], &[])?;
-    let words = words(alloc, all)?;
-    let status = run(alloc, &words, &mut files, &mut input, &mut output);
-    Ok((status, output))
+) -> Result<Outcome, NoMemory> {
+    let files = folder(alloc, theory, &[])?;
+    let input = source(alloc, lines, most, &[])?;
+    ran_over(alloc, all, files, input, wide_sink(alloc)?)
+}
+
+/// Whether `check` of a theory comes to a status and these bytes.
+pub fn checks(alloc: Global, theory: &[u8], status: u8, written: &[u8]) -> Result<bool, NoMemory> {
+    Ok(ran(alloc, &["check", "t.ec"], theory, b"", 4_096)?.is(status, written))
 }
 
 /// Whether a run of `serve` comes to a status and these bytes, with an input in pieces of at most `most` bytes.
@@ -63,6 +129,5 @@ pub fn serves(
     status: u8,
     written: &[u8],
 ) -> Result<bool, NoMemory> {
-    let (code, output) = ran(alloc, &["serve", "t.ec"], theory, lines, most)?;
-    Ok(code == status && output.bytes() == written)
+    Ok(ran(alloc, &["serve", "t.ec"], theory, lines, most)?.is(status, written))
 }

@@ -173,6 +173,12 @@ const DIALOGUES: [Dialogue; 13] = [
             ("@1 abort", "@1 ok"),
             ("@1 abort", "@1 refused no-draft"),
             ("events", "0"),
+            // the session of a line without a prefix
+            ("@0 begin", "@0 ok"),
+            ("assert x 1 plug(a)", "drafted 1"),
+            ("@0 assert y 2 plug(b)", "@0 drafted 2"),
+            ("abort", "ok"),
+            ("@0 commit", "@0 refused no-draft"),
         ],
     },
     Dialogue {
@@ -181,8 +187,11 @@ const DIALOGUES: [Dialogue; 13] = [
         turns: &[
             ("assert p 5 plug(a)", "ok"),
             ("through powered(a) 9 8", "refused order"),
+            ("commit now", "refused syntax"),
+            ("abort now", "refused syntax"),
             ("begin", "ok"),
             ("begin", "refused in-draft"),
+            ("begin now", "refused syntax"),
             ("@64 last", "refused syntax"),
             ("holds Lit 3", "refused syntax"),
             ("  ", ""),
@@ -220,7 +229,7 @@ const COMMITS: [(&str, &str, &str); 2] = [
 
 #[test]
 fn a_full_draft_takes_no_line_and_is_committed_whole(rt: HostRuntime) -> Result<(), Fail> {
-    for (line, committed, last) in COMMITS {
+    for (line, committed, last) in &COMMITS {
         let mut script = Script::new(rt.alloc());
         script.add("begin", "ok")?;
         for k in 1..=1_023 {
@@ -231,6 +240,7 @@ fn a_full_draft_takes_no_line_and_is_committed_whole(rt: HostRuntime) -> Result<
         script.add(line, "drafted 1024")?;
         script.add("assert z 1 plug(a)", "refused full-draft 1024")?;
         script.add("retract d1", "refused full-draft 1024")?;
+        script.add("retract D1", "refused syntax")?;
         script.add("commit", committed)?;
         script.add("last", last)?;
         assert!(rt; script.is_served(rt.alloc(), ROOMS)?, "{committed}");
