@@ -5,7 +5,6 @@ use ec_axioms::{Cut, Event, Steps, Update};
 use ec_blocks::{BlockMarks, BlockSpans, BlockTimes};
 use ec_engine::{Engine, Refusal};
 use ec_moment::Tick;
-use ec_rows::{MarkRow, SpanRow, TimeRow};
 use ec_terms::{Name, NoMemory, read_ground};
 use ec_theory::accept;
 use std::alloc::Global;
@@ -19,6 +18,8 @@ const RULES: &[u8] = b"initiates push(P,L) lit(L) if powered(L), not lit(L).
 terminates push(P,L) lit(L) if lit(L).
 initiates plug(L) powered(L).
 ";
+
+type Lamps = Engine<Tick, BlockMarks<Tick>, BlockSpans<Tick>, BlockTimes<Tick>>;
 
 fn event(
     rt: &impl Abort,
@@ -50,8 +51,8 @@ fn retract(rt: &impl Abort, id: &[u8]) -> Update<Tick> {
 }
 
 /// Whether a batch is applied, and seen, on, off and props are these.
-fn changes<M: MarkRow<Tick>, I: SpanRow<Tick>, X: TimeRow<Tick>, L: Ledger>(
-    engine: &mut Engine<Tick, M, I, X>,
+fn changes<L: Ledger>(
+    engine: &mut Lamps,
     batch: &[Update<Tick>],
     counts: [u64; 4],
     steps: &mut Steps<L>,
@@ -65,11 +66,7 @@ fn changes<M: MarkRow<Tick>, I: SpanRow<Tick>, X: TimeRow<Tick>, L: Ledger>(
 }
 
 /// Whether a batch is refused, for the second of its updates, which asserts a present identity.
-fn is_refused<M: MarkRow<Tick>, I: SpanRow<Tick>, X: TimeRow<Tick>, L: Ledger>(
-    engine: &mut Engine<Tick, M, I, X>,
-    batch: &[Update<Tick>],
-    steps: &mut Steps<L>,
-) -> bool
+fn is_refused<L: Ledger>(engine: &mut Lamps, batch: &[Update<Tick>], steps: &mut Steps<L>) -> bool
     requires { length batch.now < 2 ^ 32 }
 {
     match engine.revise(batch, steps) {
@@ -84,10 +81,10 @@ fn is_refused<M: MarkRow<Tick>, I: SpanRow<Tick>, X: TimeRow<Tick>, L: Ledger>(
 }
 
 /// A lamp is plugged in and pushed, pushed late, and the late push is taken back.
-fn counts_are_told<M: MarkRow<Tick>, I: SpanRow<Tick>, X: TimeRow<Tick>, L: Ledger>(
+fn counts_are_told<L: Ledger>(
     rt: &impl Abort,
     alloc: Global,
-    engine: &mut Engine<Tick, M, I, X>,
+    engine: &mut Lamps,
     steps: &mut Steps<L>,
 ) -> Result<bool, NoMemory> {
     let lit = [
@@ -104,10 +101,10 @@ fn counts_are_told<M: MarkRow<Tick>, I: SpanRow<Tick>, X: TimeRow<Tick>, L: Ledg
 }
 
 /// An event that is taken out and put in again is no change, and a batch that is refused leaves all as it was.
-fn nothing_changes<M: MarkRow<Tick>, I: SpanRow<Tick>, X: TimeRow<Tick>, L: Ledger>(
+fn nothing_changes<L: Ledger>(
     rt: &impl Abort,
     alloc: Global,
-    engine: &mut Engine<Tick, M, I, X>,
+    engine: &mut Lamps,
     steps: &mut Steps<L>,
 ) -> Result<bool, NoMemory> {
     let again = [retract(rt, b"q"), push(rt, alloc, b"q", 10)?];
@@ -119,34 +116,27 @@ fn nothing_changes<M: MarkRow<Tick>, I: SpanRow<Tick>, X: TimeRow<Tick>, L: Ledg
     )
 }
 
-/// What comes of these updates to an engine of no event.
-fn all_pass<M: MarkRow<Tick>, I: SpanRow<Tick>, X: TimeRow<Tick>, L: Ledger>(
+fn all_pass<L: Ledger>(
     rt: &impl Abort,
     alloc: Global,
+    engine: &mut Lamps,
     blank: Blank,
-) -> Result<bool, Fail>
+) -> Result<bool, NoMemory>
     requires name { blank.name ≡ L.name }
     requires parts { blank.parts ≡ L.parts }
     requires some { 0 < L.parts }
 {
-    let mut engine: Engine<Tick, M, I, X> = Engine::new(alloc, accept(alloc, RULES)?)?;
     let mut steps = Steps::<L>::new(blank);
     Ok(
-        counts_are_told(rt, alloc, &mut engine, &mut steps)?
-            && nothing_changes(rt, alloc, &mut engine, &mut steps)?
+        counts_are_told(rt, alloc, engine, &mut steps)?
+            && nothing_changes(rt, alloc, engine, &mut steps)?
             && engine.parts().store.len() == 5,
     )
 }
 
-/// A large type is proved faster as a parameter, so the rows are named here alone.
 #[test]
 fn batches_are_applied_and_counted(rt: HostRuntime) -> Result<(), Fail> {
-    assert!(rt;
-        all_pass::<BlockMarks<Tick>, BlockSpans<Tick>, BlockTimes<Tick>, Brand>(
-            &rt,
-            rt.alloc(),
-            Blank::new(1)
-        )?
-    );
+    let mut engine = Engine::new(rt.alloc(), accept(rt.alloc(), RULES)?)?;
+    assert!(rt; all_pass::<Brand>(&rt, rt.alloc(), &mut engine, Blank::new(1))?);
     Ok(())
 }

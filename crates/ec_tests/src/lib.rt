@@ -27,8 +27,6 @@ mod replayed;
 #[cfg(test)]
 mod soaked;
 #[cfg(test)]
-mod spans;
-#[cfg(test)]
 mod texts;
 #[cfg(test)]
 mod theories;
