@@ -240,7 +240,7 @@ fn a_full_draft_takes_no_line_and_is_committed_whole(rt: HostRuntime) -> Result<
         script.add(line, "drafted 1024")?;
         script.add("assert z 1 plug(a)", "refused full-draft 1024")?;
         script.add("retract d1", "refused full-draft 1024")?;
-        script.add("retract D1", "refused syntax")?;
+        script.add("retract Z", "refused syntax")?;
         script.add("commit", committed)?;
         script.add("last", last)?;
         assert!(rt; script.is_served(rt.alloc(), ROOMS)?, "{committed}");
