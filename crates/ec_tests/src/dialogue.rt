@@ -1,5 +1,5 @@
 //! Lines beside their replies.
-use crate::whole::{folder_with_lines, ran_over, serves, source, wide_sink};
+use crate::whole::{replays, serves};
 use ec_terms::NoMemory;
 use std::alloc::Global;
 
@@ -62,10 +62,6 @@ impl Script {
 
     /// Whether `replay` gives the replies to a file of the lines.
     pub fn is_replayed(&self, alloc: Global, theory: &[u8]) -> Result<bool, NoMemory> {
-        let files = folder_with_lines(alloc, theory, &self.lines, &[])?;
-        let input = source(alloc, b"", 1, &[])?;
-        let words = ["replay", "t.ec", "a.lines"];
-        let run = ran_over(alloc, &words, files, input, wide_sink(alloc)?)?;
-        Ok(run.is(0, &self.replies))
+        replays(alloc, theory, &self.lines, 0, &self.replies)
     }
 }

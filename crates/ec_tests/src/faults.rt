@@ -5,6 +5,7 @@ use ec_outside::MemSink;
 use ec_server::{Status, serve};
 use ec_terms::NoMemory;
 use ec_theory::accept;
+use ec_tokens::MOST_BYTES;
 use std::alloc::Global;
 use std::process::Abort;
 use std::test::Fail;
@@ -359,9 +360,6 @@ const LIMITS: [(&[u8], &[u8], u64, Status, &[u8]); 10] = [
     (LAMP, ONE_LINE, 17, Status::Done, b"ok\n"),
 ];
 
-/// The most bytes of a theory.
-const MOST_THEORY: usize = 1 << 20;
-
 /// How serving ends where at most `limit` bytes are taken, and what is written. None for a theory that is not accepted.
 fn served_up_to(
     alloc: Global,
@@ -370,7 +368,7 @@ fn served_up_to(
     most: usize,
     limit: u64,
 ) -> Result<Option<(Status, MemSink)>, NoMemory> {
-    if theory.len() > MOST_THEORY {
+    if theory.len() > MOST_BYTES {
         return Ok(None);
     }
     let Ok(checked) = accept(alloc, theory) else {

@@ -1,6 +1,6 @@
 //! Files of lines that are replayed.
 use crate::limits::{Piece, text_of};
-use crate::whole::{Outcome, folder_with_lines, ran_over, sink, source, wide_sink};
+use crate::whole::{Outcome, folder_with_lines, ran_over, replays, sink, source};
 use ec_terms::NoMemory;
 use std::alloc::Global;
 use std::test::Fail;
@@ -184,19 +184,14 @@ const LENGTHS: [(&[Piece], u8, &[u8]); 2] = [
     (&[(1_048_576, SPACES_64), (1, b" ")], 9, b""),
 ];
 
-/// Whether a replay of a file of lines comes to a status and these bytes.
-fn replays(alloc: Global, lines: &[u8], status: u8, written: &[u8]) -> Result<bool, NoMemory> {
-    let files = folder_with_lines(alloc, LAMPS, lines, NONE)?;
-    let input = source(alloc, b"", 1, NONE)?;
-    let words = ["replay", "t.ec", "a.lines"];
-    Ok(ran_over(alloc, &words, files, input, wide_sink(alloc)?)?.is(status, written))
-}
-
 #[test]
 fn the_file_of_lines_has_a_limit(rt: HostRuntime) -> Result<(), Fail> {
     for (pieces, code, written) in &LENGTHS {
         let spaces = text_of(rt.alloc(), pieces)?;
-        assert!(rt; replays(rt.alloc(), &spaces, *code, written)?, "{code}");
+        assert!(rt;
+            replays(rt.alloc(), LAMPS, &spaces, *code, written)?,
+            "{code}"
+        );
     }
     Ok(())
 }

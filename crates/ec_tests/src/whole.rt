@@ -131,3 +131,17 @@ pub fn serves(
 ) -> Result<bool, NoMemory> {
     Ok(ran(alloc, &["serve", "t.ec"], theory, lines, most)?.is(status, written))
 }
+
+/// Whether a run of `replay` comes to a status and these bytes, with nothing on the input.
+pub fn replays(
+    alloc: Global,
+    theory: &[u8],
+    lines: &[u8],
+    status: u8,
+    written: &[u8],
+) -> Result<bool, NoMemory> {
+    let files = folder_with_lines(alloc, theory, lines, &[])?;
+    let input = source(alloc, b"", 1, &[])?;
+    let words = ["replay", "t.ec", "a.lines"];
+    Ok(ran_over(alloc, &words, files, input, wide_sink(alloc)?)?.is(status, written))
+}
