@@ -4,6 +4,7 @@ use Rattle.ec_terms.specs.declared.theory.Theory.{Theory}
 use Rattle.ec_axioms.specs.Calculus.{PlainEvent}
 use Rattle.ec_axioms.specs.Links.{link_count, mentions_of}
 use Rattle.ec_events.specs.Store.{history_of}
+use Rattle.ec_parts.specs.declared.parts.Parts.{Parts}
 use Rattle.ec_parts.specs.declared.tally.Tally.{Tally}
 use Rattle.ec_parts.specs.StandFor.{StandFor, View}
 use Rattle.ec_engine.specs.Limits.{IsWithinLimits}
@@ -44,3 +45,15 @@ pub IsEngine-standing : {T : Type 0} (rank : T → ℤ) (theory : Theory) (event
 IsEngine-standing rank theory events view tally stand within =
     let same : events ≡ history_of rank view.store.events = sym stand.both.caches.events_of in
     record { stand = subst (λ es. StandFor rank theory es view tally) same stand; within = subst (λ es. IsWithinLimits theory es) same within }
+
+-- the same parts are within the same limits
+pub within-same : {T M I X : Type 0} (rank : T → ℤ) (one other : Parts T M I X) → one ≡ other → IsWithinLimits other.checked (history_of rank other.store.events) → IsWithinLimits one.checked (history_of rank one.store.events)
+within-same rank one other same within = subst (λ (p : Parts _ _ _ _). IsWithinLimits p.checked (history_of rank p.store.events)) (sym same) within
+
+-- the same parts are seen as the same
+pub seen-same : {T M I X : Type 0} (rank : T → ℤ) (one other : Parts T M I X) (seen : Standing) → one ≡ other
+    → (let made : Theory → List PlainEvent → Standing = λ t es. record { theory = t; events = es } in made other.checked (history_of rank other.store.events) ≡ seen)
+    → (let made : Theory → List PlainEvent → Standing = λ t es. record { theory = t; events = es } in made one.checked (history_of rank one.store.events) ≡ seen)
+seen-same rank one other seen same is =
+    let made : Theory → List PlainEvent → Standing = λ t es. record { theory = t; events = es } in
+    ap (λ (p : Parts _ _ _ _). made p.checked (history_of rank p.store.events)) same ∙ is

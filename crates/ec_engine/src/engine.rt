@@ -3,7 +3,7 @@ ghost use Rattle.std.specs.Prelude.{◌≡◌, ◌+◌, ◌≤◌, ◌<◌, ◌^
 ghost use Rattle.ec_terms.specs.Term.{ground_of, names_are_names};
 ghost use Rattle.ec_axioms.specs.Changes.{asserting, entry_count};
 ghost use Rattle.ec_axioms.specs.Events.{event_of, plain_update};
-ghost use Rattle.ec_parts.specs.StandFor.{view_of};
+ghost use Rattle.ec_parts.specs.StandFor.{StandFor, view_of};
 ghost use Rattle.ec_engine.specs.Build.{HaveOwnIds, history_from};
 ghost use Rattle.ec_engine.specs.Limits.{IsWithinLimits};
 ghost use Rattle.ec_engine.specs.Revise.{IsRevised, most_steps};
@@ -30,10 +30,11 @@ use std::sync::ledger::Ledger;
 /// Contracts see the theory and the list.
 #[derive(Drop)]
 pub struct Engine<T: Moment, M: MarkRow<T>, I: SpanRow<T>, X: TimeRow<T>> {
-    parts: Parts<T, M, I, X>,
+    /// In a box, as the lists are, so that an engine is small to move.
+    parts: Box<Parts<T, M, I, X>>,
     tally: Tally,
     /// Room for the lists of a change.
-    lists: Lists<T>,
+    lists: Box<Lists<T>>,
     alloc: Global,
 }
 
@@ -44,9 +45,9 @@ impl<T: Moment, M: MarkRow<T>, I: SpanRow<T>, X: TimeRow<T>> Model for Engine<T,
 
     ghost Value = { Standing };
 
-    ghost view = { λ engine. record { theory = engine.parts.checked; events = history_of T.rank engine.parts.store.events } };
+    ghost view = { λ engine. record { theory = engine.parts.value.checked; events = history_of T.rank engine.parts.value.store.events } };
 
-    ghost invariant = { λ engine. IsEngine T.rank engine.parts.checked (view_of engine.parts) engine.tally };
+    ghost invariant = { λ engine. IsEngine T.rank engine.parts.value.checked (view_of engine.parts.value) engine.tally };
 }
 
 impl<T: Moment, M: MarkRow<T>, I: SpanRow<T>, X: TimeRow<T>> Engine<T, M, I, X> {
@@ -54,12 +55,11 @@ impl<T: Moment, M: MarkRow<T>, I: SpanRow<T>, X: TimeRow<T>> Engine<T, M, I, X> 
     pub fn new(alloc: Global, checked: Checked) -> Result<Engine<T, M, I, X>, NoMemory>
         ensures { IfOk result (λ engine. engine ≡ record { theory = checked; events = [] }) }
     {
-        let rules = Rules::new(alloc, checked)?;
-        let (parts, tally) = new_parts(alloc, rules)?;
+        let (parts, tally) = boxed_parts(alloc, checked)?;
         Ok(Engine {
             parts,
             tally,
-            lists: Lists::new(alloc),
+            lists: boxed(alloc, Lists::new(alloc))?,
             alloc,
         })
     }
@@ -78,9 +78,8 @@ impl<T: Moment, M: MarkRow<T>, I: SpanRow<T>, X: TimeRow<T>> Engine<T, M, I, X> 
         ensures built { IfOk result (λ engine. engine ≡ record { theory = checked; events = history_from (map (event_of T.rank) list.now) }) }
         ensures steps { steps.new ≤ steps.old + entry_count checked (history_from (map (event_of T.rank) list.now)) + length list.now }
     {
-        let rules = Rules::new(alloc, checked)?;
-        let (mut parts, mut tally) = new_parts(alloc, rules)?;
-        let mut lists = Lists::new(alloc);
+        let (mut parts, mut tally) = boxed_parts(alloc, checked)?;
+        let mut lists = boxed(alloc, Lists::new(alloc))?;
         fill(alloc, &mut lists, &mut parts, &mut tally, list, steps)?;
         Ok(Engine {
             parts,
@@ -114,14 +113,15 @@ impl<T: Moment, M: MarkRow<T>, I: SpanRow<T>, X: TimeRow<T>> Engine<T, M, I, X> 
         ensures theory { self.new.theory ≡ self.old.theory }
         ensures steps { steps.new ≤ steps.old + most_steps self.old.theory self.old.events (map (plain_update T.rank) batch.now) }
     {
-        let walk = match attempt(self.alloc, &mut self.parts, &mut self.tally, batch, steps) {
+        let parts = &mut *self.parts;
+        let walk = match attempt(self.alloc, parts, &mut self.tally, batch, steps) {
             Ok(walk) => walk,
             Err(refusal) => return Err(refusal),
         };
         let Ok(seen) = carry_out(
             self.alloc,
             &mut self.lists,
-            &mut self.parts,
+            parts,
             &mut self.tally,
             walk,
             steps,
@@ -145,14 +145,15 @@ impl<T: Moment, M: MarkRow<T>, I: SpanRow<T>, X: TimeRow<T>> Engine<T, M, I, X> 
         ensures theory { self.new.theory ≡ self.old.theory }
         ensures steps { steps.new ≤ steps.old + most_steps self.old.theory self.old.events (asserting (record { id = id; rank = T.rank at; term = ground_of event.now }) ∷ []) }
     {
-        let arrived = arrive(self.alloc, &mut self.parts, &mut self.tally, id, at, event);
+        let parts = &mut *self.parts;
+        let arrived = arrive(self.alloc, parts, &mut self.tally, id, at, event);
         let arrival = match arrived {
             Ok(arrival) => arrival,
             Err(refusal) => return Err(refusal),
         };
         let carried = carry_change(
             &mut self.lists,
-            &mut self.parts,
+            parts,
             &mut self.tally,
             arrival.change,
             arrival.fresh.as_slice(),
@@ -164,4 +165,25 @@ impl<T: Moment, M: MarkRow<T>, I: SpanRow<T>, X: TimeRow<T>> Engine<T, M, I, X> 
         };
         Ok(seen)
     }
+}
+
+/// A value in a box. `Err`: memory ran out.
+fn boxed<V: Drop>(alloc: Global, value: V) -> Result<Box<V>, NoMemory>
+    ensures { IfOk result (λ boxed. boxed.value ≡ value) }
+{
+    Ok(Box::new(alloc, value)?)
+}
+
+/// The parts of no event under a theory, in a box.
+fn boxed_parts<T: Moment, M: MarkRow<T>, I: SpanRow<T>, X: TimeRow<T>>(
+    alloc: Global,
+    checked: Checked,
+) -> Result<(Box<Parts<T, M, I, X>>, Tally), NoMemory>
+    ensures stand { IfOk result (λ made. StandFor T.rank checked [] (view_of made.0.value) made.1) }
+    ensures theory { IfOk result (λ made. made.0.value.checked ≡ checked) }
+    ensures tally { IfOk result (λ made. made.1 ≡ record { mentions = 0; links = 0 }) }
+{
+    let rules = Rules::new(alloc, checked)?;
+    let (parts, tally) = new_parts(alloc, rules)?;
+    Ok((boxed(alloc, parts)?, tally))
 }

@@ -13,34 +13,34 @@ use Rattle.ec_engine.specs.Standing.{Standing}
 use Rattle.ec_engine.proofs.Arrivals.{IsRevised-turned_away, LeadsTo-moved, stands_turned_away}
 use Rattle.ec_engine.proofs.Carried.{IsCarriedOut-moved}
 use Rattle.ec_engine.proofs.Revising.{IsRevised-carried, IsRevised-no_memory, most_steps-carried}
-use Rattle.ec_engine.proofs.Standings.{IsEngine-standing}
+use Rattle.ec_engine.proofs.Standings.{IsEngine-standing, seen-same, within-same}
 use Rattle.ec_engine.proofs.engine.Engine.assert.Goals as goal
 
 pub invariant_of-self : goal.invariant_of-self
 invariant_of-self g c =
     let rank = g.T.Moment.rank in
-    let inside = c.self.inside.parts in
+    let inside = c.deref_mut-parts.result.now in
     let later = c.arrive-arrived.new.parts in
     let hist = history_of rank inside.store.events in
     let e : PlainEvent = record { id = c.args.id; rank = rank c.args.at; term = ground_of c.args.event.now } in
     let stand = stands_turned_away rank inside.checked inside.store.events e (view_of later) c.arrive-arrived.new.tally c.in-Err.refusal c.in-Err.ensures.arrived in
     IsEngine-standing rank later.checked hist (view_of later) c.arrive-arrived.new.tally
     (subst (λ t. StandFor rank t hist (view_of later) c.arrive-arrived.new.tally) (sym c.arrive-arrived.ensures.theory) stand)
-    (subst (λ t. IsWithinLimits t hist) (sym c.arrive-arrived.ensures.theory) c.self.invariant.within)
+    (subst (λ t. IsWithinLimits t hist) (sym c.arrive-arrived.ensures.theory) (within-same rank c.deref_mut-parts.result.now c.self.inside.parts.value c.deref_mut-parts.ensures.value c.self.invariant.within))
 
 pub returns-in-Err-clause-revised : goal.returns-in-Err-clause-revised
 returns-in-Err-clause-revised g c =
     let rank = g.T.Moment.rank in
-    let inside = c.self.inside.parts in
+    let inside = c.deref_mut-parts.result.now in
     let later = c.arrive-arrived.new.parts in
     let e : PlainEvent = record { id = c.args.id; rank = rank c.args.at; term = ground_of c.args.event.now } in
-    subst (λ (s : Standing). IsRevised s.theory s.events (asserting e ∷ []) (Err c.in-Err.refusal) (history_of rank later.store.events)) c.self.view_is
+    subst (λ (s : Standing). IsRevised s.theory s.events (asserting e ∷ []) (Err c.in-Err.refusal) (history_of rank later.store.events)) (seen-same rank c.deref_mut-parts.result.now c.self.inside.parts.value c.args.self.now c.deref_mut-parts.ensures.value c.self.view_is)
     (IsRevised-turned_away rank inside.checked inside.store.events e (view_of later) c.arrive-arrived.new.tally c.in-Err.refusal c.in-Err.ensures.arrived)
 
 pub carry_change-carried-requires-clause-leads : goal.carry_change-carried-requires-clause-leads
 carry_change-carried-requires-clause-leads g c =
     let rank = g.T.Moment.rank in
-    let inside = c.self.inside.parts in
+    let inside = c.deref_mut-parts.result.now in
     let later = c.arrive-arrived.new.parts in
     let hist = history_of rank inside.store.events in
     let e : PlainEvent = record { id = c.args.id; rank = rank c.args.at; term = ground_of c.args.event.now } in
@@ -53,7 +53,7 @@ carry_change-carried-requires-clause-leads g c =
 pub invariant_of-self-in_default : goal.invariant_of-self-in_default
 invariant_of-self-in_default g c =
     let rank = g.T.Moment.rank in
-    let inside = c.self.inside.parts in
+    let inside = c.deref_mut-parts.result.now in
     let later = c.arrive-arrived.new.parts in
     let last = c.carry_change-carried.new.parts in
     let counted = c.carry_change-carried.new.tally in
@@ -67,12 +67,12 @@ invariant_of-self-in_default g c =
     (c.in_default.ensures.carried soon leads) in
     let theories = c.carry_change-carried.ensures.theory ∙ c.arrive-arrived.ensures.theory in
     IsEngine-standing rank last.checked hist (view_of last) counted (subst (λ t. StandFor rank t hist (view_of last) counted) (sym theories) carried)
-    (subst (λ t. IsWithinLimits t hist) (sym theories) c.self.invariant.within)
+    (subst (λ t. IsWithinLimits t hist) (sym theories) (within-same rank c.deref_mut-parts.result.now c.self.inside.parts.value c.deref_mut-parts.ensures.value c.self.invariant.within))
 
 pub returns-in_default-clause-revised : goal.returns-in_default-clause-revised
 returns-in_default-clause-revised g c =
     let rank = g.T.Moment.rank in
-    let inside = c.self.inside.parts in
+    let inside = c.deref_mut-parts.result.now in
     let later = c.arrive-arrived.new.parts in
     let last = c.carry_change-carried.new.parts in
     let counted = c.carry_change-carried.new.tally in
@@ -84,13 +84,13 @@ returns-in_default-clause-revised g c =
     let leads = LeadsTo-moved rank inside.checked later.checked (view_of later) c.arrive-arrived.new.tally c.in-Ok.arrival.change c.in-Ok.arrival.fresh.items c.as_slice.result.now [] soon c.arrive-arrived.ensures.theory c.as_slice.ensures.value came.1 in
     let carried = IsCarriedOut-moved rank inside.checked later.checked inside.store.events later.store.events soon (view_of last) counted (Err c.in_default.field-0) c.arrive-arrived.ensures.theory stored
     (c.in_default.ensures.carried soon leads) in
-    subst (λ (s : Standing). IsRevised s.theory s.events (asserting e ∷ []) (Err Memory) (history_of rank last.store.events)) c.self.view_is
+    subst (λ (s : Standing). IsRevised s.theory s.events (asserting e ∷ []) (Err Memory) (history_of rank last.store.events)) (seen-same rank c.deref_mut-parts.result.now c.self.inside.parts.value c.args.self.now c.deref_mut-parts.ensures.value c.self.view_is)
     (IsRevised-no_memory rank inside.checked hist soon (asserting e ∷ []) (view_of last) counted came.0 c.in_default.field-0 carried)
 
 pub returns-in_default-clause-steps : goal.returns-in_default-clause-steps
 returns-in_default-clause-steps g c =
     let rank = g.T.Moment.rank in
-    let inside = c.self.inside.parts in
+    let inside = c.deref_mut-parts.result.now in
     let later = c.arrive-arrived.new.parts in
     let last = c.carry_change-carried.new.parts in
     let counted = c.carry_change-carried.new.tally in
@@ -104,13 +104,13 @@ returns-in_default-clause-steps g c =
     let moved : steps_between later.checked (history_of rank later.store.events) soon ≡ steps_between inside.checked hist soon =
     ap (λ t. steps_between t (history_of rank later.store.events) soon) c.arrive-arrived.ensures.theory ∙ ap (λ es. steps_between inside.checked (history_of rank es) soon) stored in
     let most = most_steps-carried rank inside.checked hist soon (asserting e ∷ []) (view_of last) counted came.0 in
-    let seen = ap (λ (s : Standing). most_steps s.theory s.events (asserting e ∷ [])) c.self.view_is in
+    let seen = ap (λ (s : Standing). most_steps s.theory s.events (asserting e ∷ [])) (seen-same rank c.deref_mut-parts.result.now c.self.inside.parts.value c.args.self.now c.deref_mut-parts.ensures.value c.self.view_is) in
     omega arith
 
 pub invariant_of-self-2 : goal.invariant_of-self-2
 invariant_of-self-2 g c =
     let rank = g.T.Moment.rank in
-    let inside = c.self.inside.parts in
+    let inside = c.deref_mut-parts.result.now in
     let later = c.arrive-arrived.new.parts in
     let last = c.carry_change-carried.new.parts in
     let counted = c.carry_change-carried.new.tally in
@@ -129,7 +129,7 @@ invariant_of-self-2 g c =
 pub returns-clause-revised : goal.returns-clause-revised
 returns-clause-revised g c =
     let rank = g.T.Moment.rank in
-    let inside = c.self.inside.parts in
+    let inside = c.deref_mut-parts.result.now in
     let later = c.arrive-arrived.new.parts in
     let last = c.carry_change-carried.new.parts in
     let counted = c.carry_change-carried.new.tally in
@@ -141,13 +141,13 @@ returns-clause-revised g c =
     let leads = LeadsTo-moved rank inside.checked later.checked (view_of later) c.arrive-arrived.new.tally c.in-Ok.arrival.change c.in-Ok.arrival.fresh.items c.as_slice.result.now [] soon c.arrive-arrived.ensures.theory c.as_slice.ensures.value came.1 in
     let carried = IsCarriedOut-moved rank inside.checked later.checked inside.store.events later.store.events soon (view_of last) counted (Ok c.in-Ok-carried.seen) c.arrive-arrived.ensures.theory stored
     (c.in-Ok-carried.ensures.carried soon leads) in
-    subst (λ (s : Standing). IsRevised s.theory s.events (asserting e ∷ []) (Ok c.in-Ok-carried.seen) (history_of rank last.store.events)) c.self.view_is
+    subst (λ (s : Standing). IsRevised s.theory s.events (asserting e ∷ []) (Ok c.in-Ok-carried.seen) (history_of rank last.store.events)) (seen-same rank c.deref_mut-parts.result.now c.self.inside.parts.value c.args.self.now c.deref_mut-parts.ensures.value c.self.view_is)
     (IsRevised-carried rank inside.checked hist soon (asserting e ∷ []) (view_of last) counted came.0 c.in-Ok-carried.seen carried)
 
 pub returns-clause-steps : goal.returns-clause-steps
 returns-clause-steps g c =
     let rank = g.T.Moment.rank in
-    let inside = c.self.inside.parts in
+    let inside = c.deref_mut-parts.result.now in
     let later = c.arrive-arrived.new.parts in
     let last = c.carry_change-carried.new.parts in
     let counted = c.carry_change-carried.new.tally in
@@ -161,5 +161,5 @@ returns-clause-steps g c =
     let moved : steps_between later.checked (history_of rank later.store.events) soon ≡ steps_between inside.checked hist soon =
     ap (λ t. steps_between t (history_of rank later.store.events) soon) c.arrive-arrived.ensures.theory ∙ ap (λ es. steps_between inside.checked (history_of rank es) soon) stored in
     let most = most_steps-carried rank inside.checked hist soon (asserting e ∷ []) (view_of last) counted came.0 in
-    let seen = ap (λ (s : Standing). most_steps s.theory s.events (asserting e ∷ [])) c.self.view_is in
+    let seen = ap (λ (s : Standing). most_steps s.theory s.events (asserting e ∷ [])) (seen-same rank c.deref_mut-parts.result.now c.self.inside.parts.value c.args.self.now c.deref_mut-parts.ensures.value c.self.view_is) in
     omega arith

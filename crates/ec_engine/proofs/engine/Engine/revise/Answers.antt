@@ -14,19 +14,19 @@ use Rattle.ec_engine.specs.Walk.{HasWalkedTo}
 use Rattle.ec_engine.proofs.Batches.{goes_ok}
 use Rattle.ec_engine.proofs.Carried.{HasWalkedTo-moved, IsCarriedOut-moved}
 use Rattle.ec_engine.proofs.Revising.{IsRevised-carried, IsRevised-no_memory, most_steps-carried, most_steps-least, stands_refused}
-use Rattle.ec_engine.proofs.Standings.{IsEngine-standing}
+use Rattle.ec_engine.proofs.Standings.{IsEngine-standing, seen-same, within-same}
 use Rattle.ec_engine.proofs.engine.Engine.revise.Goals as goal
 
 pub invariant_of-self : goal.invariant_of-self
 invariant_of-self g c =
     let rank = g.T.Moment.rank in
-    let inside = c.self.inside.parts in
+    let inside = c.deref_mut-parts.result.now in
     let later = c.attempt.new.parts in
     let hist = history_of rank inside.store.events in
     let stand = stands_refused rank inside.checked inside.store.events (map (plain_update rank) c.args.batch.now) (view_of later) c.attempt.new.tally c.in-Err.refusal c.in-Err.ensures.goes in
     IsEngine-standing rank later.checked hist (view_of later) c.attempt.new.tally
     (subst (λ t. StandFor rank t hist (view_of later) c.attempt.new.tally) (sym c.in-Err.ensures.theory) stand)
-    (subst (λ t. IsWithinLimits t hist) (sym c.in-Err.ensures.theory) c.self.invariant.within)
+    (subst (λ t. IsWithinLimits t hist) (sym c.in-Err.ensures.theory) (within-same rank c.deref_mut-parts.result.now c.self.inside.parts.value c.deref_mut-parts.ensures.value c.self.invariant.within))
 
 pub returns-in-Err-clause-steps : goal.returns-in-Err-clause-steps
 returns-in-Err-clause-steps g c =
@@ -39,7 +39,7 @@ returns-in-Err-clause-steps g c =
 pub carry_out-requires-clause-walked : goal.carry_out-requires-clause-walked
 carry_out-requires-clause-walked g c =
     let rank = g.T.Moment.rank in
-    let inside = c.self.inside.parts in
+    let inside = c.deref_mut-parts.result.now in
     let later = c.attempt.new.parts in
     let went = goes_ok (updated_by inside.checked (history_of rank inside.store.events) (map (plain_update rank) c.args.batch.now))
     (λ after. HasWalkedTo rank inside.checked inside.store.events after (view_of later) c.attempt.new.tally c.in-Ok.walk) c.in-Ok.ensures.goes in
@@ -51,7 +51,7 @@ carry_out-requires-clause-walked g c =
 pub invariant_of-self-in_default : goal.invariant_of-self-in_default
 invariant_of-self-in_default g c =
     let rank = g.T.Moment.rank in
-    let inside = c.self.inside.parts in
+    let inside = c.deref_mut-parts.result.now in
     let later = c.attempt.new.parts in
     let last = c.carry_out.new.parts in
     let counted = c.carry_out.new.tally in
@@ -64,12 +64,12 @@ invariant_of-self-in_default g c =
     (c.in_default.ensures.carried went.0 walked) in
     let theories = c.carry_out.ensures.theory ∙ c.in-Ok.ensures.theory in
     IsEngine-standing rank last.checked hist (view_of last) counted (subst (λ t. StandFor rank t hist (view_of last) counted) (sym theories) carried)
-    (subst (λ t. IsWithinLimits t hist) (sym theories) c.self.invariant.within)
+    (subst (λ t. IsWithinLimits t hist) (sym theories) (within-same rank c.deref_mut-parts.result.now c.self.inside.parts.value c.deref_mut-parts.ensures.value c.self.invariant.within))
 
 pub returns-in_default-clause-revised : goal.returns-in_default-clause-revised
 returns-in_default-clause-revised g c =
     let rank = g.T.Moment.rank in
-    let inside = c.self.inside.parts in
+    let inside = c.deref_mut-parts.result.now in
     let later = c.attempt.new.parts in
     let last = c.carry_out.new.parts in
     let counted = c.carry_out.new.tally in
@@ -80,13 +80,13 @@ returns-in_default-clause-revised g c =
     let walked = HasWalkedTo-moved rank inside.checked later.checked inside.store.events later.store.events went.0 (view_of later) c.attempt.new.tally c.in-Ok.walk c.in-Ok.ensures.theory stored went.2 in
     let carried = IsCarriedOut-moved rank inside.checked later.checked inside.store.events later.store.events went.0 (view_of last) counted (Err c.in_default.field-0) c.in-Ok.ensures.theory stored
     (c.in_default.ensures.carried went.0 walked) in
-    subst (λ (s : Standing). IsRevised s.theory s.events updates (Err Memory) (history_of rank last.store.events)) c.self.view_is
+    subst (λ (s : Standing). IsRevised s.theory s.events updates (Err Memory) (history_of rank last.store.events)) (seen-same rank c.deref_mut-parts.result.now c.self.inside.parts.value c.args.self.now c.deref_mut-parts.ensures.value c.self.view_is)
     (IsRevised-no_memory rank inside.checked hist went.0 updates (view_of last) counted went.1 c.in_default.field-0 carried)
 
 pub returns-in_default-clause-steps : goal.returns-in_default-clause-steps
 returns-in_default-clause-steps g c =
     let rank = g.T.Moment.rank in
-    let inside = c.self.inside.parts in
+    let inside = c.deref_mut-parts.result.now in
     let later = c.attempt.new.parts in
     let last = c.carry_out.new.parts in
     let counted = c.carry_out.new.tally in
@@ -99,7 +99,7 @@ returns-in_default-clause-steps g c =
     let moved : steps_between later.checked (history_of rank later.store.events) went.0 ≡ steps_between inside.checked hist went.0 =
     ap (λ t. steps_between t (history_of rank later.store.events) went.0) c.in-Ok.ensures.theory ∙ ap (λ es. steps_between inside.checked (history_of rank es) went.0) stored in
     let most = most_steps-carried rank inside.checked hist went.0 updates (view_of last) counted went.1 in
-    let seen = ap (λ (s : Standing). most_steps s.theory s.events updates) c.self.view_is in
+    let seen = ap (λ (s : Standing). most_steps s.theory s.events updates) (seen-same rank c.deref_mut-parts.result.now c.self.inside.parts.value c.args.self.now c.deref_mut-parts.ensures.value c.self.view_is) in
     let count = length-map c.args.batch.now (plain_update rank) in
     let tried = c.in-Ok.ensures.steps in
     let touched = c.in-Ok.ensures.len in
@@ -108,7 +108,7 @@ returns-in_default-clause-steps g c =
 pub invariant_of-self-2 : goal.invariant_of-self-2
 invariant_of-self-2 g c =
     let rank = g.T.Moment.rank in
-    let inside = c.self.inside.parts in
+    let inside = c.deref_mut-parts.result.now in
     let later = c.attempt.new.parts in
     let last = c.carry_out.new.parts in
     let counted = c.carry_out.new.tally in
@@ -126,7 +126,7 @@ invariant_of-self-2 g c =
 pub returns-clause-revised : goal.returns-clause-revised
 returns-clause-revised g c =
     let rank = g.T.Moment.rank in
-    let inside = c.self.inside.parts in
+    let inside = c.deref_mut-parts.result.now in
     let later = c.attempt.new.parts in
     let last = c.carry_out.new.parts in
     let counted = c.carry_out.new.tally in
@@ -137,13 +137,13 @@ returns-clause-revised g c =
     let walked = HasWalkedTo-moved rank inside.checked later.checked inside.store.events later.store.events went.0 (view_of later) c.attempt.new.tally c.in-Ok.walk c.in-Ok.ensures.theory stored went.2 in
     let carried = IsCarriedOut-moved rank inside.checked later.checked inside.store.events later.store.events went.0 (view_of last) counted (Ok c.in-Ok-carry_out.seen) c.in-Ok.ensures.theory stored
     (c.in-Ok-carry_out.ensures.carried went.0 walked) in
-    subst (λ (s : Standing). IsRevised s.theory s.events updates (Ok c.in-Ok-carry_out.seen) (history_of rank last.store.events)) c.self.view_is
+    subst (λ (s : Standing). IsRevised s.theory s.events updates (Ok c.in-Ok-carry_out.seen) (history_of rank last.store.events)) (seen-same rank c.deref_mut-parts.result.now c.self.inside.parts.value c.args.self.now c.deref_mut-parts.ensures.value c.self.view_is)
     (IsRevised-carried rank inside.checked hist went.0 updates (view_of last) counted went.1 c.in-Ok-carry_out.seen carried)
 
 pub returns-clause-steps : goal.returns-clause-steps
 returns-clause-steps g c =
     let rank = g.T.Moment.rank in
-    let inside = c.self.inside.parts in
+    let inside = c.deref_mut-parts.result.now in
     let later = c.attempt.new.parts in
     let last = c.carry_out.new.parts in
     let counted = c.carry_out.new.tally in
@@ -156,7 +156,7 @@ returns-clause-steps g c =
     let moved : steps_between later.checked (history_of rank later.store.events) went.0 ≡ steps_between inside.checked hist went.0 =
     ap (λ t. steps_between t (history_of rank later.store.events) went.0) c.in-Ok.ensures.theory ∙ ap (λ es. steps_between inside.checked (history_of rank es) went.0) stored in
     let most = most_steps-carried rank inside.checked hist went.0 updates (view_of last) counted went.1 in
-    let seen = ap (λ (s : Standing). most_steps s.theory s.events updates) c.self.view_is in
+    let seen = ap (λ (s : Standing). most_steps s.theory s.events updates) (seen-same rank c.deref_mut-parts.result.now c.self.inside.parts.value c.args.self.now c.deref_mut-parts.ensures.value c.self.view_is) in
     let count = length-map c.args.batch.now (plain_update rank) in
     let tried = c.in-Ok.ensures.steps in
     let touched = c.in-Ok.ensures.len in
