@@ -184,16 +184,52 @@ fn all_have_neighbours(neighbours: &Neighbours, ids: &[PropId], wanted: &str) ->
     ids.len() == wanted.split(';').count()
 }
 
+/// Keeps and adds the terms of a text, and says whether each has its neighbours.
+fn stand_in(
+    rt: &impl Abort,
+    alloc: Global,
+    theory: &Theory,
+    props: &mut PropTable,
+    neighbours: &mut Neighbours,
+    terms: &str,
+    wanted: &str,
+) -> Result<bool, NoMemory>
+    requires matchable { IsMatchable theory.now }
+    requires neighbours { AreNeighbours theory.now props.old neighbours.old }
+{
+    let ids = enter_all(rt, alloc, theory, props, neighbours, terms)?;
+    Ok(all_have_neighbours(neighbours, &ids, wanted))
+}
+
+/// The same in a table of no properties.
+fn stand_under(
+    rt: &impl Abort,
+    alloc: Global,
+    theory: &Theory,
+    terms: &str,
+    wanted: &str,
+) -> Result<bool, NoMemory>
+    requires { IsMatchable theory.now }
+{
+    let (mut props, mut neighbours) = nothing(alloc, theory)?;
+    stand_in(
+        rt,
+        alloc,
+        theory,
+        &mut props,
+        &mut neighbours,
+        terms,
+        wanted,
+    )
+}
+
 /// Builds a row and says whether each of its properties has its neighbours.
 fn stands(rt: &impl Abort, alloc: Global, told: &str, wanted: &str) -> Result<bool, Fail> {
     let (declared, terms) = told.split_once(" : ").expect(rt, told);
     let declared = declared.as_bytes();
     assert!(rt; declared.len() <= MOST_BYTES);
     let checked = accept(alloc, declared)?;
-    let theory = checked.theory();
-    let (mut props, mut neighbours) = nothing(alloc, theory)?;
-    let ids = enter_all(rt, alloc, theory, &mut props, &mut neighbours, terms)?;
-    Ok(all_have_neighbours(&neighbours, &ids, wanted))
+    Ok(stand_under(rt, alloc, checked.theory(), terms, wanted)?)
 }
 
 #[test]
@@ -444,6 +480,28 @@ fn count_neighbours(theory: &Theory, props: &PropTable, neighbours: &Neighbours)
 
 /// Adds and takes away properties at random, sees after each change that all have the neighbours of the plain test, and
 /// counts these.
+fn count_turns(
+    rt: &impl Abort,
+    theory: &Theory,
+    draws: &mut Draws,
+    props: &mut PropTable,
+    neighbours: &mut Neighbours,
+) -> Result<usize, NoMemory>
+    requires matchable { IsMatchable theory.now }
+    requires neighbours { AreNeighbours theory.now props.old neighbours.old }
+{
+    let mut sum: usize = 0;
+    for _ in 0..60 {
+        let spelt = TERMS.split(' ').nth(draws.draw(16) as usize);
+        let term = term_of(rt, spelt.expect(rt, "a term").as_bytes());
+        turn(theory, props, neighbours, &term)?;
+        let count = count_neighbours(theory, props, neighbours).expect(rt, "neighbours");
+        sum = sum.wrapping_add(count);
+    }
+    Ok(sum)
+}
+
+/// The same in a table of no properties.
 fn count_drawn(
     rt: &impl Abort,
     alloc: Global,
@@ -453,15 +511,7 @@ fn count_drawn(
     requires { IsMatchable theory.now }
 {
     let (mut props, mut neighbours) = nothing(alloc, theory)?;
-    let mut sum: usize = 0;
-    for _ in 0..60 {
-        let spelt = TERMS.split(' ').nth(draws.draw(16) as usize);
-        let term = term_of(rt, spelt.expect(rt, "a term").as_bytes());
-        turn(theory, &mut props, &mut neighbours, &term)?;
-        let count = count_neighbours(theory, &props, &neighbours).expect(rt, "neighbours");
-        sum = sum.wrapping_add(count);
-    }
-    Ok(sum)
+    count_turns(rt, theory, draws, &mut props, &mut neighbours)
 }
 
 #[test]

@@ -42,27 +42,48 @@ fn keep(rt: &impl Abort, table: &mut PropTable, term: &GroundRef<'_>) -> PropId
     }
 }
 
-#[test]
-fn terms_stand_in_order(rt: HostRuntime) {
-    let mut table = PropTable::new(rt.alloc()).expect(&rt, "memory");
+/// Keeps the terms, each fifth one next.
+fn keep_terms(rt: &impl Abort, table: &mut PropTable) {
     for step in 0..COUNT {
         let spelt = TERMS.split(' ').nth(step * 5 % COUNT);
-        let spelt = spelt.expect(&rt, "a term");
-        let _ = keep(&rt, &mut table, &term(&rt, spelt.as_bytes()));
+        let spelt = spelt.expect(rt, "a term");
+        let _ = keep(rt, table, &term(rt, spelt.as_bytes()));
     }
+}
+
+/// Whether a term stands at a place, is found, and keeps its number.
+fn stands_at(rt: &impl Abort, table: &mut PropTable, place: usize, wanted: &GroundRef<'_>) -> bool
+    requires { IsTrue (names_are_names (ground_of wanted.now)) }
+{
+    if table.len() <= place {
+        return false;
+    }
+    let p = table.nth_in_order(place);
+    order(&table.ground(p), wanted).is_eq()
+        && table.lookup(wanted) == Some(p)
+        && keep(rt, table, wanted) == p
+}
+
+/// Keeps the terms, and sees that they stand in order and that others are not found.
+fn keep_in_order(rt: &impl Abort, table: &mut PropTable) {
+    keep_terms(rt, table);
     assert_eq!(rt; table.len(), COUNT);
     assert_eq!(rt; TERMS.split(' ').count(), COUNT);
     for (place, spelt) in TERMS.split(' ').enumerate() {
-        let wanted = term(&rt, spelt.as_bytes());
-        assert!(rt; place < table.len());
-        let p = table.nth_in_order(place);
-        assert!(rt; order(&table.ground(p), &wanted).is_eq(), "at {place}");
-        assert_eq!(rt; table.lookup(&wanted), Some(p), "at {place}");
-        assert_eq!(rt; keep(&rt, &mut table, &wanted), p, "at {place}");
+        assert!(rt;
+            stands_at(rt, table, place, &term(rt, spelt.as_bytes())),
+            "at {place}"
+        );
     }
     for spelt in ABSENT.split(' ') {
-        assert_eq!(rt; table.lookup(&term(&rt, spelt.as_bytes())), None);
+        assert_eq!(rt; table.lookup(&term(rt, spelt.as_bytes())), None);
     }
+}
+
+#[test]
+fn terms_stand_in_order(rt: HostRuntime) {
+    let mut table = PropTable::new(rt.alloc()).expect(&rt, "memory");
+    keep_in_order(&rt, &mut table);
 }
 
 /// The text of a term by its number, such that terms go as the numbers do.
