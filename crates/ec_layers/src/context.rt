@@ -257,7 +257,40 @@ fn are_active<L: Ledger>(
     found.len() == wanted.len()
 }
 
+/// Whether entries are active where it is wanted, in each case.
+fn stand_in_each<L: Ledger>(
+    rt: &impl Abort,
+    alloc: Global,
+    props: &PropTable,
+    found: &[Entry],
+    cases: &[Case],
+    steps: &mut Steps<L>,
+) -> Result<bool, NoMemory> {
+    for (spelt, wanted) in cases {
+        let listed = numbers(rt, alloc, props, *spelt)?;
+        let current = Listed { props: &listed };
+        if !are_active(found, &current, wanted, steps) {
+            return Ok(false);
+        }
+    }
+    Ok(true)
+}
+
 /// Whether the entries of a push are active where it is wanted.
+fn pushes_stand<L: Ledger>(
+    rt: &impl Abort,
+    alloc: Global,
+    rules: &Rules,
+    props: &mut PropTable,
+    cases: &[Case],
+    steps: &mut Steps<L>,
+) -> Result<bool, NoMemory> {
+    let push = event(rt, alloc, b"push(bob,l1)")?;
+    let found = entries(rt, alloc, rules, &push, props)?;
+    stand_in_each(rt, alloc, props, found.as_slice(), cases, steps)
+}
+
+/// The same in a table of no properties, with steps that are counted on the ledger of the blank.
 fn cases_stand<L: Ledger>(
     rt: &impl Abort,
     alloc: Global,
@@ -271,16 +304,7 @@ fn cases_stand<L: Ledger>(
 {
     let mut steps = Steps::<L>::new(blank);
     let mut props = PropTable::new(alloc)?;
-    let push = event(rt, alloc, b"push(bob,l1)")?;
-    let found = entries(rt, alloc, rules, &push, &mut props)?;
-    for (spelt, wanted) in cases {
-        let listed = numbers(rt, alloc, &props, *spelt)?;
-        let current = Listed { props: &listed };
-        if !are_active(found.as_slice(), &current, wanted, &mut steps) {
-            return Ok(false);
-        }
-    }
-    Ok(true)
+    pushes_stand(rt, alloc, rules, &mut props, cases, &mut steps)
 }
 
 #[test]

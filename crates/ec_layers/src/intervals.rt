@@ -398,21 +398,31 @@ fn splices_of_other(intervals: &Intervals<Tick, TallySpans>) -> Option<u64> {
     intervals.spans(Q).map(|row| row.splices())
 }
 
-/// Whether a late change touches the last spans of its property alone, by one splice for each change, and no other property.
-fn touches_the_last_alone(alloc: Global) -> Result<bool, NoMemory> {
-    let other: VecMarks<Tick> = mark_row(alloc, &[(1, 1, 0, 0)])?;
-    let mut row: VecMarks<Tick> = VecMarks::new(alloc)?;
-    let mut intervals = Intervals::new(alloc);
-    rebuild(&mut intervals, Q, &other, false, false)?;
-    let before = splices_of_other(&intervals);
-    pulse(&mut intervals, &mut row)?;
-    if before.is_none() || splices_of_other(&intervals) != before {
+/// Whether changes of one row touch the last spans of its property alone, by one splice for each change, and not the row of
+/// another property.
+fn touch_the_last_alone(
+    intervals: &mut Intervals<Tick, TallySpans>,
+    row: &mut VecMarks<Tick>,
+    other: &VecMarks<Tick>,
+) -> Result<bool, NoMemory> {
+    rebuild(intervals, Q, other, false, false)?;
+    let before = splices_of_other(intervals);
+    pulse(intervals, row)?;
+    if before.is_none() || splices_of_other(intervals) != before {
         return Ok(false);
     }
     match intervals.spans(P) {
         Some(tally) => Ok(tally.len() == 101 && tally.splices() == 202 && tally.least() == 99),
         None => Ok(false),
     }
+}
+
+/// The same from no row on.
+fn touches_the_last_alone(alloc: Global) -> Result<bool, NoMemory> {
+    let other: VecMarks<Tick> = mark_row(alloc, &[(1, 1, 0, 0)])?;
+    let mut row: VecMarks<Tick> = VecMarks::new(alloc)?;
+    let mut intervals = Intervals::new(alloc);
+    touch_the_last_alone(&mut intervals, &mut row, &other)
 }
 
 #[test]
