@@ -27,6 +27,8 @@ mod replayed;
 #[cfg(test)]
 mod soaked;
 #[cfg(test)]
+mod spans;
+#[cfg(test)]
 mod texts;
 #[cfg(test)]
 mod theories;
