@@ -1,5 +1,5 @@
 -- An event less in the records, the identities and the times is an event less in the store.
-use Rattle.std.proofs.Common.{◌≡◌, Some, IsSome, subst, sym, ap, ◌∙◌}
+use Rattle.std.proofs.Common.{rules, ◌≡◌, Some, IsSome, subst, sym, ap, ◌∙◌}
 use Rattle.std.specs.Option.{option_copied}
 use Rattle.ec_axioms.specs.declared.event.Event.{Event}
 use Rattle.slab.specs.Slab.{get as record_at}
@@ -72,3 +72,6 @@ returns-clause-history g c =
     history_of-remove g.T.Moment.rank _ _ _ _ _ c.self.invariant c.args.slot c.unwrap-event.result (live g (goal.at.returns-clause-history g c).After-unwrap-event)
     c.try_remove.ensures.updates.others c.take_out.ensures.times
     ∙ ap (λ (s : Store _). without_event c.unwrap-event.result.id (history_of g.T.Moment.rank s.events)) c.self.view_is
+
+pub returns-clause-steps : goal.returns-clause-steps
+returns-clause-steps g c = search rules
