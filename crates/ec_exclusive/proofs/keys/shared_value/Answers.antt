@@ -1,0 +1,6 @@
+-- A place that is no variable of the other side shares no value.
+use Rattle.std.proofs.Common.{rules}
+use Rattle.ec_exclusive.proofs.keys.shared_value.Goals as goal
+
+pub returns-else-has_variable-clause-value : goal.returns-else-has_variable-clause-value
+returns-else-has_variable-clause-value c = search rules
