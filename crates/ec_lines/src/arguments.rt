@@ -1,6 +1,6 @@
-//! Reading the words behind the first word of a command. Each reader takes all of them, and gives
-//! `None` where their number or one of them is not as the command wants it.
-ghost use Rattle.std.specs.Prelude.{◌≡◌, IfSome, None, Some, IsTrue, MatchOption};
+//! Reading the words behind the keyword of a command. Each reader gets the first of them, takes all
+//! others, and gives `None` where their number or one of them is not as the command wants it.
+ghost use Rattle.std.specs.Prelude.{◌≡◌, [], ◌∷◌, IfSome, None, Some, IsTrue, MatchOption};
 ghost use Rattle.ec_terms.specs.Term.{ground_of, term_value, names_are_names};
 ghost use Rattle.ec_axioms.specs.Commands.{command_by, word_assert, word_retract, word_holds, word_through, word_intervals, word_broken, word_at, word_why};
 ghost use Rattle.ec_lines.specs.ShownCommand.{plain_or_bad, AreNamed};
@@ -28,14 +28,12 @@ fn read_term(word: &[u8]) -> Option<GroundRef<'_>>
 
 /// Reads the words behind `assert`: an identity, a time and an event.
 #[tactic(auto, unfolding(ec_axioms::specs::Commands::command_by, ec_axioms::specs::Commands::name_value))]
-fn read_assert<'a, T: Moment>(words: &mut Words<'a>) -> Option<Command<'a, T>>
-    ensures command { plain_or_bad T.rank result ≡ command_by T.spelt word_assert words.old }
+fn read_assert<'a, T: Moment>(id: &'a [u8], words: &mut Words<'a>) -> Option<Command<'a, T>>
+    ensures command { plain_or_bad T.rank result ≡ command_by T.spelt word_assert (id.now ∷ words.old) }
     ensures names { AreNamed (plain_or_bad T.rank result) }
 {
-    let id = words.next()?;
     let at = words.next()?;
-    let event = words.next()?;
-    words.end()?;
+    let event = words.last()?;
     let id = Name::from_bytes(id)?;
     let at = T::read(at)?;
     let event = read_term(event)?;
@@ -44,11 +42,10 @@ fn read_assert<'a, T: Moment>(words: &mut Words<'a>) -> Option<Command<'a, T>>
 
 /// Reads the word behind `retract`: an identity.
 #[tactic(auto, unfolding(ec_axioms::specs::Commands::command_by, ec_axioms::specs::Commands::name_value))]
-fn read_retract<'a, T: Moment>(words: &mut Words<'a>) -> Option<Command<'a, T>>
-    ensures command { plain_or_bad T.rank result ≡ command_by T.spelt word_retract words.old }
+fn read_retract<'a, T: Moment>(id: &'a [u8], words: &mut Words<'a>) -> Option<Command<'a, T>>
+    ensures command { plain_or_bad T.rank result ≡ command_by T.spelt word_retract (id.now ∷ words.old) }
     ensures names { AreNamed (plain_or_bad T.rank result) }
 {
-    let id = words.next()?;
     words.end()?;
     let id = Name::from_bytes(id)?;
     Some(Command::Retract { id })
@@ -56,13 +53,11 @@ fn read_retract<'a, T: Moment>(words: &mut Words<'a>) -> Option<Command<'a, T>>
 
 /// Reads the words behind `holds`: a property and a time.
 #[tactic(auto, unfolding(ec_axioms::specs::Commands::command_by, ec_axioms::specs::Commands::name_value))]
-fn read_holds<'a, T: Moment>(words: &mut Words<'a>) -> Option<Command<'a, T>>
-    ensures command { plain_or_bad T.rank result ≡ command_by T.spelt word_holds words.old }
+fn read_holds<'a, T: Moment>(prop: &'a [u8], words: &mut Words<'a>) -> Option<Command<'a, T>>
+    ensures command { plain_or_bad T.rank result ≡ command_by T.spelt word_holds (prop.now ∷ words.old) }
     ensures names { AreNamed (plain_or_bad T.rank result) }
 {
-    let prop = words.next()?;
-    let at = words.next()?;
-    words.end()?;
+    let at = words.last()?;
     let prop = read_term(prop)?;
     let at = T::read(at)?;
     Some(Command::Holds { prop, at })
@@ -70,14 +65,12 @@ fn read_holds<'a, T: Moment>(words: &mut Words<'a>) -> Option<Command<'a, T>>
 
 /// Reads the words behind `through`: a property and two times.
 #[tactic(auto, unfolding(ec_axioms::specs::Commands::command_by, ec_axioms::specs::Commands::name_value))]
-fn read_through<'a, T: Moment>(words: &mut Words<'a>) -> Option<Command<'a, T>>
-    ensures command { plain_or_bad T.rank result ≡ command_by T.spelt word_through words.old }
+fn read_through<'a, T: Moment>(prop: &'a [u8], words: &mut Words<'a>) -> Option<Command<'a, T>>
+    ensures command { plain_or_bad T.rank result ≡ command_by T.spelt word_through (prop.now ∷ words.old) }
     ensures names { AreNamed (plain_or_bad T.rank result) }
 {
-    let prop = words.next()?;
     let from = words.next()?;
-    let until = words.next()?;
-    words.end()?;
+    let until = words.last()?;
     let prop = read_term(prop)?;
     let from = T::read(from)?;
     let until = T::read(until)?;
@@ -86,11 +79,10 @@ fn read_through<'a, T: Moment>(words: &mut Words<'a>) -> Option<Command<'a, T>>
 
 /// Reads the word behind `intervals`: a property.
 #[tactic(auto, unfolding(ec_axioms::specs::Commands::command_by, ec_axioms::specs::Commands::name_value))]
-fn read_intervals<'a, T: Moment>(words: &mut Words<'a>) -> Option<Command<'a, T>>
-    ensures command { plain_or_bad T.rank result ≡ command_by T.spelt word_intervals words.old }
+fn read_intervals<'a, T: Moment>(prop: &'a [u8], words: &mut Words<'a>) -> Option<Command<'a, T>>
+    ensures command { plain_or_bad T.rank result ≡ command_by T.spelt word_intervals (prop.now ∷ words.old) }
     ensures names { AreNamed (plain_or_bad T.rank result) }
 {
-    let prop = words.next()?;
     words.end()?;
     let prop = read_term(prop)?;
     Some(Command::Intervals { prop })
@@ -98,11 +90,10 @@ fn read_intervals<'a, T: Moment>(words: &mut Words<'a>) -> Option<Command<'a, T>
 
 /// Reads the word behind `broken`: a property.
 #[tactic(auto, unfolding(ec_axioms::specs::Commands::command_by, ec_axioms::specs::Commands::name_value))]
-fn read_broken<'a, T: Moment>(words: &mut Words<'a>) -> Option<Command<'a, T>>
-    ensures command { plain_or_bad T.rank result ≡ command_by T.spelt word_broken words.old }
+fn read_broken<'a, T: Moment>(prop: &'a [u8], words: &mut Words<'a>) -> Option<Command<'a, T>>
+    ensures command { plain_or_bad T.rank result ≡ command_by T.spelt word_broken (prop.now ∷ words.old) }
     ensures names { AreNamed (plain_or_bad T.rank result) }
 {
-    let prop = words.next()?;
     words.end()?;
     let prop = read_term(prop)?;
     Some(Command::Broken { prop })
@@ -110,11 +101,10 @@ fn read_broken<'a, T: Moment>(words: &mut Words<'a>) -> Option<Command<'a, T>>
 
 /// Reads the word behind `at`: a time.
 #[tactic(auto, unfolding(ec_axioms::specs::Commands::command_by, ec_axioms::specs::Commands::name_value))]
-fn read_at<'a, T: Moment>(words: &mut Words<'a>) -> Option<Command<'a, T>>
-    ensures command { plain_or_bad T.rank result ≡ command_by T.spelt word_at words.old }
+fn read_at<'a, T: Moment>(at: &'a [u8], words: &mut Words<'a>) -> Option<Command<'a, T>>
+    ensures command { plain_or_bad T.rank result ≡ command_by T.spelt word_at (at.now ∷ words.old) }
     ensures names { AreNamed (plain_or_bad T.rank result) }
 {
-    let at = words.next()?;
     words.end()?;
     let at = T::read(at)?;
     Some(Command::At { at })
@@ -122,16 +112,55 @@ fn read_at<'a, T: Moment>(words: &mut Words<'a>) -> Option<Command<'a, T>>
 
 /// Reads the words behind `why`: a property and a time.
 #[tactic(auto, unfolding(ec_axioms::specs::Commands::command_by, ec_axioms::specs::Commands::name_value))]
-fn read_why<'a, T: Moment>(words: &mut Words<'a>) -> Option<Command<'a, T>>
-    ensures command { plain_or_bad T.rank result ≡ command_by T.spelt word_why words.old }
+fn read_why<'a, T: Moment>(prop: &'a [u8], words: &mut Words<'a>) -> Option<Command<'a, T>>
+    ensures command { plain_or_bad T.rank result ≡ command_by T.spelt word_why (prop.now ∷ words.old) }
     ensures names { AreNamed (plain_or_bad T.rank result) }
 {
-    let prop = words.next()?;
-    let at = words.next()?;
-    words.end()?;
+    let at = words.last()?;
     let prop = read_term(prop)?;
     let at = T::read(at)?;
     Some(Command::Why { prop, at })
+}
+
+/// The command of a keyword with no words behind it.
+#[tactic(auto, unfolding(ec_axioms::specs::Commands::command_by))]
+fn bare_command<'a, T: Moment>(keyword: Keyword) -> Option<Command<'a, T>>
+    ensures command { plain_or_bad T.rank result ≡ command_by T.spelt (plain_keyword keyword) [] }
+    ensures names { AreNamed (plain_or_bad T.rank result) }
+{
+    match keyword {
+        Keyword::Begin => Some(Command::Begin),
+        Keyword::Commit => Some(Command::Commit),
+        Keyword::Abort => Some(Command::Abort),
+        Keyword::Clashes => Some(Command::Clashes),
+        Keyword::Events => Some(Command::Events),
+        Keyword::Last => Some(Command::Last),
+        Keyword::Quit => Some(Command::Quit),
+        _ => None,
+    }
+}
+
+/// Reads the words behind a keyword, the first of which is `first`. The others are still to come.
+#[tactic(auto, unfolding(ec_axioms::specs::Commands::command_by))]
+fn read_behind<'a, T: Moment>(
+    keyword: Keyword,
+    first: &'a [u8],
+    words: &mut Words<'a>,
+) -> Option<Command<'a, T>>
+    ensures command { plain_or_bad T.rank result ≡ command_by T.spelt (plain_keyword keyword) (first.now ∷ words.old) }
+    ensures names { AreNamed (plain_or_bad T.rank result) }
+{
+    match keyword {
+        Keyword::Assert => read_assert(first, words),
+        Keyword::Retract => read_retract(first, words),
+        Keyword::Holds => read_holds(first, words),
+        Keyword::Through => read_through(first, words),
+        Keyword::Intervals => read_intervals(first, words),
+        Keyword::Broken => read_broken(first, words),
+        Keyword::At => read_at(first, words),
+        Keyword::Why => read_why(first, words),
+        _ => None,
+    }
 }
 
 /// Reads the words behind a keyword.
@@ -143,21 +172,8 @@ pub fn read_arguments<'a, T: Moment>(
     ensures command { plain_or_bad T.rank result ≡ command_by T.spelt (plain_keyword keyword) words.old }
     ensures names { AreNamed (plain_or_bad T.rank result) }
 {
-    match keyword {
-        Keyword::Assert => read_assert(words),
-        Keyword::Retract => read_retract(words),
-        Keyword::Begin => words.end().map(|()| Command::Begin),
-        Keyword::Commit => words.end().map(|()| Command::Commit),
-        Keyword::Abort => words.end().map(|()| Command::Abort),
-        Keyword::Holds => read_holds(words),
-        Keyword::Through => read_through(words),
-        Keyword::Intervals => read_intervals(words),
-        Keyword::Broken => read_broken(words),
-        Keyword::At => read_at(words),
-        Keyword::Clashes => words.end().map(|()| Command::Clashes),
-        Keyword::Events => words.end().map(|()| Command::Events),
-        Keyword::Why => read_why(words),
-        Keyword::Last => words.end().map(|()| Command::Last),
-        Keyword::Quit => words.end().map(|()| Command::Quit),
+    match words.next() {
+        Some(first) => read_behind(keyword, first, words),
+        None => bare_command(keyword),
     }
 }

@@ -1,5 +1,5 @@
 //! Reading a line.
-ghost use Rattle.std.specs.Prelude.{◌≡◌, ◌<◌, ◌∷◌, IfSome};
+ghost use Rattle.std.specs.Prelude.{◌≡◌, ◌<◌, ◌∷◌, nat_lt, IfSome};
 ghost use Rattle.ec_axioms.specs.Commands.{parsed_of, prefixed_line, command_of_words, session_of_digits, digit_value_of};
 ghost use Rattle.ec_lines.specs.ShownCommand.{plain_command, plain_parsed, AreNamed};
 
@@ -23,6 +23,13 @@ fn read_digit(byte: u8) -> Option<u8>
     }
 }
 
+/// Whether there is a session of this number.
+fn is_session(number: u8) -> bool
+    ensures { result ≡ nat_lt number SESSIONS }
+{
+    number < SESSIONS
+}
+
 /// The session that the digits behind an `@` name.
 #[tactic(auto, unfolding(ec_axioms::specs::Commands::session_of_digits, ec_axioms::specs::Commands::session_within))]
 fn read_session(digits: &[u8]) -> Option<u8>
@@ -33,7 +40,7 @@ fn read_session(digits: &[u8]) -> Option<u8>
         [digit] => read_digit(*digit),
         [tens, ones] => {
             let session = 10 * read_digit(*tens)? + read_digit(*ones)?;
-            if session < SESSIONS {
+            if is_session(session) {
                 Some(session)
             } else {
                 None

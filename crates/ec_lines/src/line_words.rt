@@ -64,6 +64,16 @@ impl<'a> Words<'a> {
         Some(word)
     }
 
+    /// Takes the next word, which must be the last. `None` where there is none, or another behind it.
+    pub fn last(&mut self) -> Option<&'a [u8]>
+        ensures some { IfSome result (λ word. self.old ≡ word.now ∷ []) }
+        ensures none { IfNone result (length self.old ≡ 1 → ⊥) }
+    {
+        let word = self.next()?;
+        self.end()?;
+        Some(word)
+    }
+
     /// Sees that no word is left. `None` where one is.
     pub fn end(&mut self) -> Option<()>
         ensures some { IfSome result (λ _. self.old ≡ []) }
