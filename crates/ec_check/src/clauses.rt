@@ -1,5 +1,5 @@
 //! The faults of declarations.
-ghost use Rattle.std.specs.Prelude.{◌≡◌, []};
+ghost use Rattle.std.specs.Prelude.{◌≡◌, ◌&&◌, [], pos, int_le};
 ghost use Rattle.std.specs.List.{All};
 ghost use Rattle.ec_terms.specs.declared.theory.Exclusive.{Exclusive};
 ghost use Rattle.ec_terms.specs.declared.theory.Initial.{Initial};
@@ -49,6 +49,13 @@ fn exclusive_fault(earlier: &[Exclusive], declaration: &Exclusive) -> Option<Che
     }
 }
 
+/// Whether a pattern may have this number of arguments.
+fn is_count(arity: i64) -> bool
+    ensures { result ≡ (int_le (pos 0) arity && int_le arity (pos MOST_ARGS)) }
+{
+    0 <= arity && arity <= MOST_ARGS as i64
+}
+
 /// The first fault of a strong declaration behind others.
 #[tactic(auto, unfolding(crate::specs::Faults::strong_fault))]
 fn strong_fault(earlier: &[Strong], declaration: &Strong) -> Option<CheckFault>
@@ -57,9 +64,7 @@ fn strong_fault(earlier: &[Strong], declaration: &Strong) -> Option<CheckFault>
     let clause = declaration.clause;
     if earlier.len() >= MOST_STRONGS {
         Some(CheckFault::TooMany(Many::Strongs, clause))
-    } else if declaration.arity < 0 {
-        Some(CheckFault::Arity(clause))
-    } else if declaration.arity > MOST_ARGS as i64 {
+    } else if !is_count(declaration.arity) {
         Some(CheckFault::Arity(clause))
     } else {
         None

@@ -1,5 +1,5 @@
 //! The faults of rules.
-ghost use Rattle.std.specs.Prelude.{◌≡◌, ◌&&◌, not, [], count_by, option_map, length};
+ghost use Rattle.std.specs.Prelude.{◌≡◌, ◌&&◌, not, [], nat_le, count_by, option_map, length};
 ghost use Rattle.std.specs.List.{All, list_all};
 ghost use Rattle.ec_terms.specs.declared.theory.Rule.{Rule};
 ghost use Rattle.ec_terms.specs.Binding.{stands_in, is_small_place};
@@ -247,6 +247,20 @@ fn least_unbound(rule: &Rule) -> Option<u32>
     None
 }
 
+/// Whether these are all rules that a theory may have.
+fn are_most(rules: &[Rule]) -> bool
+    ensures { result ≡ nat_le MOST_RULES (length rules.now) }
+{
+    rules.len() >= MOST_RULES
+}
+
+/// Whether there are all rules among the earlier ones that the events of a rule may have.
+fn are_most_for_event(earlier: &[Rule], rule: &Rule) -> bool
+    ensures { result ≡ nat_le MOST_EVENT_RULES (count_by (same_event rule.now) earlier.now) }
+{
+    event_rules(earlier, rule) >= MOST_EVENT_RULES
+}
+
 /// The first fault of a rule behind other rules.
 #[tactic(auto, unfolding(crate::specs::Faults::rule_fault))]
 fn rule_fault(earlier: &[Rule], rule: &Rule) -> Option<CheckFault>
@@ -254,11 +268,11 @@ fn rule_fault(earlier: &[Rule], rule: &Rule) -> Option<CheckFault>
     ensures { result ≡ rule_fault earlier.now rule.now }
 {
     let clause = rule.clause;
-    if earlier.len() >= MOST_RULES {
+    if are_most(earlier) {
         Some(CheckFault::TooMany(Many::Rules, clause))
     } else if !is_narrow_rule(rule) {
         Some(CheckFault::Arity(clause))
-    } else if event_rules(earlier, rule) >= MOST_EVENT_RULES {
+    } else if are_most_for_event(earlier, rule) {
         Some(CheckFault::TooMany(Many::EventRules, clause))
     } else if rule.tests.len() > MOST_TESTS {
         Some(CheckFault::TooMany(Many::Tests, clause))
