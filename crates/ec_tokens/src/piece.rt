@@ -1,8 +1,8 @@
 //! What stands at the front of a text.
-ghost use Rattle.std.specs.Prelude.{◌≡◌, ◌+◌, ◌<◌, ◌≤◌, ◌==◌, not, length, slice_index};
+ghost use Rattle.std.specs.Prelude.{◌≡◌, ◌+◌, ◌<◌, ◌≤◌, ◌==◌, ◌&&◌, ◌||◌, not, length, slice_index};
 ghost use Rattle.std.specs.List.{prefix_len};
 ghost use Rattle.std.specs.Char.{is_ascii_digit};
-ghost use Rattle.ec_terms.specs.Spelling.{is_name_byte};
+ghost use Rattle.ec_terms.specs.Spelling.{is_lower, is_upper, is_name_byte};
 ghost use Rattle.ec_tokens.specs.Tokens.{is_blank, is_mark_byte, first_byte, name_piece, number_piece, mark_piece, piece_of, piece_length};
 
 use crate::token::TokenKind;
@@ -11,7 +11,7 @@ use ec_moment::read_number;
 use ec_terms::LONGEST_NAME;
 
 /// What stands at the front of a text, with its number of bytes, or why nothing may stand so.
-#[derive(Clone, Copy, Debug)]
+#[derive(Clone, Copy)]
 pub enum Piece {
     /// A blank or a comment.
     Gap(usize),
@@ -41,12 +41,28 @@ fn is_blank(byte: u8) -> bool
     byte == b' ' || byte == b'\t' || byte == b'\r' || byte == b'\n'
 }
 
+/// Whether a byte is a small letter, with which names begin.
+#[tactic(auto, unfolding(ec_terms::specs::Spelling::is_lower))]
+fn is_lower(byte: u8) -> bool
+    ensures { result ≡ is_lower byte }
+{
+    byte.is_ascii_lowercase()
+}
+
+/// Whether a byte is a capital letter, with which variables begin.
+#[tactic(auto, unfolding(ec_terms::specs::Spelling::is_upper))]
+fn is_upper(byte: u8) -> bool
+    ensures { result ≡ is_upper byte }
+{
+    byte.is_ascii_uppercase()
+}
+
 /// Whether a byte may stand in a name behind its first byte.
-#[tactic(auto, unfolding(ec_terms::specs::Spelling::is_name_byte, ec_terms::specs::Spelling::is_lower, ec_terms::specs::Spelling::is_upper))]
+#[tactic(auto, unfolding(ec_terms::specs::Spelling::is_name_byte))]
 fn is_name_byte(byte: u8) -> bool
     ensures { result ≡ is_name_byte byte }
 {
-    byte.is_ascii_lowercase() || byte.is_ascii_uppercase() || byte.is_ascii_digit() || byte == b'_'
+    is_lower(byte) || is_upper(byte) || byte.is_ascii_digit() || byte == b'_'
 }
 
 /// Whether a byte is a mark by itself.
@@ -69,12 +85,22 @@ fn first_byte(bytes: &[u8]) -> u8
     if bytes.is_empty() { 0 } else { bytes[0] }
 }
 
+/// Whether a byte ends a line, and with it a comment.
+fn is_line_feed(byte: u8) -> bool
+    ensures { result ≡ (byte == 10) }
+{
+    byte == b'\n'
+}
+
 /// How many bytes stand before the next line feed.
 fn line_length(bytes: &[u8]) -> usize
     ensures exact { result ≡ prefix_len (λ c. not (c == 10)) bytes.now }
     ensures within { result ≤ length bytes.now }
 {
-    bytes.iter().take_while(|byte| !(**byte == b'\n')).count()
+    bytes
+        .iter()
+        .take_while(|byte| !is_line_feed(**byte))
+        .count()
 }
 
 /// How many name bytes stand at the front.
@@ -143,8 +169,15 @@ fn mark_piece(first: u8, behind: &[u8]) -> Piece
     }
 }
 
+/// Whether a number begins with `first`, before the bytes `behind`: with a digit, or a minus and a digit.
+fn begins_number(first: u8, behind: &[u8]) -> bool
+    ensures { result ≡ (is_ascii_digit first || (first == 45 && is_ascii_digit (first_byte behind.now))) }
+{
+    first.is_ascii_digit() || (first == b'-' && first_byte(behind).is_ascii_digit())
+}
+
 /// The longest piece at the front of a text that is not empty.
-#[tactic(auto, unfolding(crate::specs::Tokens::piece_of, ec_terms::specs::Spelling::is_lower, ec_terms::specs::Spelling::is_upper))]
+#[tactic(auto, unfolding(crate::specs::Tokens::piece_of))]
 pub fn piece_of(bytes: &[u8]) -> Piece
     requires nonempty { 0 < length bytes.now }
     requires short { length bytes.now ≤ MOST_BYTES }
@@ -156,11 +189,11 @@ pub fn piece_of(bytes: &[u8]) -> Piece
         Piece::Gap(1)
     } else if first == b'%' {
         Piece::Gap(1 + line_length(behind))
-    } else if first.is_ascii_lowercase() {
+    } else if is_lower(first) {
         name_piece(TokenKind::Name, behind)
-    } else if first.is_ascii_uppercase() {
+    } else if is_upper(first) {
         name_piece(TokenKind::Variable, behind)
-    } else if first.is_ascii_digit() || (first == b'-' && first_byte(behind).is_ascii_digit()) {
+    } else if begins_number(first, behind) {
         number_piece(bytes)
     } else {
         mark_piece(first, behind)
