@@ -10,7 +10,7 @@ use ec_terms::TestOp;
 use ec_tokens::{Place, Token, TokenList};
 
 /// The tokens that are left, and the place behind the last.
-#[derive(Clone, Copy, Debug)]
+#[derive(Clone, Copy)]
 pub struct Cursor<'t, 'a> {
     pub rest: &'t [Token<'a>],
     pub end: Place,

@@ -11,7 +11,7 @@ use ec_terms::{Arg, Kind, Name, PatArg, TestOp};
 use ec_tokens::{Token, TokenKind};
 
 /// A word or mark that is always the same.
-#[derive(Clone, Copy, Debug, PartialEq, Eq)]
+#[derive(Clone, Copy)]
 pub enum Symbol {
     If,
     Not,
@@ -24,7 +24,7 @@ pub enum Symbol {
 }
 
 /// The kinds of clauses, by the word that they begin with.
-#[derive(Clone, Copy, Debug)]
+#[derive(Clone, Copy)]
 pub enum Keyword {
     Rule(Kind),
     Exclusive,
@@ -33,7 +33,7 @@ pub enum Keyword {
 }
 
 /// What a token is to the grammar.
-#[derive(Clone, Copy, Debug)]
+#[derive(Clone, Copy)]
 pub enum Sign<'a> {
     /// A name other than `if` and `not`.
     Word(&'a [u8]),
