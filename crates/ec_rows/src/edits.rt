@@ -30,6 +30,16 @@ fn extend_within<X: Copy>(items: &mut Vec<X>, more: &[X])
     }
 }
 
+/// Writes items over those from a place on.
+fn write_over<X: Copy>(items: &mut Vec<X>, from: usize, with: &[X])
+    requires { from + length with.now ≤ vec_len items.old }
+    ensures items { items.new.items ≡ splice items.old.items from (from + length with.now) with.now }
+    ensures len { vec_len items.new ≡ vec_len items.old }
+    ensures capacity { vec_capacity items.new ≡ vec_capacity items.old }
+{
+    items[from..from + with.len()].copy_from_slice(with);
+}
+
 /// Puts the items `with` in place of those from one place up to another, where the `Vec` has room for
 /// what it grows by. The tail moves once, if its place changes, and each new item is written once into its place.
 pub(crate) fn splice_within<X: Copy>(items: &mut Vec<X>, from: usize, to: usize, with: &[X])
@@ -41,7 +51,7 @@ pub(crate) fn splice_within<X: Copy>(items: &mut Vec<X>, from: usize, to: usize,
     ensures capacity { vec_capacity items.old ≤ vec_capacity items.new }
 {
     if with.len() == to - from {
-        items[from..to].copy_from_slice(with);
+        write_over(items, from, with);
         return;
     }
     let tail = items.len() - to;
@@ -50,5 +60,5 @@ pub(crate) fn splice_within<X: Copy>(items: &mut Vec<X>, from: usize, to: usize,
     extend_within(items, &with[..growth]);
     items.copy_within(to..to + tail, end);
     items.truncate(end + tail);
-    items[from..end].copy_from_slice(with);
+    write_over(items, from, with);
 }

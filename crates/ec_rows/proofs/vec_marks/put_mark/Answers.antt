@@ -1,5 +1,5 @@
 -- The place that the search found is the mark's.
-use Rattle.std.proofs.Common.{◌∙◌}
+use Rattle.std.proofs.Common.{◌∙◌, arith}
 use Rattle.ec_rows.proofs.MarkLemmas.{with_mark-at, with_mark-free, IsMarkRow-with_mark}
 use Rattle.ec_rows.proofs.vec_marks.put_mark.Goals as goal
 
@@ -21,3 +21,17 @@ returns-in-Err-clause-marks g c =
 pub returns-in-Err-clause-row : goal.returns-in-Err-clause-row
 returns-in-Err-clause-row g c =
     IsMarkRow-with_mark g.T.Moment.rank c.args.mark c.args.marks.now.items _ c.requires.counted c.requires.row (returns-in-Err-clause-marks g c)
+
+pub returns-in-Ok-clause-len : goal.returns-in-Ok-clause-len
+returns-in-Ok-clause-len g c =
+    let there = rw c.deref.ensures.value at c.in-Ok.ensures.present in rw there (omega arith)
+
+pub returns-in-Err-clause-len : goal.returns-in-Err-clause-len
+returns-in-Err-clause-len g c =
+    let absent = rw c.deref.ensures.value at c.in-Err.ensures.absent in rw absent c.insert_within.ensures.len
+
+pub insert_within-requires-clause-room : goal.insert_within-requires-clause-room
+insert_within-requires-clause-room g c =
+    let absent = rw c.deref.ensures.value at c.in-Err.ensures.absent in
+    let room = rw absent at c.requires.room in
+    omega (arith, room)

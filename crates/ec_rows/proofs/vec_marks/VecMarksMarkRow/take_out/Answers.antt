@@ -1,0 +1,8 @@
+-- The row's marks are those of the `Vec`.
+use Rattle.ec_rows.proofs.vec_marks.VecMarksMarkRow.take_out.Goals as goal
+
+pub returns-clause-mark : goal.returns-clause-mark
+returns-clause-mark g c = rw (← c.self.view_is) c.take_out_mark.ensures.mark
+
+pub returns-clause-marks : goal.returns-clause-marks
+returns-clause-marks g c = rw (← c.self.view_is) c.take_out_mark.ensures.marks

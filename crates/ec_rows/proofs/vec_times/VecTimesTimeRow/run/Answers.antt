@@ -1,0 +1,14 @@
+-- The run is all of the `Vec` from the place on.
+use Rattle.std.proofs.Common.{◌-◌, ap, arith, drop, length, length-drop, take}
+use Rattle.std.proofs.lemmas.List.{length-take}
+use Rattle.ec_rows.proofs.vec_times.VecTimesTimeRow.run.Goals as goal
+
+pub returns-clause-run : goal.returns-clause-run
+returns-clause-run g c =
+    let times = c.deref.result.now in
+    let i = c.args.i in
+    rw (← c.self.view_is)
+    (rw (← c.deref.ensures.value) (ap (λ k. take k (drop i times)) (omega (arith, length-take (length times - i) (drop i times), length-drop i times))))
+
+pub returns-clause-row : goal.returns-clause-row
+returns-clause-row g c = rw (← c.self.view_is) c.self.invariant
