@@ -31,4 +31,4 @@ loop-digit-preserved c =
     }
 
 pub returns-clause-run : goal.returns-clause-run
-returns-clause-run c = is_digit_run-from c.args.digits.now (grind arith) (grind arith) (grind (arith, common_steps))
+returns-clause-run c = is_digit_run-from c.args.digits.now (grind arith) (omega arith) (grind (arith, common_steps))
