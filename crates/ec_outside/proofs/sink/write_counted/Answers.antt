@@ -1,6 +1,13 @@
+use Rattle.std.proofs.Common.{arith}
 use Rattle.ec_outside.proofs.Streams.{WrittenSoFar-next}
 use Rattle.ec_outside.proofs.sink.write_counted.Goals as goal
 
 pub loop-written-preserved : goal.loop-written-preserved
 loop-written-preserved g c =
     WrittenSoFar-next c.loop-written.invariant c.in-Ok.taken c.in-Ok.ensures.within c.in-Ok.ensures.appended c.in-Ok.ensures.counted c.in-Ok.ensures.bounded
+
+pub returns-in-Err-clause-all : goal.returns-in-Err-clause-all
+returns-in-Err-clause-all g c = tt
+
+pub returns-clause-all : goal.returns-clause-all
+returns-clause-all g c = omega arith
