@@ -91,6 +91,11 @@ module _ {T I : Type 0} (spans : I → List (Span T)) (spare : I → ℕ) where
       subst (λ row. IsGrown (option_map (seen spans spare) row) (seen_at spans spare n new)) none
       (subst (λ row. IsGrown None (option_map (seen spans spare) row)) (sym there) (record { front = front; spans = nothing; room = omega arith; kept = λ is. absurd (false≢true is) }))
 
+  -- a row that stays
+  pub IsGrown-kept : (now new : List (Option (KeptRow T I))) (n : ℕ) → kept_at n new ≡ kept_at n now → IsGrown (seen_at spans spare n now) (seen_at spans spare n new)
+  IsGrown-kept now new n same =
+      subst (λ row. IsGrown (seen_at spans spare n now) (option_map (seen spans spare) row)) (sym same) (record { front = refl; spans = refl; room = omega arith; kept = λ is. is })
+
   -- what a row of few marks spells is few
   AreFew-written : (rank : T → ℤ) (now new : List (Option (KeptRow T I))) (m : ℕ) (kept : KeptRow T I) (marks : List (Mark T)) (strong initial : Bool) (buffer : ℕ) → AreFew (rows_seen spans spare now) →
       ((n : ℕ) → n ≢ m → kept_at n new ≡ kept_at n now) → kept_at m new ≡ Some kept → IsMarkRow rank marks →

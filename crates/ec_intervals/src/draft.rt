@@ -47,13 +47,16 @@ impl<T: Moment> Draft<T> {
         }
     }
 
-    /// Makes room for `n` spans in all. What is drafted goes.
+    /// Makes room for more than `n` spans in all. What is drafted goes.
     pub(crate) fn make_room(&mut self, n: usize) -> Result<(), NoMemory>
-        ensures room { OnOk result (n ≤ vec_capacity self.new.spans) }
+        ensures room { OnOk result (n < vec_capacity self.new.spans) }
         ensures kept { vec_capacity self.old.spans ≤ vec_capacity self.new.spans }
     {
+        let Some(count) = n.checked_add(1) else {
+            return Err(NoMemory);
+        };
         self.spans.clear();
-        self.spans.reserve(n)?;
+        self.spans.reserve(count)?;
         Ok(())
     }
 

@@ -141,10 +141,7 @@ impl<T: Moment, I: SpanRow<T>> Intervals<T, I> {
         ensures kept { self.old.buffer ≤ self.new.buffer }
         ensures others { (n : ℕ) → n ≢ p.0 → row_at n self.new ≡ row_at n self.old }
     {
-        let Some(buffer) = marks.checked_add(1) else {
-            return Err(NoMemory);
-        };
-        self.draft.make_room(buffer)?;
+        self.draft.make_room(marks)?;
         self.reaches.place(p)?;
         prepare_row(&mut self.rows, p, spans, self.alloc)
     }
@@ -162,10 +159,11 @@ impl<T: Moment, I: SpanRow<T>> Intervals<T, I> {
         ensures row { IsTrue (has_row p.0 self.new) }
         ensures others { (n : ℕ) → n ≢ p.0 → row_at n self.new ≡ row_at n self.old }
     {
-        if let Some(kept) = self.rows.get_mut(p) {
-            rebuild_row(kept, &mut self.draft, row, strong, initial);
-            self.reaches.set(p, reach_of(kept));
-        }
+        let Some(kept) = self.rows.get_mut(p) else {
+            unreachable!()
+        };
+        rebuild_row(kept, &mut self.draft, row, strong, initial);
+        self.reaches.set(p, reach_of(kept));
     }
 
     /// Mends the intervals of a property whose marks changed, from one time up to another and nowhere else: leaves those
@@ -194,14 +192,12 @@ impl<T: Moment, I: SpanRow<T>> Intervals<T, I> {
         ensures row { IsTrue (has_row p.0 self.new) }
         ensures others { (n : ℕ) → n ≢ p.0 → row_at n self.new ≡ row_at n self.old }
     {
-        match self.rows.get_mut(p) {
-            Some(kept) => {
-                let differs = splice_row(kept, &mut self.draft, row, strong, initial, from, until);
-                self.reaches.set(p, reach_of(kept));
-                differs
-            }
-            None => false,
-        }
+        let Some(kept) = self.rows.get_mut(p) else {
+            unreachable!()
+        };
+        let differs = splice_row(kept, &mut self.draft, row, strong, initial, from, until);
+        self.reaches.set(p, reach_of(kept));
+        differs
     }
 
     /// Takes all intervals of a property out. Its row stays, empty, if it has one. It takes no memory.

@@ -28,6 +28,25 @@ fn make_row<T: Moment, I: SpanRow<T>>(
     })
 }
 
+/// Gives `p`, which has no row, a row with room for spans. A refusal leaves the rows as they were.
+fn add_row<T: Moment, I: SpanRow<T>>(
+    rows: &mut ByNumber<KeptRow<T, I>>,
+    p: PropId,
+    spans: usize,
+    alloc: Global,
+) -> Result<(), NoMemory>
+    requires { kept_at p.0 rows.old ≡ None }
+    ensures others { (n : ℕ) → n ≢ p.0 → kept_at n rows.new ≡ kept_at n rows.old }
+    ensures grown { IsGrown (seen_at I.spans I.spare p.0 rows.old) (seen_at I.spans I.spare p.0 rows.new) }
+    ensures there { OnOk result (IsSome (kept_at p.0 rows.new)) }
+    ensures room { OnOk result (spans ≤ room_in (seen_at I.spans I.spare p.0 rows.new)) }
+    ensures err { OnErr result (is_some (kept_at p.0 rows.new) ≡ is_some (kept_at p.0 rows.old)) }
+{
+    rows.place(p)?;
+    rows.set(p, make_row(spans, alloc)?);
+    Ok(())
+}
+
 /// Gives `p` a row, where it has none, and room in it for further spans. A refusal leaves the rows as they were.
 pub(crate) fn prepare_row<T: Moment, I: SpanRow<T>>(
     rows: &mut ByNumber<KeptRow<T, I>>,
@@ -41,11 +60,8 @@ pub(crate) fn prepare_row<T: Moment, I: SpanRow<T>>(
     ensures room { OnOk result (spans ≤ room_in (seen_at I.spans I.spare p.0 rows.new)) }
     ensures err { OnErr result (is_some (kept_at p.0 rows.new) ≡ is_some (kept_at p.0 rows.old)) }
 {
-    if let Some(kept) = rows.get_mut(p) {
-        kept.spans.reserve(spans)?;
-        return Ok(());
+    match rows.get_mut(p) {
+        Some(kept) => kept.spans.reserve(spans),
+        None => add_row(rows, p, spans, alloc),
     }
-    rows.place(p)?;
-    rows.set(p, make_row(spans, alloc)?);
-    Ok(())
 }

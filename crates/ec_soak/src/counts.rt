@@ -1,5 +1,6 @@
 //! What is counted of the replies of a run.
 ghost use Rattle.std.specs.Prelude.{◌≡◌, ◌==◌, position};
+ghost use Rattle.std.specs.Str.{bytes_eq};
 ghost use Rattle.ec_soak.specs.Tally.{first_word, next_if};
 
 /// The counts of the output of a run: its lines whose first word is `ok`, `yes`, `no` or `refused`, its
@@ -32,11 +33,11 @@ fn first_word(line: &[u8]) -> &[u8]
     }
 }
 
-/// Adds one to a count if a test passed.
-fn count_if(test: bool, count: &mut u64)
-    ensures { count.new ≡ next_if test count.old }
+/// Adds one to a count if some bytes are those of a text.
+fn count_if(bytes: &[u8], text: &[u8], count: &mut u64)
+    ensures { count.new ≡ next_if (bytes_eq bytes.now text.now) count.old }
 {
-    if test {
+    if bytes == text {
         *count = count.saturating_add(1);
     }
 }
@@ -49,10 +50,10 @@ impl Counts {
         ensures { self.new ≡ with_line self.old line.now }
     {
         let word = first_word(line);
-        count_if(word == b"ok".as_slice(), &mut self.ok);
-        count_if(word == b"yes".as_slice(), &mut self.yes);
-        count_if(word == b"no".as_slice(), &mut self.no);
-        count_if(word == b"refused".as_slice(), &mut self.refused);
-        count_if(line == b"refused memory".as_slice(), &mut self.memory);
+        count_if(word, b"ok", &mut self.ok);
+        count_if(word, b"yes", &mut self.yes);
+        count_if(word, b"no", &mut self.no);
+        count_if(word, b"refused", &mut self.refused);
+        count_if(line, b"refused memory", &mut self.memory);
     }
 }

@@ -5,7 +5,7 @@ ghost use Rattle.ec_soak.specs.Load.{event_of, drawn_assert, drawn_retract, draw
 use crate::draws::Draws;
 
 /// An event of a generated line: what happens, to which person, lamp or hall, each by its number.
-#[derive(Clone, Copy, Debug, PartialEq, Eq)]
+#[derive(Clone, Copy)]
 pub enum GeneratedEvent {
     Push { person: u32, lamp: u32 },
     Plug { lamp: u32 },
@@ -15,7 +15,7 @@ pub enum GeneratedEvent {
 }
 
 /// A generated line by its parts. An event is named by the number of the line that asserts it.
-#[derive(Clone, Copy, Debug, PartialEq, Eq)]
+#[derive(Clone, Copy)]
 pub enum GeneratedLine {
     Assert {
         number: u32,

@@ -18,6 +18,24 @@ get-requires g c =
     let both = length-filter_both (λ (s : Span _). int_lt (g.T.Moment.rank s.from) t) (λ (s : Span _). not (int_lt (g.T.Moment.rank s.from) t)) (λ s. refl) (g.I.SpanRow.spans c.args.spans.now) in
     omega (arith, both, c.count_before-count.ensures.count, c.len.ensures.len, c.if-count-len.false)
 
+pub overflow_add-result : goal.overflow_add-result
+overflow_add-result g c =
+    let t = g.T.Moment.rank c.args.at in
+    let both = length-filter_both (λ (s : Span _). int_lt (g.T.Moment.rank s.from) t) (λ (s : Span _). not (int_lt (g.T.Moment.rank s.from) t)) (λ s. refl) (g.I.SpanRow.spans c.args.spans.now) in
+    omega (arith, both, c.count_before-count.ensures.count, c.len.ensures.len, c.if-count-len.false)
+
+pub returns-then-is_eq-clause-within : goal.returns-then-is_eq-clause-within
+returns-then-is_eq-clause-within g c =
+    let t = g.T.Moment.rank c.args.at in
+    let both = length-filter_both (λ (s : Span _). int_lt (g.T.Moment.rank s.from) t) (λ (s : Span _). not (int_lt (g.T.Moment.rank s.from) t)) (λ s. refl) (g.I.SpanRow.spans c.args.spans.now) in
+    omega (arith, both, c.count_before-count.ensures.count, c.len.ensures.len, c.if-count-len.false)
+
+pub returns-else-is_eq-clause-within : goal.returns-else-is_eq-clause-within
+returns-else-is_eq-clause-within g c =
+    let t = g.T.Moment.rank c.args.at in
+    let both = length-filter_both (λ (s : Span _). int_lt (g.T.Moment.rank s.from) t) (λ (s : Span _). not (int_lt (g.T.Moment.rank s.from) t)) (λ s. refl) (g.I.SpanRow.spans c.args.spans.now) in
+    omega (arith, both, c.count_before-count.ensures.count)
+
 pub returns-then-is_eq-clause-count : goal.returns-then-is_eq-clause-count
 returns-then-is_eq-clause-count g c =
     ap (λ n. n + 1) c.count_before-count.ensures.count

@@ -1,10 +1,33 @@
 -- The row that grows is that of the table.
-use Rattle.std.proofs.Common.{◌≤◌, IsTrue, is_some, OnOk, sym, ap, subst, ◌∙◌}
+use Rattle.std.proofs.Common.{◌≤◌, IsTrue, is_some, OnOk, refl, sym, ap, subst, ◌∙◌, arith}
 use Rattle.ec_numbered.specs.ByNumber.{kept_at}
-use Rattle.ec_intervals.specs.Table.{room_in}
-use Rattle.ec_intervals.proofs.KeptRows.{kept_at-seen, is_some-seen, row_at-same, IsGrown-table}
+use Rattle.ec_intervals.specs.Reach.{IsReachOf}
+use Rattle.ec_intervals.specs.RowViews.{rows_seen}
+use Rattle.ec_intervals.specs.Table.{members_in, room_in}
+use Rattle.ec_intervals.proofs.KeptRows.{kept_at-seen, is_some-seen, row_at-same, IsGrown-kept, IsGrown-table}
 use Rattle.ec_intervals.proofs.ReachLemmas.{AreKept-grown}
 use Rattle.ec_intervals.proofs.intervals.Intervals.prepare.Goals as goal
+
+pub invariant_of-self-in_err-place : goal.invariant_of-self-in_err-place
+invariant_of-self-in_err-place g c = record {
+  few = c.self.invariant.few;
+  reached = λ n. subst (λ reach. IsReachOf g.T.Moment.rank reach (members_in (kept_at n (rows_seen g.I.SpanRow.spans g.I.SpanRow.spare c.self.inside.rows)))) (sym (c.place.ensures.same n)) (c.self.invariant.reached n);
+  placed = λ n there. let within = c.self.invariant.placed n there in let grown = c.place.ensures.grown in omega arith;
+}
+
+pub returns-in_err-make_room-clause-grown : goal.returns-in_err-make_room-clause-grown
+returns-in_err-make_room-clause-grown g c =
+    IsGrown-table g.I.SpanRow.spans g.I.SpanRow.spare c.self.inside.rows c.self.inside.rows c.args.self.now (ap (λ t. t.rows) c.self.view_is) c.args.p.0 (IsGrown-kept g.I.SpanRow.spans g.I.SpanRow.spare c.self.inside.rows c.self.inside.rows c.args.p.0 refl)
+
+pub returns-in_err-make_room-clause-others : goal.returns-in_err-make_room-clause-others
+returns-in_err-make_room-clause-others g c = λ n other. row_at-same g.I.SpanRow.spans g.I.SpanRow.spare c.self.inside.rows c.self.inside.rows c.args.self.now (ap (λ t. t.rows) c.self.view_is) n refl
+
+pub returns-in_err-place-clause-grown : goal.returns-in_err-place-clause-grown
+returns-in_err-place-clause-grown g c =
+    IsGrown-table g.I.SpanRow.spans g.I.SpanRow.spare c.self.inside.rows c.self.inside.rows c.args.self.now (ap (λ t. t.rows) c.self.view_is) c.args.p.0 (IsGrown-kept g.I.SpanRow.spans g.I.SpanRow.spare c.self.inside.rows c.self.inside.rows c.args.p.0 refl)
+
+pub returns-in_err-place-clause-others : goal.returns-in_err-place-clause-others
+returns-in_err-place-clause-others g c = λ n other. row_at-same g.I.SpanRow.spans g.I.SpanRow.spare c.self.inside.rows c.self.inside.rows c.args.self.now (ap (λ t. t.rows) c.self.view_is) n refl
 
 pub invariant_of-self-2 : goal.invariant_of-self-2
 invariant_of-self-2 g c =
