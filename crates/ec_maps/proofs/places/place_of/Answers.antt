@@ -1,5 +1,5 @@
 -- What stands at the place of the number tells whether it has a row.
-use Rattle.std.proofs.Common.{◌≡◌, None, IfNone, sym, refl, ap, subst, ◌∙◌, arith, nat_eq}
+use Rattle.std.proofs.Common.{rules, ◌≡◌, None, IfNone, sym, refl, ap, subst, ◌∙◌, arith, nat_eq}
 use Rattle.std.specs.Map.{lookup}
 use Rattle.std.proofs.lemmas.Option.{slice_get_past, slice_get_read}
 use Rattle.ec_maps.proofs.PlaceLemmas.{IsFirst-at, lookup-behind, lookup-no_place, lookup-other}
@@ -27,3 +27,6 @@ returns-else-row-n-clause-none g c =
     lookup-other c.args.places.now c.args.rows.now c.requires c.args.n c.in_ok-place.field-0.now
     (slice_get_read c.args.places.now _ c.args.n _ refl c.in_ok-place.ensures.lookup.3.0 c.in_ok-place.ensures.lookup.1)
     (λ d. ap (λ row. nat_eq c.args.n row.0) (sym (c.in_ok-row.ensures.lookup.3.1 d)) ∙ grind arith)
+
+pub returns-else-row-n-clause-some : goal.returns-else-row-n-clause-some
+returns-else-row-n-clause-some g c = search rules

@@ -13,11 +13,15 @@ returns-then-place-list-clause-inserted c =
     insert-with_number c.args.p c.args.list.now c.count_before-place.result c.requires c.count_before-place.ensures.cut
     (has_number-end c.args.p c.args.list.now c.count_before-place.result c.requires c.count_before-place.ensures.cut (omega (arith, c.if-place-list.true)))
 
+pub returns-then-list-place-clause-there : goal.returns-then-list-place-clause-there
+returns-then-list-place-clause-there c =
+    let here : ((get_or c.args.list.now c.count_before-place.result (record { 0 = 0 })).0 == c.args.p.0) ≡ true = grind arith in
+    sym here ∙ has_number-at c.args.p c.args.list.now c.count_before-place.result (record { 0 = 0 }) c.requires c.count_before-place.ensures.cut (omega (arith, c.count_before-place.ensures.within, c.if-place-list.false))
+
 pub returns-then-list-place-clause-removed : goal.returns-then-list-place-clause-removed
 returns-then-list-place-clause-removed c =
-    let here : ((get_or c.args.list.now c.count_before-place.result (record { 0 = 0 })).0 == c.args.p.0) ≡ true = grind arith in
     remove-without_number c.args.p c.args.list.now c.count_before-place.result c.requires c.count_before-place.ensures.cut
-    (sym (has_number-at c.args.p c.args.list.now c.count_before-place.result (record { 0 = 0 }) c.requires c.count_before-place.ensures.cut (omega (arith, c.count_before-place.ensures.within, c.if-place-list.false))) ∙ here)
+    (sym (returns-then-list-place-clause-there c))
 
 pub returns-else-list-place-clause-there : goal.returns-else-list-place-clause-there
 returns-else-list-place-clause-there c =

@@ -5,10 +5,13 @@ use Rattle.ec_numbered.specs.PropSet.{are_ascending, has_number, without_number}
 use Rattle.ec_numbered.proofs.Numbers.{are_ascending-without_number, without_number-absent}
 use Rattle.ec_numbered.proofs.ascending.take_out.Goals as goal
 
-pub returns-in-Ok-clause-ascends : goal.returns-in-Ok-clause-ascends
-returns-in-Ok-clause-ascends c =
+pub returns-in-Ok-clause-items : goal.returns-in-Ok-clause-items
+returns-in-Ok-clause-items c =
     let removed = subst (λ ps. remove ps c.in-Ok.place ≡ without_number c.args.p ps) c.deref.ensures.value c.in-Ok.ensures.removed in
-    ap are_ascending (c.remove.ensures.items ∙ removed) ∙ are_ascending-without_number c.args.p c.args.list.now.items c.requires
+    c.remove.ensures.items ∙ removed
+
+pub returns-in-Ok-clause-ascends : goal.returns-in-Ok-clause-ascends
+returns-in-Ok-clause-ascends c = ap are_ascending (returns-in-Ok-clause-items c) ∙ are_ascending-without_number c.args.p c.args.list.now.items c.requires
 
 pub returns-in_default-clause-items : goal.returns-in_default-clause-items
 returns-in_default-clause-items c =

@@ -9,3 +9,6 @@ returns-clause-same g c = λ n.
     kept_at-AppendsResults _ (λ f x f' called. search (rules, called)) n _ _ c.resize_with.new.self.items _
     (omega (arith, c.len.ensures, c.if-p-len.false, c.in-Some.ensures, c.self.inside.rows.ok.0)) c.in_ok-resize_with.ensures.items
     ∙ ap (kept_at n) c.self.view_is
+
+pub returns-clause-place : goal.returns-clause-place
+returns-clause-place g c = omega (arith, c.in_ok-resize_with.ensures.len, c.in-Some.ensures)
