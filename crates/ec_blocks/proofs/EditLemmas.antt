@@ -94,12 +94,12 @@ module _ {X B : Type 0} (items : B → List X) (capacity : B → ℕ) (blocks : 
           let most = old-most in let wide = old-room in
           IsChain-less items capacity blocks starts lasts spares chain k old new within is (is_kept-from items capacity new (omega arith) (omega arith) (omega arith)) lasts' last-new starts' less lowered
 
-  -- one more spare block
-  pub spare-more : (blocks' : List B) (starts' : List ℕ) (lasts' : List X) (spares' : List B) (spare : B) → blocks' ≡ blocks → starts' ≡ starts → lasts' ≡ lasts →
-      spares' ≡ spares ++ spare ∷ [] → is_spare items capacity spare ≡ true → IsChain items capacity blocks' starts' lasts' spares'
-  spare-more blocks' starts' lasts' spares' spare bs ss ls more empty = record {
+  -- the same blocks, beside other spare ones
+  pub spared : (blocks' : List B) (starts' : List ℕ) (lasts' : List X) (spares' : List B) → blocks' ≡ blocks → starts' ≡ starts → lasts' ≡ lasts →
+      list_all (is_spare items capacity) spares' ≡ true → IsChain items capacity blocks' starts' lasts' spares'
+  spared blocks' starts' lasts' spares' bs ss ls empty = record {
     kept = ap (list_all (is_kept items capacity)) bs ∙ chain.kept;
-    spare = ap (list_all (is_spare items capacity)) more ∙ list_all-push (is_spare items capacity) spares spare empty chain.spare;
+    spare = empty;
     starts_are = ss ∙ chain.starts_are ∙ ap (λ zs. starts_from 0 (map items zs)) (sym bs);
     lasts_are = ap (map Some) ls ∙ chain.lasts_are ∙ ap (λ zs. map last_of (map items zs)) (sym bs);
   }

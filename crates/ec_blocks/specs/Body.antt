@@ -1,5 +1,5 @@
 -- What is seen of a list that is one `Vec` while it has few members, and a chain of blocks from then on.
-use Rattle.std.specs.Prelude.{◌-◌, ◌≤◌, min, vec_len}
+use Rattle.std.specs.Prelude.{ℕ, ◌+◌, ◌-◌, ◌≤◌, min, vec_len}
 use Rattle.std.specs.Vec.{vec_capacity}
 use Rattle.ec_blocks.specs.declared.blocks.Body.{Body}
 use Rattle.ec_blocks.specs.declared.blocks.Body.TheVariants.{Few, Many}
@@ -15,3 +15,8 @@ seen_of (Many chain) = record { items = joined chain.value.blocks; spare = room_
 abbrev pub IsBody : {X : Type 0} → Body X → Type 0
 IsBody (Few members) = vec_len members ≤ 128
 IsBody (Many chain) = Unit {0}
+
+-- few members that one block has with n more, or a chain
+abbrev pub IsWide : {X : Type 0} → ℕ → Body X → Type 0
+IsWide n (Few members) = vec_len members + n ≤ 128
+IsWide n (Many chain) = Unit {0}

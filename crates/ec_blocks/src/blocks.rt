@@ -3,6 +3,7 @@ ghost use Rattle.std.specs.Vec.{vec_capacity};
 ghost use Rattle.std.specs.Fn.{ComputesKey};
 ghost use Rattle.std.specs.List.{insert, remove, splice};
 ghost use Rattle.std.specs.List.Sorted.{IsPartitionedBy, IsPartitionPoint};
+ghost use Rattle.ec_blocks.specs.Body.{IsBody, IsWide, seen_of};
 ghost use Rattle.ec_blocks.specs.Chain.{joined, room_of};
 
 use crate::chain::{CAPACITY, Chain, insert_within};
@@ -217,17 +218,11 @@ impl<X: Copied + Drop> Blocks<X> {
         ensures spare { self.old.spare ≤ self.new.spare + 1 }
         ensures same_spare { OnErr result (self.old.spare ≤ self.new.spare) }
     {
+        widen(&mut self.body, 1)?;
         match &mut self.body {
-            Body::Few(members) => match chain_for(members, 1)? {
-                Some(mut chain) => {
-                    chain.push(x)?;
-                    self.body = Body::Many(chain);
-                }
-                None => members.push(x)?,
-            },
-            Body::Many(chain) => chain.push(x)?,
+            Body::Few(members) => Ok(members.push(x)?),
+            Body::Many(chain) => chain.push(x),
         }
-        Ok(())
     }
 
     /// Makes room for `n` further members, wherever they are put. `Err`: memory ran out, and all is as it
@@ -237,14 +232,11 @@ impl<X: Copied + Drop> Blocks<X> {
         ensures ok { OnOk result (n ≤ self.new.spare) }
         ensures spare { self.old.spare ≤ self.new.spare }
     {
+        widen(&mut self.body, n)?;
         match &mut self.body {
-            Body::Few(members) => match chain_for(members, n)? {
-                Some(chain) => self.body = Body::Many(chain),
-                None => members.reserve(n)?,
-            },
-            Body::Many(chain) => chain.reserve(n)?,
+            Body::Few(members) => Ok(members.reserve(n)?),
+            Body::Many(chain) => chain.reserve(n),
         }
-        Ok(())
     }
 
     /// Takes out all members, and keeps the room.
@@ -257,6 +249,24 @@ impl<X: Copied + Drop> Blocks<X> {
             Body::Many(chain) => chain.clear(),
         }
     }
+}
+
+/// Goes over from few members to a chain, if they and `n` more are too many for one `Vec`. `Err`: memory ran out, and all
+/// is as it was.
+fn widen<X: Copied + Drop>(body: &mut Body<X>, n: usize) -> Result<(), NoMemory>
+    requires { IsBody body.old }
+    ensures body { IsBody body.new }
+    ensures same { (seen_of body.new).items ≡ (seen_of body.old).items }
+    ensures spare { (seen_of body.old).spare ≤ (seen_of body.new).spare }
+    ensures wide { OnOk result (IsWide n body.new) }
+{
+    let Body::Few(members) = body else {
+        return Ok(());
+    };
+    if let Some(chain) = chain_for(members, n)? {
+        *body = Body::Many(chain);
+    }
+    Ok(())
 }
 
 /// The chain to take the place of few members, if they and `n` more are too many for one `Vec`.
@@ -274,20 +284,25 @@ fn chain_for<X: Copied + Drop>(
         return Ok(None);
     }
     let alloc = *members.allocator();
-    Ok(Some(Box::new(alloc, chain_of(alloc, members, n)?)?))
+    let mut chain = Box::new(alloc, Chain::new(alloc))?;
+    begin_with(&mut chain, members, n)?;
+    Ok(Some(chain))
 }
 
-/// A chain with copies of some members, and room for `n` more.
-fn chain_of<X: Copied + Drop>(alloc: Global, members: &[X], n: usize) -> Result<Chain<X>, NoMemory>
-    requires { length members.now ≤ 128 }
-    ensures members { IfOk result (λ chain. joined chain.blocks ≡ members.now) }
-    ensures room { IfOk result (λ chain. n ≤ room_of chain.blocks chain.spares) }
+/// Puts copies of some members into a chain without members, and makes room for `n` more.
+fn begin_with<X: Copied + Drop>(
+    chain: &mut Chain<X>,
+    members: &[X],
+    n: usize,
+) -> Result<(), NoMemory>
+    requires few { length members.now ≤ 128 }
+    requires none { chain.old.blocks ≡ [] }
+    ensures members { OnOk result (joined chain.new.blocks ≡ members.now) }
+    ensures room { OnOk result (n ≤ room_of chain.new.blocks chain.new.spares) }
 {
-    let mut chain = Chain::new(alloc);
     if !members.is_empty() {
         chain.add_spare()?;
         chain.append(members);
     }
-    chain.reserve(n)?;
-    Ok(chain)
+    chain.reserve(n)
 }

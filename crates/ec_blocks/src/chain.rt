@@ -324,13 +324,13 @@ impl<X: Copied + Drop> Chain<X> {
         if count + spares >= LIMIT {
             return Err(NoMemory);
         }
-        self.blocks.reserve(spares + 1)?;
-        self.starts.reserve(spares + 1)?;
-        self.lasts.reserve(spares + 1)?;
-        self.spares.reserve(count + 1)?;
-        let block = Vec::with_capacity(*self.spares.allocator(), CAPACITY)?;
-        self.spares.push_reserved(block);
-        Ok(())
+        widen(
+            &mut self.blocks,
+            &mut self.starts,
+            &mut self.lasts,
+            spares + 1,
+        )?;
+        push_spare(&mut self.spares, count)
     }
 
     /// Makes all blocks spare ones.
@@ -498,6 +498,48 @@ fn take_spare<X: Drop>(spares: &mut Vec<Vec<X>>) -> Vec<X>
         Some(block) => block,
         None => unreachable!(),
     }
+}
+
+/// Makes room for `more` further blocks, their starts and their last members. `Err`: memory ran out.
+fn widen<X: Drop>(
+    blocks: &mut Tiers<Vec<X>>,
+    starts: &mut Starts,
+    lasts: &mut Tiers<X>,
+    more: usize,
+) -> Result<(), NoMemory>
+    requires blocks { length blocks.old.items + more ≤ 2 ^ 57 }
+    requires starts { length starts.old.items + more ≤ 2 ^ 57 }
+    requires lasts { length lasts.old.items + more ≤ 2 ^ 57 }
+    ensures blocks { blocks.new.items ≡ blocks.old.items }
+    ensures starts { starts.new.items ≡ starts.old.items }
+    ensures lasts { lasts.new.items ≡ lasts.old.items }
+    ensures blocks_room { blocks.old.room ≤ blocks.new.room }
+    ensures starts_room { starts.old.room ≤ starts.new.room }
+    ensures lasts_room { lasts.old.room ≤ lasts.new.room }
+    ensures blocks_fit { OnOk result (length blocks.old.items + more ≤ blocks.new.room) }
+    ensures starts_fit { OnOk result (length starts.old.items + more ≤ starts.new.room) }
+    ensures lasts_fit { OnOk result (length lasts.old.items + more ≤ lasts.new.room) }
+{
+    blocks.reserve(more)?;
+    starts.reserve(more)?;
+    lasts.reserve(more)
+}
+
+/// Adds a spare block to those that have room for `others` more, and as much room after it. `Err`: memory ran out.
+fn push_spare<X: Drop>(spares: &mut Vec<Vec<X>>, others: usize) -> Result<(), NoMemory>
+    requires few { others < 2 ^ 56 }
+    requires room { vec_len spares.old + others ≤ vec_capacity spares.old }
+    requires spare { IsTrue (list_all (is_spare (λ block. block.items) (λ block. vec_capacity block)) spares.old.items) }
+    ensures room { vec_len spares.new + others ≤ vec_capacity spares.new }
+    ensures spare { IsTrue (list_all (is_spare (λ block. block.items) (λ block. vec_capacity block)) spares.new.items) }
+    ensures most { vec_len spares.new ≤ vec_len spares.old + 1 }
+    ensures ok { OnOk result (vec_len spares.new ≡ vec_len spares.old + 1) }
+    ensures err { OnErr result (vec_len spares.new ≡ vec_len spares.old) }
+{
+    spares.reserve(others + 1)?;
+    let block = Vec::with_capacity(*spares.allocator(), CAPACITY)?;
+    spares.push_reserved(block);
+    Ok(())
 }
 
 /// Makes all blocks spare ones.

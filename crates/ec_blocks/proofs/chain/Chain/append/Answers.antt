@@ -1,11 +1,39 @@
 -- A block more at the end.
-use Rattle.std.proofs.Common.{[], ◌∷◌, length-append, ◌-◌, ◌++◌, length, Some, refl, sym, ap, ◌∙◌, arith}
+use Rattle.std.proofs.Common.{[], ◌∷◌, length-append, ◌-◌, ◌++◌, length, Some, refl, sym, ap, ◌∙◌, arith, map, ap₂}
 use Rattle.std.specs.Vec.{vec_capacity}
 use Rattle.std.proofs.lemmas.Option.{slice_get_read}
+use Rattle.std.proofs.lemmas.List.{map_push}
 use Rattle.ec_blocks.proofs.ChainLemmas.{starts-count, lasts-count, is_block-some, is_block-most}
 use Rattle.ec_blocks.proofs.EditLemmas.{appended}
 use Rattle.ec_blocks.proofs.CountLemmas.{counted-small, owed-small, counted-push}
 use Rattle.ec_blocks.proofs.chain.Chain.append.Goals as goal
+
+pub take_spare-block-requires-clause-some : goal.take_spare-block-requires-clause-some
+take_spare-block-requires-clause-some g c = omega (arith, ap (λ v. v.spares) c.self.view_is)
+
+pub take_spare-block-requires-clause-spare : goal.take_spare-block-requires-clause-spare
+take_spare-block-requires-clause-spare g c = c.self.invariant.0.spare
+
+pub fill-requires : goal.fill-requires
+fill-requires g c =
+    omega (arith, ap length c.take_spare-block.ensures.empty, is_block-most c.args.members.now c.requires.block)
+
+pub overflow_sub-members : goal.overflow_sub-members
+overflow_sub-members g c = omega (arith, is_block-some c.args.members.now c.requires.block)
+
+pub bounds-members-members : goal.bounds-members-members
+bounds-members-members g c = omega (arith, is_block-some c.args.members.now c.requires.block)
+
+pub push-requires-3 : goal.push-requires-3
+push-requires-3 g c = let rooms = c.self.invariant.1 in omega (arith, ap (λ v. v.spares) c.self.view_is)
+
+pub returns-clause-blocks : goal.returns-clause-blocks
+returns-clause-blocks g c =
+    ap (map (λ b. b.items)) c.push-3.ensures.items ∙ map_push (λ b. b.items) c.self.inside.blocks.items c.fill.new.block
+    ∙ ap₂ (λ us members. us ++ members ∷ []) (ap (λ v. v.blocks) c.self.view_is) (c.fill.ensures.items ∙ ap (λ xs. xs ++ c.args.members.now) c.take_spare-block.ensures.empty)
+
+pub returns-clause-spares : goal.returns-clause-spares
+returns-clause-spares g c = omega (arith, ap (λ v. v.spares) c.self.view_is, c.take_spare-block.ensures.len)
 
 pub push-requires : goal.push-requires
 push-requires g c = let rooms = c.self.invariant.1 in omega (arith, ap (λ v. v.spares) c.self.view_is, starts-count (λ b. b.items) (λ b. vec_capacity b) _ _ _ _ c.self.invariant.0)

@@ -4,11 +4,30 @@ use Rattle.std.specs.Prelude.{nat_eq}
 use Rattle.std.specs.List.{insert}
 use Rattle.std.specs.Vec.{vec_capacity}
 use Rattle.std.proofs.lemmas.List.Edits.{length-insert}
-use Rattle.ec_blocks.proofs.ChainLemmas.{last_of-insert, starts-count, starts-fit, place-within}
-use Rattle.ec_blocks.proofs.EditLemmas.{rooms-set, old-last, old-list, old-room, edited, edited-more}
+use Rattle.ec_blocks.proofs.ChainLemmas.{last_of-insert, starts-count, starts-fit, place-within, lasts-count}
+use Rattle.ec_blocks.proofs.EditLemmas.{rooms-set, old-last, old-list, old-room, edited, edited-more, old-most}
 use Rattle.ec_blocks.proofs.CountLemmas.{counted-same, counted-small, owed-small, counted-part, owed-part, counted-set}
 use Rattle.ec_blocks.specs.Chain.{block_at, last_of}
 use Rattle.ec_blocks.proofs.chain.Chain.insert.Goals as goal
+
+pub get_mut-block-requires : goal.get_mut-block-requires
+get_mut-block-requires g c =
+    place-within (λ b. b.items) (λ b. vec_capacity b) c.self.inside.blocks.items _ c.args.k (ap (λ v. v.blocks) c.self.view_is) c.requires.block
+
+pub insert_within-requires-clause-within : goal.insert_within-requires-clause-within
+insert_within-requires-clause-within g c =
+    omega (arith, c.requires.place, ap length (old-list (λ b. b.items) (λ b. vec_capacity b) c.self.inside.blocks.items c.self.inside.starts.items c.self.inside.lasts.items c.self.inside.spares.items c.self.invariant.0 c.args.self.now.blocks (ap (λ v. v.blocks) c.self.view_is) c.args.k c.requires.block c.get_mut-block.result.now c.get_mut-block.ensures.member))
+
+pub overflow_add-len : goal.overflow_add-len
+overflow_add-len g c =
+    omega (arith, old-most (λ b. b.items) (λ b. vec_capacity b) c.self.inside.blocks.items c.self.inside.starts.items c.self.inside.lasts.items c.self.inside.spares.items c.self.invariant.0 c.args.self.now.blocks (ap (λ v. v.blocks) c.self.view_is) c.args.k c.requires.block c.get_mut-block.result.now c.get_mut-block.ensures.member)
+
+pub keep_last-requires-clause-some : goal.keep_last-requires-clause-some
+keep_last-requires-clause-some g c = omega (arith, ap length c.deref.ensures.value, c.insert_within.ensures.len)
+
+pub keep_last-requires-clause-within : goal.keep_last-requires-clause-within
+keep_last-requires-clause-within g c =
+    omega (arith, lasts-count (λ b. b.items) (λ b. vec_capacity b) _ _ _ _ c.self.invariant.0, place-within (λ b. b.items) (λ b. vec_capacity b) c.self.inside.blocks.items _ c.args.k (ap (λ v. v.blocks) c.self.view_is) c.requires.block)
 
 pub raise_behind-requires-clause-within : goal.raise_behind-requires-clause-within
 raise_behind-requires-clause-within g c =

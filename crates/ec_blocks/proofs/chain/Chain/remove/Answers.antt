@@ -1,14 +1,42 @@
 -- A block that gets one less.
 use Rattle.std.proofs.Common.{◌∙◌, sym, ◌+◌, length, ap, arith}
-use Rattle.std.specs.Prelude.{nat_eq}
+use Rattle.std.specs.Prelude.{nat_eq, slice_get}
 use Rattle.std.specs.List.{remove}
 use Rattle.std.specs.Vec.{vec_capacity}
 use Rattle.std.proofs.lemmas.List.Edits.{length-remove}
-use Rattle.ec_blocks.proofs.ChainLemmas.{last_of-remove, starts-count, starts-some, place-within}
-use Rattle.ec_blocks.proofs.EditLemmas.{rooms-set, old-last, old-list, edited, edited-less}
+use Rattle.ec_blocks.proofs.ChainLemmas.{last_of-remove, starts-count, starts-some, place-within, lasts-count}
+use Rattle.ec_blocks.proofs.EditLemmas.{rooms-set, old-last, old-list, edited, edited-less, old-some, old-most}
 use Rattle.ec_blocks.proofs.CountLemmas.{counted-same, counted-small, owed-small, counted-part, owed-part, counted-set}
 use Rattle.ec_blocks.specs.Chain.{block_at, last_of}
 use Rattle.ec_blocks.proofs.chain.Chain.remove.Goals as goal
+
+pub get_mut-block-requires : goal.get_mut-block-requires
+get_mut-block-requires g c =
+    place-within (λ b. b.items) (λ b. vec_capacity b) c.self.inside.blocks.items _ c.args.k (ap (λ v. v.blocks) c.self.view_is) c.requires.block
+
+pub remove_within-x-requires : goal.remove_within-x-requires
+remove_within-x-requires g c =
+    omega (arith, c.requires.place, ap length (old-list (λ b. b.items) (λ b. vec_capacity b) c.self.inside.blocks.items c.self.inside.starts.items c.self.inside.lasts.items c.self.inside.spares.items c.self.invariant.0 c.args.self.now.blocks (ap (λ v. v.blocks) c.self.view_is) c.args.k c.requires.block c.get_mut-block.result.now c.get_mut-block.ensures.member))
+
+pub overflow_add-place : goal.overflow_add-place
+overflow_add-place g c =
+    omega (arith, c.requires.place, ap length (old-list (λ b. b.items) (λ b. vec_capacity b) c.self.inside.blocks.items c.self.inside.starts.items c.self.inside.lasts.items c.self.inside.spares.items c.self.invariant.0 c.args.self.now.blocks (ap (λ v. v.blocks) c.self.view_is) c.args.k c.requires.block c.get_mut-block.result.now c.get_mut-block.ensures.member), old-most (λ b. b.items) (λ b. vec_capacity b) c.self.inside.blocks.items c.self.inside.starts.items c.self.inside.lasts.items c.self.inside.spares.items c.self.invariant.0 c.args.self.now.blocks (ap (λ v. v.blocks) c.self.view_is) c.args.k c.requires.block c.get_mut-block.result.now c.get_mut-block.ensures.member)
+
+pub overflow_sub-len : goal.overflow_sub-len
+overflow_sub-len g c =
+    omega (arith, old-some (λ b. b.items) (λ b. vec_capacity b) c.self.inside.blocks.items c.self.inside.starts.items c.self.inside.lasts.items c.self.inside.spares.items c.self.invariant.0 c.args.self.now.blocks (ap (λ v. v.blocks) c.self.view_is) c.args.k c.requires.block c.get_mut-block.result.now c.get_mut-block.ensures.member)
+
+pub keep_last-requires-clause-some : goal.keep_last-requires-clause-some
+keep_last-requires-clause-some g c =
+    omega (arith, c.requires.others, ap length (old-list (λ b. b.items) (λ b. vec_capacity b) c.self.inside.blocks.items c.self.inside.starts.items c.self.inside.lasts.items c.self.inside.spares.items c.self.invariant.0 c.args.self.now.blocks (ap (λ v. v.blocks) c.self.view_is) c.args.k c.requires.block c.get_mut-block.result.now c.get_mut-block.ensures.member), ap length c.deref.ensures.value, c.remove_within-x.ensures.len)
+
+pub keep_last-requires-clause-within : goal.keep_last-requires-clause-within
+keep_last-requires-clause-within g c =
+    omega (arith, lasts-count (λ b. b.items) (λ b. vec_capacity b) _ _ _ _ c.self.invariant.0, place-within (λ b. b.items) (λ b. vec_capacity b) c.self.inside.blocks.items _ c.args.k (ap (λ v. v.blocks) c.self.view_is) c.requires.block)
+
+pub returns-clause-member : goal.returns-clause-member
+returns-clause-member g c =
+    ap (λ xs. slice_get xs c.args.place) (sym (old-list (λ b. b.items) (λ b. vec_capacity b) c.self.inside.blocks.items c.self.inside.starts.items c.self.inside.lasts.items c.self.inside.spares.items c.self.invariant.0 c.args.self.now.blocks (ap (λ v. v.blocks) c.self.view_is) c.args.k c.requires.block c.get_mut-block.result.now c.get_mut-block.ensures.member)) ∙ c.remove_within-x.ensures.member
 
 pub lower_behind-requires-clause-within : goal.lower_behind-requires-clause-within
 lower_behind-requires-clause-within g c =

@@ -1,14 +1,35 @@
 -- A block goes, and is a spare one.
-use Rattle.std.proofs.Common.{◌≡◌, ◌+◌, ◌-◌, ◌≤◌, length, [], map, ap, ◌∙◌, arith}
+use Rattle.std.proofs.Common.{◌≡◌, ◌+◌, ◌-◌, ◌≤◌, length, [], map, ap, ◌∙◌, arith, sym}
 use Rattle.std.specs.List.{remove}
 use Rattle.std.specs.Vec.{vec_capacity}
 use Rattle.std.proofs.lemmas.List.{nil_from_length}
 use Rattle.std.proofs.lemmas.List.Edits.{length-remove}
-use Rattle.ec_blocks.proofs.ChainLemmas.{starts-count, starts-some, place-within, map-remove}
+use Rattle.std.specs.Prelude.{slice_get}
+use Rattle.ec_blocks.proofs.ChainLemmas.{starts-count, starts-some, place-within, map-remove, lasts-count}
 use Rattle.ec_blocks.proofs.EditLemmas.{old-list, old-room, gone, is_spare-from}
 use Rattle.ec_blocks.proofs.NumberLemmas.{behind-length}
 use Rattle.ec_blocks.proofs.CountLemmas.{counted-same, counted-small, owed-small, counted-part, counted-remove}
 use Rattle.ec_blocks.proofs.chain.Chain.remove_block.Goals as goal
+
+pub remove-requires-2 : goal.remove-requires-2
+remove-requires-2 g c =
+    omega (arith, lasts-count (λ b. b.items) (λ b. vec_capacity b) _ _ _ _ c.self.invariant.0, place-within (λ b. b.items) (λ b. vec_capacity b) c.self.inside.blocks.items _ c.args.k (ap (λ v. v.blocks) c.self.view_is) c.requires.block)
+
+pub remove-block-requires : goal.remove-block-requires
+remove-block-requires g c =
+    place-within (λ b. b.items) (λ b. vec_capacity b) c.self.inside.blocks.items _ c.args.k (ap (λ v. v.blocks) c.self.view_is) c.requires.block
+
+pub remove_within-x-requires : goal.remove_within-x-requires
+remove_within-x-requires g c =
+    omega (arith, c.requires.alone, ap length (old-list (λ b. b.items) (λ b. vec_capacity b) c.self.inside.blocks.items c.self.inside.starts.items c.self.inside.lasts.items c.self.inside.spares.items c.self.invariant.0 c.args.self.now.blocks (ap (λ v. v.blocks) c.self.view_is) c.args.k c.requires.block c.remove-block.result c.remove-block.ensures.member))
+
+pub push_reserved-requires : goal.push_reserved-requires
+push_reserved-requires g c =
+    let rooms = c.self.invariant.1 in omega (arith, place-within (λ b. b.items) (λ b. vec_capacity b) c.self.inside.blocks.items _ c.args.k (ap (λ v. v.blocks) c.self.view_is) c.requires.block)
+
+pub returns-clause-member : goal.returns-clause-member
+returns-clause-member g c =
+    ap (λ xs. slice_get xs 0) (sym (old-list (λ b. b.items) (λ b. vec_capacity b) c.self.inside.blocks.items c.self.inside.starts.items c.self.inside.lasts.items c.self.inside.spares.items c.self.invariant.0 c.args.self.now.blocks (ap (λ v. v.blocks) c.self.view_is) c.args.k c.requires.block c.remove-block.result c.remove-block.ensures.member)) ∙ c.remove_within-x.ensures.member
 
 pub lower_behind-requires-clause-within : goal.lower_behind-requires-clause-within
 lower_behind-requires-clause-within g c = omega (arith, starts-count (λ b. b.items) (λ b. vec_capacity b) _ _ _ _ c.self.invariant.0, place-within (λ b. b.items) (λ b. vec_capacity b) c.self.inside.blocks.items _ c.args.k (ap (λ v. v.blocks) c.self.view_is) c.requires.block)

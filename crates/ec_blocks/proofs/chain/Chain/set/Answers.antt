@@ -2,11 +2,31 @@
 use Rattle.std.proofs.Common.{◌+◌, length, length-set, set, sym, ap, ◌∙◌, arith}
 use Rattle.std.specs.Prelude.{nat_eq}
 use Rattle.std.specs.Vec.{vec_capacity}
-use Rattle.ec_blocks.proofs.ChainLemmas.{last_of-set}
-use Rattle.ec_blocks.proofs.EditLemmas.{rooms-set, old-last, old-list, edited, edited-same}
+use Rattle.ec_blocks.proofs.ChainLemmas.{last_of-set, lasts-count, place-within}
+use Rattle.ec_blocks.proofs.EditLemmas.{rooms-set, old-last, old-list, edited, edited-same, old-some, old-most}
 use Rattle.ec_blocks.proofs.CountLemmas.{counted-same, counted-set}
 use Rattle.ec_blocks.specs.Chain.{block_at, last_of}
 use Rattle.ec_blocks.proofs.chain.Chain.set.Goals as goal
+
+pub get_mut-block-requires : goal.get_mut-block-requires
+get_mut-block-requires g c =
+    place-within (λ b. b.items) (λ b. vec_capacity b) c.self.inside.blocks.items _ c.args.k (ap (λ v. v.blocks) c.self.view_is) c.requires.block
+
+pub put_within-requires : goal.put_within-requires
+put_within-requires g c =
+    omega (arith, c.requires.place, ap length (old-list (λ b. b.items) (λ b. vec_capacity b) c.self.inside.blocks.items c.self.inside.starts.items c.self.inside.lasts.items c.self.inside.spares.items c.self.invariant.0 c.args.self.now.blocks (ap (λ v. v.blocks) c.self.view_is) c.args.k c.requires.block c.get_mut-block.result.now c.get_mut-block.ensures.member))
+
+pub overflow_add-place : goal.overflow_add-place
+overflow_add-place g c =
+    omega (arith, c.requires.place, ap length (old-list (λ b. b.items) (λ b. vec_capacity b) c.self.inside.blocks.items c.self.inside.starts.items c.self.inside.lasts.items c.self.inside.spares.items c.self.invariant.0 c.args.self.now.blocks (ap (λ v. v.blocks) c.self.view_is) c.args.k c.requires.block c.get_mut-block.result.now c.get_mut-block.ensures.member), old-most (λ b. b.items) (λ b. vec_capacity b) c.self.inside.blocks.items c.self.inside.starts.items c.self.inside.lasts.items c.self.inside.spares.items c.self.invariant.0 c.args.self.now.blocks (ap (λ v. v.blocks) c.self.view_is) c.args.k c.requires.block c.get_mut-block.result.now c.get_mut-block.ensures.member)
+
+pub keep_last-requires-clause-some : goal.keep_last-requires-clause-some
+keep_last-requires-clause-some g c =
+    omega (arith, old-some (λ b. b.items) (λ b. vec_capacity b) c.self.inside.blocks.items c.self.inside.starts.items c.self.inside.lasts.items c.self.inside.spares.items c.self.invariant.0 c.args.self.now.blocks (ap (λ v. v.blocks) c.self.view_is) c.args.k c.requires.block c.get_mut-block.result.now c.get_mut-block.ensures.member, ap length c.deref.ensures.value, c.put_within.ensures.len)
+
+pub keep_last-requires-clause-within : goal.keep_last-requires-clause-within
+keep_last-requires-clause-within g c =
+    omega (arith, lasts-count (λ b. b.items) (λ b. vec_capacity b) _ _ _ _ c.self.invariant.0, place-within (λ b. b.items) (λ b. vec_capacity b) c.self.inside.blocks.items _ c.args.k (ap (λ v. v.blocks) c.self.view_is) c.requires.block)
 
 pub returns-clause-blocks : goal.returns-clause-blocks
 returns-clause-blocks g c = edited (λ b. b.items) (λ b. vec_capacity b) c.self.inside.blocks.items c.self.inside.starts.items c.self.inside.lasts.items c.self.inside.spares.items c.self.invariant.0 c.args.self.now.blocks (ap (λ v. v.blocks) c.self.view_is) c.args.k c.requires.block c.get_mut-block.result.now c.get_mut-block.ensures.member (λ xs. set xs c.args.place c.args.x) c.put_within.new.block c.put_within.ensures.items

@@ -5,11 +5,64 @@ use Rattle.std.specs.Vec.{vec_capacity}
 use Rattle.std.proofs.lemmas.List.{length-map, length-take-le}
 use Rattle.std.proofs.lemmas.List.Edits.{length-insert}
 use Rattle.ec_blocks.proofs.StartLemmas.{start_of-le, start_of-all}
-use Rattle.ec_blocks.proofs.ChainLemmas.{starts-count, place-within, start-is, kept-blocks, joined-most, map-insert}
+use Rattle.ec_blocks.proofs.ChainLemmas.{starts-count, place-within, start-is, kept-blocks, joined-most, map-insert, lasts-count}
 use Rattle.ec_blocks.proofs.EditLemmas.{old-list, edited, halved}
 use Rattle.ec_blocks.proofs.CountLemmas.{counted-same, counted-small, owed-small, counted-part, owed-part, counted-set, counted-insert}
 use Rattle.ec_blocks.specs.Chain.{block_at, is_block}
 use Rattle.ec_blocks.proofs.chain.Chain.split.Goals as goal
+
+pub take_spare-behind-requires-clause-some : goal.take_spare-behind-requires-clause-some
+take_spare-behind-requires-clause-some g c = omega (arith, ap (λ v. v.spares) c.self.view_is)
+
+pub take_spare-behind-requires-clause-spare : goal.take_spare-behind-requires-clause-spare
+take_spare-behind-requires-clause-spare g c = c.self.invariant.0.spare
+
+pub get_mut-block-requires : goal.get_mut-block-requires
+get_mut-block-requires g c =
+    place-within (λ b. b.items) (λ b. vec_capacity b) c.self.inside.blocks.items _ c.args.k (ap (λ v. v.blocks) c.self.view_is) c.requires.block
+
+pub move_half-requires-clause-full : goal.move_half-requires-clause-full
+move_half-requires-clause-full g c =
+    omega (arith, c.requires.full, ap length (old-list (λ b. b.items) (λ b. vec_capacity b) c.self.inside.blocks.items c.self.inside.starts.items c.self.inside.lasts.items c.self.inside.spares.items c.self.invariant.0 c.args.self.now.blocks (ap (λ v. v.blocks) c.self.view_is) c.args.k c.requires.block c.get_mut-block.result.now c.get_mut-block.ensures.member))
+
+pub move_half-requires-clause-empty : goal.move_half-requires-clause-empty
+move_half-requires-clause-empty g c = c.take_spare-behind.ensures.empty
+
+pub move_half-requires-clause-room : goal.move_half-requires-clause-room
+move_half-requires-clause-room g c = c.take_spare-behind.ensures.room
+
+pub insert_last-requires-clause-some : goal.insert_last-requires-clause-some
+insert_last-requires-clause-some g c =
+    let list = ap length (old-list (λ b. b.items) (λ b. vec_capacity b) c.self.inside.blocks.items c.self.inside.starts.items c.self.inside.lasts.items c.self.inside.spares.items c.self.invariant.0 c.args.self.now.blocks (ap (λ v. v.blocks) c.self.view_is) c.args.k c.requires.block c.get_mut-block.result.now c.get_mut-block.ensures.member) in
+    let half = length-take-le 64 c.get_mut-block.result.now.items (omega (arith, list, c.requires.full)) in
+    omega (arith, half, ap length c.deref.ensures.value, ap length c.move_half.ensures.front)
+
+pub insert_last-requires-clause-within : goal.insert_last-requires-clause-within
+insert_last-requires-clause-within g c =
+    omega (arith, lasts-count (λ b. b.items) (λ b. vec_capacity b) _ _ _ _ c.self.invariant.0, place-within (λ b. b.items) (λ b. vec_capacity b) c.self.inside.blocks.items _ c.args.k (ap (λ v. v.blocks) c.self.view_is) c.requires.block)
+
+pub insert_last-requires-clause-room : goal.insert_last-requires-clause-room
+insert_last-requires-clause-room g c =
+    let rooms = c.self.invariant.1 in omega (arith, ap (λ v. v.spares) c.self.view_is, lasts-count (λ b. b.items) (λ b. vec_capacity b) _ _ _ _ c.self.invariant.0)
+
+pub overflow_add-k : goal.overflow_add-k
+overflow_add-k g c =
+    let few = c.self.invariant.1.few in omega (arith, place-within (λ b. b.items) (λ b. vec_capacity b) c.self.inside.blocks.items _ c.args.k (ap (λ v. v.blocks) c.self.view_is) c.requires.block)
+
+pub overflow_add-k-2 : goal.overflow_add-k-2
+overflow_add-k-2 g c =
+    let few = c.self.invariant.1.few in omega (arith, place-within (λ b. b.items) (λ b. vec_capacity b) c.self.inside.blocks.items _ c.args.k (ap (λ v. v.blocks) c.self.view_is) c.requires.block)
+
+pub insert-requires-2-clause-within : goal.insert-requires-2-clause-within
+insert-requires-2-clause-within g c =
+    omega (arith, length-set c.self.inside.blocks.items c.args.k c.move_half.new.block, place-within (λ b. b.items) (λ b. vec_capacity b) c.self.inside.blocks.items _ c.args.k (ap (λ v. v.blocks) c.self.view_is) c.requires.block)
+
+pub insert-requires-2-clause-room : goal.insert-requires-2-clause-room
+insert-requires-2-clause-room g c =
+    let rooms = c.self.invariant.1 in omega (arith, ap (λ v. v.spares) c.self.view_is, length-set c.self.inside.blocks.items c.args.k c.move_half.new.block)
+
+pub returns-clause-spares : goal.returns-clause-spares
+returns-clause-spares g c = omega (arith, ap (λ v. v.spares) c.self.view_is, c.take_spare-behind.ensures.len)
 
 pub get-start-requires : goal.get-start-requires
 get-start-requires g c = omega (arith, starts-count (λ b. b.items) (λ b. vec_capacity b) _ _ _ _ c.self.invariant.0, place-within (λ b. b.items) (λ b. vec_capacity b) c.self.inside.blocks.items _ c.args.k (ap (λ v. v.blocks) c.self.view_is) c.requires.block)
