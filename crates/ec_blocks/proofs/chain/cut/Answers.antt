@@ -8,3 +8,6 @@ pub returns-clause-partitioned : goal.returns-clause-partitioned
 returns-clause-partitioned g c p computes parted =
     c.partition_point.ensures.partitioned p
     (always_returns_same _ _ _ (λ a r f' called. let h = computes.at (a ∷ []) r c.args.pred.now in ((h (search (of_calls, called) parts 8)).0, called.met.1))) parted
+
+pub partition_point-requires : goal.partition_point-requires
+partition_point-requires g c = search of_calls parts 8
