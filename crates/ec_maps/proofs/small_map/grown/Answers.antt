@@ -1,10 +1,13 @@
 -- The rows in the map are those that were few.
-use Rattle.std.proofs.Common.{rules, arith}
-use Rattle.std.proofs.lemmas.Grind.{common_steps}
+use Rattle.std.proofs.Common.{cond, Some, sym, ap, ◌∙◌, rules}
+use Rattle.std.specs.Map.{lookup}
+use Rattle.ec_maps.specs.Rows.{rows_of}
 use Rattle.ec_maps.proofs.small_map.grown.Goals as goal
 
 pub boxed_with-requires : goal.boxed_with-requires
 boxed_with-requires g c = search rules
 
 pub returns-in_ok-boxed_with-in-Few : goal.returns-in_ok-boxed_with-in-Few
-returns-in_ok-boxed_with-in-Few g c = grind (arith, common_steps)
+returns-in_ok-boxed_with-in-Few g c = λ k.
+    c.in_ok-boxed_with-in-Few.ensures k
+    ∙ ap (λ rows. cond (g.K.PartialEq.eq c.args.key k) (Some c.args.value) (lookup (g.K.PartialEq.eq k) rows)) (c.deref.ensures.value ∙ ap rows_of (sym c.in-Few.is))
