@@ -151,12 +151,20 @@ fn initial_tables(alloc: Global, theory: &Theory) -> Result<InitialTables, NoMem
     })
 }
 
-/// The marks, the initiations and the intervals of what is initial, where there are no events.
+/// The marks, the initiations and the intervals of what is initial, where there are no events, in boxes while the parts are
+/// made.
 #[derive(Drop)]
 struct InitialRows<T: Moment, M: MarkRow<T>, I: SpanRow<T>> {
-    points: Points<T, M>,
-    initiations: Points<T, M>,
-    intervals: Intervals<T, I>,
+    points: Box<Points<T, M>>,
+    initiations: Box<Points<T, M>>,
+    intervals: Box<Intervals<T, I>>,
+}
+
+/// A value in a box. `Err`: memory ran out.
+fn boxed<V: Drop>(alloc: Global, value: V) -> Result<Box<V>, NoMemory>
+    ensures { IfOk result (λ boxed. boxed.value ≡ value) }
+{
+    Ok(Box::new(alloc, value)?)
 }
 
 /// The rows of added properties without marks, all of them initial.
@@ -166,19 +174,76 @@ fn initial_rows<T: Moment, M: MarkRow<T>, I: SpanRow<T>>(
     numbers: &PropSet,
 ) -> Result<InitialRows<T, M, I>, NoMemory>
     requires { added_props neighbours.now.rows ≡ numbers.now.items }
-    ensures initials { IfOk result (λ rows. rows.points.initials ≡ numbers.now.items) }
-    ensures marks { IfOk result (λ rows. (n : ℕ) → marks_at n rows.points ≡ []) }
-    ensures initiations { IfOk result (λ rows. (n : ℕ) → marks_row_at n rows.initiations ≡ None) }
-    ensures intervals { IfOk result (λ rows. HaveFirstIntervals T.rank neighbours.now numbers.now.items rows.intervals) }
+    ensures initials { IfOk result (λ rows. rows.points.value.initials ≡ numbers.now.items) }
+    ensures marks { IfOk result (λ rows. (n : ℕ) → marks_at n rows.points.value ≡ []) }
+    ensures initiations { IfOk result (λ rows. (n : ℕ) → marks_row_at n rows.initiations.value ≡ None) }
+    ensures intervals { IfOk result (λ rows. HaveFirstIntervals T.rank neighbours.now numbers.now.items rows.intervals.value) }
 {
-    let points = Points::with_initials(alloc, numbers.as_slice())?;
+    let points = boxed(alloc, Points::with_initials(alloc, numbers.as_slice())?)?;
+    let initiations = boxed(alloc, Points::new(alloc)?)?;
     let mut intervals = Intervals::new(alloc);
     begin_intervals(&points, neighbours, numbers.as_slice(), &mut intervals)?;
     Ok(InitialRows {
         points,
-        initiations: Points::new(alloc)?,
-        intervals,
+        initiations,
+        intervals: boxed(alloc, intervals)?,
     })
+}
+
+/// What the parts of no event are put together of, but for their theory.
+#[derive(Drop)]
+struct Beginning<T: Moment, M: MarkRow<T>, I: SpanRow<T>, X: TimeRow<T>> {
+    store: EventStore<T, X>,
+    tables: Box<InitialTables>,
+    rows: InitialRows<T, M, I>,
+}
+
+/// What the parts of no event under a theory are put together of.
+fn begin_parts<T: Moment, M: MarkRow<T>, I: SpanRow<T>, X: TimeRow<T>>(
+    alloc: Global,
+    theory: &Theory,
+) -> Result<Beginning<T, M, I, X>, NoMemory>
+    requires initials { All IsPlainInitial theory.now.initials }
+    requires matchable { IsMatchable theory.now }
+    ensures once { IfOk result (λ made. KeepsOnce (initial_properties theory.now) made.tables.value.props) }
+    ensures numbers { IfOk result (λ made. (id : ℕ) → has_number id made.tables.value.numbers.items ≡ is_some (prop_at id made.tables.value.props)) }
+    ensures neighbours { IfOk result (λ made. AreNeighbours theory.now made.tables.value.props made.tables.value.neighbours) }
+    ensures added { IfOk result (λ made. added_props made.tables.value.neighbours.rows ≡ made.tables.value.numbers.items) }
+    ensures initials { IfOk result (λ made. made.rows.points.value.initials ≡ made.tables.value.numbers.items) }
+    ensures marks { IfOk result (λ made. (n : ℕ) → marks_at n made.rows.points.value ≡ []) }
+    ensures initiations { IfOk result (λ made. (n : ℕ) → marks_row_at n made.rows.initiations.value ≡ None) }
+    ensures intervals { IfOk result (λ made. HaveFirstIntervals T.rank made.tables.value.neighbours made.tables.value.numbers.items made.rows.intervals.value) }
+    ensures events { IfOk result (λ made. made.store.events ≡ []) }
+{
+    let tables = boxed(alloc, initial_tables(alloc, theory)?)?;
+    let kept = &*tables;
+    let rows = initial_rows(alloc, &kept.neighbours, &kept.numbers)?;
+    Ok(Beginning {
+        store: EventStore::new(alloc)?,
+        tables,
+        rows,
+    })
+}
+
+/// The parts of no event, put together.
+fn assembled<T: Moment, M: MarkRow<T>, I: SpanRow<T>, X: TimeRow<T>>(
+    checked: Rules,
+    entries: Entries<T>,
+    made: Beginning<T, M, I, X>,
+) -> Parts<T, M, I, X>
+    ensures { result ≡ record { checked = checked; store = made.store; props = made.tables.value.props; neighbours = made.tables.value.neighbours; entries = entries; points = made.rows.points.value; initiations = made.rows.initiations.value; intervals = made.rows.intervals.value } }
+{
+    let tables = Box::into_inner(made.tables);
+    Parts {
+        checked,
+        store: made.store,
+        props: tables.props,
+        neighbours: tables.neighbours,
+        entries,
+        points: Box::into_inner(made.rows.points),
+        initiations: Box::into_inner(made.rows.initiations),
+        intervals: Box::into_inner(made.rows.intervals),
+    }
 }
 
 /// The parts of no event under a theory: what is initial is kept, with one mention of its own each, and holds from before
@@ -191,19 +256,8 @@ pub fn new_parts<T: Moment, M: MarkRow<T>, I: SpanRow<T>, X: TimeRow<T>>(
     ensures theory { IfOk result (λ made. made.0.checked ≡ checked) }
     ensures tally { IfOk result (λ made. made.1 ≡ record { mentions = 0; links = 0 }) }
 {
-    let store = EventStore::new(alloc)?;
-    let tables = initial_tables(alloc, checked.theory())?;
-    let rows = initial_rows(alloc, &tables.neighbours, &tables.numbers)?;
-    let parts = Parts {
-        checked,
-        store,
-        props: tables.props,
-        neighbours: tables.neighbours,
-        entries: Entries::new(alloc),
-        points: rows.points,
-        initiations: rows.initiations,
-        intervals: rows.intervals,
-    };
+    let made = begin_parts(alloc, checked.theory())?;
+    let parts = assembled(checked, Entries::new(alloc), made);
     let tally = Tally {
         mentions: 0,
         links: 0,
