@@ -18,7 +18,7 @@ use ec_axioms::{Event, Seen, Steps, Update};
 use ec_check::Checked;
 use ec_context::Rules;
 use ec_moment::Moment;
-use ec_parts::{Parts, Tally, new_parts};
+use ec_parts::{Parts, Tally, boxed, new_parts};
 use ec_rows::{MarkRow, SpanRow, TimeRow};
 use ec_sweep::Lists;
 use ec_terms::{GroundRef, Name, NoMemory};
@@ -165,13 +165,6 @@ impl<T: Moment, M: MarkRow<T>, I: SpanRow<T>, X: TimeRow<T>> Engine<T, M, I, X> 
         };
         Ok(seen)
     }
-}
-
-/// A value in a box. `Err`: memory ran out.
-fn boxed<V: Drop>(alloc: Global, value: V) -> Result<Box<V>, NoMemory>
-    ensures { IfOk result (λ boxed. boxed.value ≡ value) }
-{
-    Ok(Box::new(alloc, value)?)
 }
 
 /// The parts of no event under a theory, in a box.

@@ -160,8 +160,8 @@ struct InitialRows<T: Moment, M: MarkRow<T>, I: SpanRow<T>> {
     intervals: Box<Intervals<T, I>>,
 }
 
-/// A value in a box. `Err`: memory ran out.
-fn boxed<V: Drop>(alloc: Global, value: V) -> Result<Box<V>, NoMemory>
+/// A value in a box, where it is small to move. `Err`: memory ran out.
+pub fn boxed<V: Drop>(alloc: Global, value: V) -> Result<Box<V>, NoMemory>
     ensures { IfOk result (λ boxed. boxed.value ≡ value) }
 {
     Ok(Box::new(alloc, value)?)

@@ -16,7 +16,7 @@ mod tally;
 
 pub use entering::enter;
 pub use forgetting::forget;
-pub use initials::new_parts;
+pub use initials::{boxed, new_parts};
 pub use laws::initials_are_listed_law;
 pub use parts::Parts;
 pub use slots::{mention_slot, note_props, release_slot};
