@@ -1,13 +1,14 @@
--- The dependents where nothing is kept, and where the entries of a slot were taken out.
+-- The dependents where nothing is kept, and where the entries of a slot were noted or taken out.
 use Rattle.std.proofs.Common.{◌≡◌, ◌≢◌, ◌<◌, ℕ, ℤ, zero, suc, List, [], ◌∷◌, length, get_or, Option, None, Some, IsSome, set, refl, sym, ap, subst, ◌∙◌, ⊎_elim, get_or-set_other, get_or-set_same, arith}
 use Rattle.std.specs.Prelude.{option_and_then}
 use Rattle.std.specs.Option.{option_to_list}
 use Rattle.std.proofs.lemmas.Bool.{cases_eq, cases_lt}
 use Rattle.std.proofs.lemmas.Option.{slice_get_past}
 use Rattle.ec_context.specs.declared.entry.Entry.{Entry}
+use Rattle.ec_entries.specs.declared.event_entries.Dependent.{Dependent}
 use Rattle.ec_entries.specs.declared.event_entries.EventEntries.{EventEntries}
 use Rattle.ec_entries.specs.Dependents.{AreDependents, Rows, any_on, dependent_at, dependent_if, dependent_in, dependents_of, from_place}
-use Rattle.ec_entries.specs.Noting.{AreTakenOut}
+use Rattle.ec_entries.specs.Noting.{AreNoted, AreTakenOut}
 use Rattle.ec_numbered.specs.ByNumber.{kept_at}
 use Rattle.ec_rows.specs.Ordered.{is_ascending}
 
@@ -20,7 +21,7 @@ AreDependents-none rank slots rows no_slots no_rows q =
     (subst (λ xs. AreDependents rank q [] (dependents_of q xs)) (sym no_rows) (record { order = refl; exact = λ slot place. refl }))
 
 -- what is kept in a slot where something is written
-kept_at-set_other : {X : Type 0} (slots : List (Option X)) (slot other : ℕ) (x : Option X) → other ≢ slot → kept_at other (set slots slot x) ≡ kept_at other slots
+pub kept_at-set_other : {X : Type 0} (slots : List (Option X)) (slot other : ℕ) (x : Option X) → other ≢ slot → kept_at other (set slots slot x) ≡ kept_at other slots
 kept_at-set_other slots slot other x apart = rw get_or-set_other refl
 
 -- a slot in which something is kept is among the slots
@@ -34,6 +35,33 @@ pub kept_at-read : {X : Type 0} (slots : List (Option X)) (slot : ℕ) (o : Opti
 kept_at-read [] slot o read some = cc
 kept_at-read (y ∷ ys) zero o read some = sym read
 kept_at-read (y ∷ ys) (suc n) o read some = kept_at-read ys n o read some
+
+-- a slot in which nothing is kept has no dependents
+pub from_place-none : {T : Type 0} (rank : T → ℤ) (slots : List (Option (EventEntries T))) (slot : ℕ) → kept_at slot slots ≡ None → (q : ℕ) (dependents : List (Dependent T)) →
+    AreDependents rank q slots dependents → (place : ℕ) → from_place slot place dependents ≡ []
+from_place-none {T} rank slots slot none q dependents are place =
+    are.exact slot place ∙ ap (λ (k : Option (EventEntries T)). option_to_list (option_and_then (λ k. dependent_in q k.at slot k.list place) k)) none
+
+module _ {T : Type 0} (rank : T → ℤ) (slots : List (Option (EventEntries T))) (slot : ℕ) (at : T) (entries : List Entry) (active : ℕ) (below : slot < length slots)
+    (old new : Rows T) (all : (q : ℕ) → AreDependents rank q slots (dependents_of q old)) (noted : AreNoted rank at slot entries old new) where
+  abbrev event : EventEntries T
+  event = record { at = at; list = entries; active = active }
+
+  -- where the entries of a slot were noted
+  pub AreDependents-in : (q : ℕ) → AreDependents rank q (set slots slot (Some event)) (dependents_of q new)
+  AreDependents-in q = record { order = noted.order q; exact = λ s p. ⊎_elim (here s p) (other s p) (cases_eq s slot) }
+    where
+      here : (s p : ℕ) → s ≡ slot → from_place s p (dependents_of q new) ≡ option_to_list (dependent_at q (set slots slot (Some event)) s p)
+      here s p same =
+          subst (λ n. from_place n p (dependents_of q new) ≡ option_to_list (dependent_at q (set slots slot (Some event)) n p)) (sym same)
+          (noted.here q p
+          ∙ sym (ap (λ (k : Option (EventEntries T)). option_to_list (option_and_then (λ k. dependent_in q k.at slot k.list p) k))
+          (get_or-set_same slots slot (Some event) None below)))
+
+      other : (s p : ℕ) → s ≢ slot → from_place s p (dependents_of q new) ≡ option_to_list (dependent_at q (set slots slot (Some event)) s p)
+      other s p apart =
+          noted.others q s p apart ∙ (all q).exact s p
+          ∙ sym (ap (λ (k : Option (EventEntries T)). option_to_list (option_and_then (λ k. dependent_in q k.at s k.list p) k)) (kept_at-set_other slots slot s (Some event) apart))
 
 module _ {T : Type 0} (rank : T → ℤ) (slots : List (Option (EventEntries T))) (slot : ℕ) (kept : EventEntries T) (there : kept_at slot slots ≡ Some kept)
     (old new : Rows T) (all : (q : ℕ) → AreDependents rank q slots (dependents_of q old)) (out : AreTakenOut rank slot (length kept.list) old new) where
