@@ -113,6 +113,26 @@ fn read_initial<'t, 'a>(
     Ok((Clause::Initial(declaration), rest))
 }
 
+/// Reads one clause, which gets this number and has these variables.
+fn read_with_names<'t, 'a>(
+    alloc: Global,
+    names: &Variables<'a>,
+    number: u32,
+    cursor: Cursor<'t, 'a>,
+) -> Result<(Clause, Cursor<'t, 'a>), SyntaxFault>
+    requires { 0 < length cursor.rest.now }
+    ensures takes { IfOk result (λ x. TakesClause names.now number (signs_of (left_of cursor.entry)) x.0 (signs_of (left_of x.1))) }
+    ensures goes { Goes Beginning Beginning (left_of cursor.entry) result }
+{
+    match cursor.keyword() {
+        Some((Keyword::Rule(kind), behind)) => read_rule(alloc, names, number, kind, behind),
+        Some((Keyword::Exclusive, behind)) => read_exclusive(alloc, names, number, behind),
+        Some((Keyword::Strong, behind)) => read_strong(number, behind),
+        Some((Keyword::Initially, behind)) => read_initial(alloc, names, number, behind),
+        None => Err(cursor.fault()),
+    }
+}
+
 /// Reads one clause, which gets this number.
 pub fn read_clause<'t, 'a>(
     alloc: Global,
@@ -124,13 +144,7 @@ pub fn read_clause<'t, 'a>(
     ensures goes { Goes Beginning Beginning (left_of cursor.entry) result }
 {
     let names = Variables::of(alloc, cursor)?;
-    match cursor.keyword() {
-        Some((Keyword::Rule(kind), behind)) => read_rule(alloc, &names, number, kind, behind),
-        Some((Keyword::Exclusive, behind)) => read_exclusive(alloc, &names, number, behind),
-        Some((Keyword::Strong, behind)) => read_strong(number, behind),
-        Some((Keyword::Initially, behind)) => read_initial(alloc, &names, number, behind),
-        None => Err(cursor.fault()),
-    }
+    read_with_names(alloc, &names, number, cursor)
 }
 
 /// Adds a clause behind those of its kind.
