@@ -1,4 +1,4 @@
-use Rattle.std.proofs.Common.{◌≡◌, ◌∙◌, sym, ap, inl, inr, true, is_some}
+use Rattle.std.proofs.Common.{◌≡◌, ◌∙◌, sym, ap, inl, inr, true, is_some, rules}
 use Rattle.std.specs.Option.{option_copied}
 use Rattle.std.specs.FinMap.{get}
 use Rattle.ec_outside.specs.Calls.{next_fails}
@@ -47,3 +47,9 @@ returns-clause-long c =
       | in-Some-3+in-Ok w ↦ rw w.result-is (λ e. absurd (cc))
       | in-Some-3+in-Err w ↦ rw w.result-is (λ e. absurd (cc))
     ]
+
+pub returns-clause-missing : goal.returns-clause-missing
+returns-clause-missing c = search rules
+
+pub returns-clause-faults : goal.returns-clause-faults
+returns-clause-faults c = search rules
