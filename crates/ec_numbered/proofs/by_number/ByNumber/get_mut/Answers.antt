@@ -1,0 +1,7 @@
+-- The row that is lent is the one that stands under the number.
+use Rattle.std.proofs.Common.{arith}
+use Rattle.std.proofs.lemmas.Grind.{common_steps}
+use Rattle.ec_numbered.proofs.by_number.ByNumber.get_mut.Goals as goal
+
+pub returns : goal.returns
+returns g c = grind (arith, common_steps)
