@@ -16,7 +16,7 @@ abbrev pub IsBody : {X : Type 0} → Body X → Type 0
 IsBody (Few members) = vec_len members ≤ 128
 IsBody (Many chain) = Unit {0}
 
--- few members that one block has with n more, or a chain
+-- few members, which with n more are no more than a block holds; or a chain
 abbrev pub IsWide : {X : Type 0} → ℕ → Body X → Type 0
 IsWide n (Few members) = vec_len members + n ≤ 128
 IsWide n (Many chain) = Unit {0}
