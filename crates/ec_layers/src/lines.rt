@@ -1,5 +1,5 @@
 //! The feed, the commands and the answers of lines.
-ghost use Rattle.std.specs.Prelude.{◌≡◌, false};
+ghost use Rattle.std.specs.Prelude.{◌≡◌, true, false, IsTrue};
 
 use crate::tables::row_of;
 use ec_axioms::Seen;
@@ -8,9 +8,9 @@ use ec_lines::{
 };
 use ec_moment::Tick;
 use ec_outside::{Failed, MemSink};
-use ec_terms::{Name, NoMemory};
+use ec_terms::Name;
 use std::alloc::Global;
-use std::test::Fail;
+use std::process::Abort;
 
 /// An input, and its lines: each without its line feed and without one carriage return before it, and
 /// the last as it is.
@@ -48,25 +48,33 @@ fn push_all(feed: &mut Feed, piece: &[u8], place: &mut usize) -> bool
     true
 }
 
-/// Whether the input, cut into pieces of `size` bytes behind a first piece of `first` bytes, gives the
-/// lines.
-fn gives_lines(alloc: Global, first: usize, size: usize) -> Result<bool, NoMemory> {
-    let mut feed = Feed::new(alloc)?;
+/// Whether a front and pieces of `size` bytes of what stands behind it give the lines.
+fn pieces_give_lines(feed: &mut Feed, front: &[u8], back: &[u8], size: usize) -> bool
+    requires { feed.old.is_ready ≡ false }
+{
     let mut place = 0;
-    let (front, back) = INPUT.split_at(first.min(INPUT.len()));
-    let mut holds = push_all(&mut feed, front, &mut place);
+    let mut holds = push_all(&mut *feed, front, &mut place);
     for piece in back.chunks(size.max(1)) {
-        holds = push_all(&mut feed, piece, &mut place) && holds;
+        holds = push_all(&mut *feed, piece, &mut place) && holds;
     }
     feed.end();
-    Ok(holds && feed.ready() && is_next(feed.line(), place) && place == LINES.len() - 1)
+    holds && feed.ready() && is_next(feed.line(), place) && place == LINES.len() - 1
+}
+
+/// Whether the input, cut into pieces of `size` bytes behind a first piece of `first` bytes, gives the
+/// lines.
+fn gives_lines(rt: &impl Abort, alloc: Global, first: usize, size: usize) -> bool {
+    let mut feed = Feed::new(alloc).expect(rt, "memory");
+    let (front, back) = INPUT.split_at(first.min(INPUT.len()));
+    pieces_give_lines(&mut feed, front, back, size)
 }
 
 #[test]
 fn pieces_make_the_lines_of_the_joined_bytes(rt: HostRuntime) {
+    let alloc = rt.alloc();
     for size in 1..=INPUT.len() {
-        assert!(rt; gives_lines(rt.alloc(), 0, size) == Ok(true));
-        assert!(rt; gives_lines(rt.alloc(), size, INPUT.len()) == Ok(true));
+        let holds = gives_lines(&rt, alloc, 0, size) && gives_lines(&rt, alloc, size, INPUT.len());
+        assert!(rt; holds, "pieces of {size}");
     }
 }
 
@@ -84,42 +92,65 @@ const LENGTHS: [(usize, &[u8], Option<usize>); 9] = [
     (9_000, b"\n", None),
 ];
 
-/// The length of the line that `count` bytes `x` and `tail` make, none where it is long. A line that
-/// comes too early or too late has the length 1, and so has one behind which `ok` is not read.
-fn line_length(alloc: Global, count: usize, tail: &[u8]) -> Result<Option<usize>, NoMemory> {
-    let mut feed = Feed::new(alloc)?;
+/// Pushes `count` bytes `x`, and tells whether no line is ready before them or then.
+fn push_many(feed: &mut Feed, count: usize) -> bool
+    ensures { IsTrue result → feed.new.is_ready ≡ false }
+{
     for _ in 0..count {
         if feed.ready() {
-            return Ok(Some(1));
+            return false;
         }
         feed.push(b"x");
     }
-    if feed.ready() {
-        return Ok(Some(1));
-    }
+    !feed.ready()
+}
+
+/// Pushes what follows, and tells whether a line is ready then, or at the end.
+fn push_tail(feed: &mut Feed, tail: &[u8]) -> bool
+    requires { feed.old.is_ready ≡ false }
+    ensures { IsTrue result → feed.new.is_ready ≡ true }
+{
     feed.push(tail);
     if !feed.ready() {
         feed.end();
     }
-    if !feed.ready() {
-        return Ok(Some(1));
-    }
-    let length = match feed.line() {
+    feed.ready()
+}
+
+/// The length of a line, none where it is long.
+fn length_of(line: Line<'_>) -> Option<usize> {
+    match line {
         Line::Text(bytes) => Some(bytes.len()),
         Line::Long => None,
-    };
+    }
+}
+
+/// Whether the line that is ready has this length, and `ok` is read behind it.
+fn has_length(feed: &mut Feed, length: Option<usize>) -> bool
+    requires { feed.old.is_ready ≡ true }
+{
+    let found = length_of(feed.line());
     feed.clear();
     feed.push(b"ok\n");
-    if !feed.ready() || !matches!(feed.line(), Line::Text(b"ok")) {
-        return Ok(Some(1));
-    }
-    Ok(length)
+    found == length && feed.ready() && matches!(feed.line(), Line::Text(b"ok"))
+}
+
+/// Whether `count` bytes `x` and a tail make a line of this length, not too early and not too late.
+fn makes_line(
+    rt: &impl Abort,
+    alloc: Global,
+    count: usize,
+    tail: &[u8],
+    length: Option<usize>,
+) -> bool {
+    let mut feed = Feed::new(alloc).expect(rt, "memory");
+    push_many(&mut feed, count) && push_tail(&mut feed, tail) && has_length(&mut feed, length)
 }
 
 #[test]
 fn a_line_of_4096_bytes_is_not_long(rt: HostRuntime) {
-    for (count, tail, length) in LENGTHS {
-        assert!(rt; line_length(rt.alloc(), count, tail) == Ok(length));
+    for (count, tail, length) in &LENGTHS {
+        assert!(rt; makes_line(&rt, rt.alloc(), *count, *tail, *length));
     }
 }
 
@@ -228,27 +259,39 @@ fn each_line_has_its_command(rt: HostRuntime) {
     assert!(rt; has_command(b"\xa0last", "bad"));
 }
 
+/// Whether a line asks whether `door` holds through from -5 until 10.
+fn is_through(line: &[u8]) -> bool {
+    let parsed: Parsed<'_, Tick> = read_command(line);
+    matches!(&parsed.command, Command::Through { prop, from: Tick(-5), until: Tick(10) } if prop.name == b"door".as_slice())
+}
+
+/// Whether a line asserts a `plug` at 3 under the identity `e1`.
+fn is_assert(line: &[u8]) -> bool {
+    let parsed: Parsed<'_, Tick> = read_command(line);
+    matches!(&parsed.command, Command::Assert { id, at: Tick(3), event } if id.as_bytes() == b"e1".as_slice() && event.name == b"plug".as_slice())
+}
+
 #[test]
 fn the_parts_of_a_command_stand_in_their_places(rt: HostRuntime) {
-    let parsed: Parsed<'_, Tick> = read_command(b"@9 through door(7,a) -5 010");
-    assert!(rt;
-        matches!(&parsed.command, Command::Through { prop, from: Tick(-5), until: Tick(10) } if prop.name == b"door".as_slice())
-    );
-    let parsed: Parsed<'_, Tick> = read_command(b"assert e1 3 plug(a)");
-    assert!(rt;
-        matches!(&parsed.command, Command::Assert { id, at: Tick(3), event } if id.as_bytes() == b"e1".as_slice() && event.name == b"plug".as_slice())
-    );
+    assert!(rt; is_through(b"@9 through door(7,a) -5 010"));
+    assert!(rt; is_assert(b"assert e1 3 plug(a)"));
+}
+
+/// Whether a sink takes an answer as this text.
+fn takes(sink: &mut MemSink, session: Option<u8>, answer: &Answer, text: &[u8]) -> bool {
+    write_answer(session, answer, &mut *sink) == Ok(()) && sink.bytes() == text
 }
 
 /// Whether an answer is written as this text, three bytes at a time.
 fn is_written(
+    rt: &impl Abort,
     alloc: Global,
     session: Option<u8>,
     answer: &Answer,
     text: &[u8],
-) -> Result<bool, NoMemory> {
-    let mut sink = MemSink::new(alloc, 256, 3, &[], &[])?;
-    Ok(write_answer(session, answer, &mut sink) == Ok(()) && sink.bytes() == text)
+) -> bool {
+    let mut sink = MemSink::new(alloc, 256, 3, &[], &[]).expect(rt, "memory");
+    takes(&mut sink, session, answer, text)
 }
 
 const COUNTS: Seen = Seen {
@@ -259,17 +302,20 @@ const COUNTS: Seen = Seen {
 };
 
 #[test]
-fn counts_are_shown_by_their_names(rt: HostRuntime) -> Result<(), Fail> {
-    let text = format!(in rt.alloc(); "{COUNTS:?}")?;
-    assert_eq!(rt;
-        text.as_str(),
-        "Seen { seen: 12, on: 18446744073709551615, off: 0, props: 13 }"
-    );
-    Ok(())
+fn counts_are_shown_by_their_names(rt: HostRuntime) {
+    let text = format!(in rt.alloc(); "{COUNTS:?}").expect(&rt, "memory");
+    assert!(rt; text.as_str() == "Seen { seen: 12, on: 18446744073709551615, off: 0, props: 13 }");
 }
 
-/// Answers with the session of their line and their text.
-const ANSWERS: [(Option<u8>, Answer, &[u8]); 18] = [
+/// The session of a line, its answer and the answer's text.
+type AnswerRow = (Option<u8>, Answer, &'static [u8]);
+
+/// Whether an answer is written as its text.
+fn is_row_written(rt: &impl Abort, alloc: Global, row: &AnswerRow) -> bool {
+    is_written(rt, alloc, row.0, &row.1, row.2)
+}
+
+const ANSWERS: [AnswerRow; 18] = [
     (Some(0), Answer::Ok, b"@0 ok\n"),
     (None, Answer::Yes, b"yes\n"),
     (Some(63), Answer::No, b"@63 no\n"),
@@ -316,34 +362,43 @@ const ANSWERS: [(Option<u8>, Answer, &[u8]); 18] = [
 
 #[test]
 fn each_answer_has_its_text(rt: HostRuntime) {
-    for (session, answer, text) in &ANSWERS {
-        assert!(rt; is_written(rt.alloc(), *session, answer, text) == Ok(true));
+    for row in ANSWERS.iter() {
+        assert!(rt; is_row_written(&rt, rt.alloc(), row));
     }
 }
 
-#[test]
-fn a_refusal_names_the_identity(rt: HostRuntime) -> Result<(), Fail> {
-    let known = Answer::Update(Cut::Duplicate(Name::from_bytes(b"e_1").ok_or("no name")?));
-    assert!(rt; is_written(rt.alloc(), Some(3), &known, b"@3 refused duplicate e_1\n") == Ok(true));
-    let longest = Name::from_bytes(&[b'e'; 64]).ok_or("no name")?;
-    let unknown = Answer::Commit(u32::MAX, Cut::Unknown(longest));
-    let text =
-        b"@63 refused commit 4294967295 unknown eeeeeeeeeeeeeeeeeeeeeeeeeeeeeeeeeeeeeeeeeeeeeeeeeeeeeeeeeeeeeeee\n";
-    assert!(rt; is_written(rt.alloc(), Some(63), &unknown, text) == Ok(true));
-    Ok(())
+/// Whether the refusal of an event that is known is written with its identity.
+fn names_the_known(rt: &impl Abort, alloc: Global) -> bool {
+    let known = Name::from_bytes(b"e_1").expect(rt, "a name");
+    let answer = Answer::Update(Cut::Duplicate(known));
+    is_written(rt, alloc, Some(3), &answer, b"@3 refused duplicate e_1\n")
 }
 
-/// What is written of a reply where the second write fails, each taking four bytes.
-fn part_written(alloc: Global) -> Result<bool, NoMemory> {
-    let mut sink = MemSink::new(alloc, 64, 4, &[2], &[])?;
-    let failed = write_answer(Some(7), &Answer::Yes, &mut sink) == Err(Failed);
+/// Whether the longest refusal is written with its identity.
+fn names_the_unknown(rt: &impl Abort, alloc: Global) -> bool {
+    let longest = Name::from_bytes(&[b'e'; 64]).expect(rt, "a name");
+    let answer = Answer::Commit(u32::MAX, Cut::Unknown(longest));
+    let text =
+        b"@63 refused commit 4294967295 unknown eeeeeeeeeeeeeeeeeeeeeeeeeeeeeeeeeeeeeeeeeeeeeeeeeeeeeeeeeeeeeeee\n";
+    is_written(rt, alloc, Some(63), &answer, text)
+}
+
+#[test]
+fn a_refusal_names_the_identity(rt: HostRuntime) {
+    assert!(rt; names_the_known(&rt, rt.alloc()) && names_the_unknown(&rt, rt.alloc()));
+}
+
+/// Whether a reply is written in part into a sink whose second write fails, each taking four bytes, and fronts behind it.
+fn part_written(sink: &mut MemSink) -> bool {
+    let failed = write_answer(Some(7), &Answer::Yes, &mut *sink) == Err(Failed);
     let part = sink.bytes() == b"@7 y".as_slice();
-    let front = write_front(Some(12), &mut sink) == Ok(())
-        && write_front(None, &mut sink) == Ok(());
-    Ok(failed && part && front && sink.bytes() == b"@7 y@12 ".as_slice())
+    let front = write_front(Some(12), &mut *sink) == Ok(());
+    let none = write_front(None, &mut *sink) == Ok(());
+    failed && part && front && none && sink.bytes() == b"@7 y@12 ".as_slice()
 }
 
 #[test]
 fn a_write_that_fails_leaves_a_first_part(rt: HostRuntime) {
-    assert!(rt; part_written(rt.alloc()) == Ok(true));
+    let mut sink = MemSink::new(rt.alloc(), 64, 4, &[2], &[]).expect(&rt, "memory");
+    assert!(rt; part_written(&mut sink));
 }
