@@ -8,11 +8,11 @@ use ec_moment::Tick;
 use ec_props::PropTable;
 use ec_terms::{Ground, Kind, Name, NoMemory, PropId, read_ground};
 use ec_theory::accept;
+use ec_tokens::MOST_BYTES;
 use std::alloc::Global;
 use std::marker::Brand;
 use std::process::Abort;
 use std::sync::ledger::{Blank, Ledger};
-use std::test::Fail;
 
 /// A lamp that is lit or put out by a push where it is powered, persons who move, a push of a thing by itself, and a
 /// move of a place to itself.
@@ -37,25 +37,26 @@ push(bob) =>
 ring =>
 ";
 
-/// The term of a text.
-fn term_of(rt: &impl Abort, alloc: Global, spelt: &[u8]) -> Result<Ground, NoMemory> {
-    let (term, _) = read_ground(spelt).expect(rt, "a term");
-    term.to_ground(alloc)
+/// The rules of a text.
+fn rules_of(rt: &impl Abort, alloc: Global, text: &[u8]) -> Rules {
+    assert!(rt; text.len() <= MOST_BYTES);
+    let theory = accept(alloc, text).expect(rt, "a theory");
+    Rules::new(alloc, theory).expect(rt, "memory")
 }
 
-/// The identity of each event.
-fn identity(rt: &impl Abort) -> Name {
-    Name::from_bytes(b"e").expect(rt, "a name")
+/// The term of a text.
+fn term_of(rt: &impl Abort, alloc: Global, spelt: &[u8]) -> Ground {
+    let (term, _) = read_ground(spelt).expect(rt, "a term");
+    term.to_ground(alloc).expect(rt, "memory")
 }
 
 /// The event whose term is that of a text.
-fn event(rt: &impl Abort, alloc: Global, spelt: &[u8]) -> Result<Event<Tick>, NoMemory> {
-    let term = term_of(rt, alloc, spelt)?;
-    Ok(Event {
-        id: identity(rt),
+fn event(rt: &impl Abort, alloc: Global, spelt: &[u8]) -> Event<Tick> {
+    Event {
+        id: Name::from_bytes(b"e").expect(rt, "a name"),
         at: Tick(10),
-        term,
-    })
+        term: term_of(rt, alloc, spelt),
+    }
 }
 
 /// Whether a table keeps the term of a text under a number.
@@ -114,14 +115,13 @@ fn entries(
     rules: &Rules,
     event: &Event<Tick>,
     props: &mut PropTable,
-) -> Result<EntryList, NoMemory> {
+) -> EntryList {
     let count = props.len();
-    let mut added = Vec::new(alloc);
-    match entries_of(alloc, rules, event, props, &mut added) {
-        Ok(entries) => Ok(entries),
+    match entries_of(alloc, rules, event, &mut *props, &mut Vec::new(alloc)) {
+        Ok(entries) => entries,
         Err(NoMemory) => {
             assert!(rt; props.len() == count);
-            Err(NoMemory)
+            panic!(rt; "memory");
         }
     }
 }
@@ -143,36 +143,34 @@ fn row_stands(
     rules: &Rules,
     row: (&str, &str),
     props: &mut PropTable,
-) -> Result<bool, NoMemory> {
-    let (spelt, wanted) = row;
-    let event = event(rt, alloc, spelt.as_bytes())?;
-    let found = entries(rt, alloc, rules, &event, props)?;
-    Ok(are_entries(rt, props, found.as_slice(), wanted))
+) -> bool {
+    let event = event(rt, alloc, row.0.as_bytes());
+    let found = entries(rt, alloc, rules, &event, &mut *props);
+    are_entries(rt, props, found.as_slice(), row.1)
 }
 
-/// Whether each event of a table has the entries that are wanted, all kept in one table of so many properties.
-fn rows_stand(
-    rt: &impl Abort,
-    alloc: Global,
-    rules: &Rules,
-    table: &str,
-    count: usize,
-) -> Result<bool, NoMemory> {
-    let mut props = PropTable::new(alloc)?;
+/// Sees that each event of a table has the entries that are wanted, all kept in one table of properties.
+fn see_rows(rt: &impl Abort, alloc: Global, rules: &Rules, table: &str, props: &mut PropTable) {
     for line in table.lines() {
         if let Some(row) = row_of(line) {
-            assert!(rt; row_stands(rt, alloc, rules, row, &mut props)?, "{line}");
+            assert!(rt; row_stands(rt, alloc, rules, row, &mut *props), "{line}");
         }
     }
-    Ok(props.len() == count)
+}
+
+/// How many properties are kept for the events of a table under the rules of a text. It sees that each event has the
+/// entries that are wanted.
+fn count_kept(rt: &impl Abort, alloc: Global, rules: &[u8], table: &str) -> usize {
+    let rules = rules_of(rt, alloc, rules);
+    let mut props = PropTable::new(alloc).expect(rt, "memory");
+    see_rows(rt, alloc, &rules, table, &mut props);
+    props.len()
 }
 
 #[test]
-fn events_have_their_entries(rt: HostRuntime) -> Result<(), Fail> {
-    let rules = Rules::new(rt.alloc(), accept(rt.alloc(), RULES)?)?;
+fn events_have_their_entries(rt: HostRuntime) {
     // lit(l1), powered(l1), at(bob,home), at(home,home), still(home), lit(l2), powered(l2), moved(l2)
-    assert!(rt; rows_stand(&rt, rt.alloc(), &rules, ROWS, 8)?);
-    Ok(())
+    assert!(rt; count_kept(&rt, rt.alloc(), RULES, ROWS) == 8);
 }
 
 /// Rules for events of two names and two numbers of arguments, mixed with one another.
@@ -194,11 +192,9 @@ plug(l1) =>
 ";
 
 #[test]
-fn events_have_entries_by_name_and_number_of_arguments(rt: HostRuntime) -> Result<(), Fail> {
-    let rules = Rules::new(rt.alloc(), accept(rt.alloc(), MIXED_RULES)?)?;
+fn events_have_entries_by_name_and_number_of_arguments(rt: HostRuntime) {
     // lit(l1), dark(l1), held(bob,l1), heard(l1), asked(bob)
-    assert!(rt; rows_stand(&rt, rt.alloc(), &rules, MIXED_ROWS, 5)?);
-    Ok(())
+    assert!(rt; count_kept(&rt, rt.alloc(), MIXED_RULES, MIXED_ROWS) == 5);
 }
 
 /// What is current, at each time.
@@ -218,43 +214,54 @@ impl<'p> Current<Tick> for Listed<'p> {
 }
 
 /// What is current at a push, and whether its two entries are active then.
-type Case = (&'static [&'static [u8]], [bool; 2]);
+const CASES: &str = "
+ => no no
+powered(l1) => yes no
+lit(l1) => no yes
+powered(l1) lit(l1) => no yes
+";
 
-const CASES: [Case; 4] = [
-    (&[], [false, false]),
-    (&[b"powered(l1)"], [true, false]),
-    (&[b"lit(l1)"], [false, true]),
-    (&[b"powered(l1)", b"lit(l1)"], [false, true]),
-];
+/// The number of a kept property.
+fn number(rt: &impl Abort, props: &PropTable, spelt: &str) -> PropId {
+    let (term, _) = read_ground(spelt.as_bytes()).expect(rt, "a term");
+    props.lookup(&term).expect(rt, "a kept property")
+}
 
 /// The numbers of some kept properties.
-fn numbers(
-    rt: &impl Abort,
-    alloc: Global,
-    props: &PropTable,
-    spelt: &[&'static [u8]],
-) -> Result<Vec<PropId>, NoMemory> {
+fn numbers(rt: &impl Abort, alloc: Global, props: &PropTable, spelt: &str) -> Vec<PropId> {
     let mut listed = Vec::new(alloc);
-    for term in spelt {
-        let (term, _) = read_ground(*term).expect(rt, "a term");
-        listed.push(props.lookup(&term).expect(rt, "a kept property"))?;
+    for spelt in spelt.split_whitespace() {
+        listed.push(number(rt, props, spelt)).expect(rt, "memory");
     }
-    Ok(listed)
+    listed
 }
 
 /// Whether entries are active where it is wanted.
 fn are_active<L: Ledger>(
     found: &[Entry],
     current: &Listed<'_>,
-    wanted: &[bool],
+    wanted: &str,
     steps: &mut Steps<L>,
 ) -> bool {
-    for (entry, is_active) in found.iter().zip(wanted) {
-        if evaluate(entry, Tick(10), &*current, &mut *steps) != *is_active {
+    for (entry, is_active) in found.iter().zip(wanted.split(' ')) {
+        if evaluate(entry, Tick(10), &*current, &mut *steps) != (is_active == "yes") {
             return false;
         }
     }
-    found.len() == wanted.len()
+    found.len() == count_of(wanted, " ")
+}
+
+/// Whether entries are active where it is wanted in a case.
+fn stand_in<L: Ledger>(
+    rt: &impl Abort,
+    alloc: Global,
+    props: &PropTable,
+    found: &[Entry],
+    case: (&str, &str),
+    steps: &mut Steps<L>,
+) -> bool {
+    let listed = numbers(rt, alloc, props, case.0);
+    are_active(found, &Listed { props: &listed }, case.1, steps)
 }
 
 /// Whether entries are active where it is wanted, in each case.
@@ -263,17 +270,16 @@ fn stand_in_each<L: Ledger>(
     alloc: Global,
     props: &PropTable,
     found: &[Entry],
-    cases: &[Case],
     steps: &mut Steps<L>,
-) -> Result<bool, NoMemory> {
-    for (spelt, wanted) in cases {
-        let listed = numbers(rt, alloc, props, *spelt)?;
-        let current = Listed { props: &listed };
-        if !are_active(found, &current, wanted, steps) {
-            return Ok(false);
+) -> bool {
+    for row in CASES.lines() {
+        if let Some(case) = row_of(row) {
+            if !stand_in(rt, alloc, props, found, case, &mut *steps) {
+                return false;
+            }
         }
     }
-    Ok(true)
+    true
 }
 
 /// Whether the entries of a push are active where it is wanted.
@@ -282,34 +288,26 @@ fn pushes_stand<L: Ledger>(
     alloc: Global,
     rules: &Rules,
     props: &mut PropTable,
-    cases: &[Case],
     steps: &mut Steps<L>,
-) -> Result<bool, NoMemory> {
-    let push = event(rt, alloc, b"push(bob,l1)")?;
-    let found = entries(rt, alloc, rules, &push, props)?;
-    stand_in_each(rt, alloc, props, found.as_slice(), cases, steps)
+) -> bool {
+    let push = event(rt, alloc, b"push(bob,l1)");
+    let found = entries(rt, alloc, rules, &push, &mut *props);
+    stand_in_each(rt, alloc, props, found.as_slice(), steps)
 }
 
 /// The same in a table of no properties, with steps that are counted on the ledger of the blank.
-fn cases_stand<L: Ledger>(
-    rt: &impl Abort,
-    alloc: Global,
-    rules: &Rules,
-    cases: &[Case],
-    blank: Blank,
-) -> Result<bool, NoMemory>
+fn cases_stand<L: Ledger>(rt: &impl Abort, alloc: Global, rules: &Rules, blank: Blank) -> bool
     requires name { blank.name ≡ L.name }
     requires parts { blank.parts ≡ L.parts }
     requires some { 0 < L.parts }
 {
     let mut steps = Steps::<L>::new(blank);
-    let mut props = PropTable::new(alloc)?;
-    pushes_stand(rt, alloc, rules, &mut props, cases, &mut steps)
+    let mut props = PropTable::new(alloc).expect(rt, "memory");
+    pushes_stand(rt, alloc, rules, &mut props, &mut steps)
 }
 
 #[test]
-fn entries_are_active_where_their_literals_agree(rt: HostRuntime) -> Result<(), Fail> {
-    let rules = Rules::new(rt.alloc(), accept(rt.alloc(), RULES)?)?;
-    assert!(rt; cases_stand::<Brand>(&rt, rt.alloc(), &rules, &CASES, Blank::new(1))?);
-    Ok(())
+fn entries_are_active_where_their_literals_agree(rt: HostRuntime) {
+    let rules = rules_of(&rt, rt.alloc(), RULES);
+    assert!(rt; cases_stand::<Brand>(&rt, rt.alloc(), &rules, Blank::new(1)));
 }
