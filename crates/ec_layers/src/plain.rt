@@ -1,15 +1,17 @@
 //! The plain program on the worked examples of one lamp and one person, written without arguments.
+ghost use Rattle.std.specs.Prelude.{IsTrue, map};
+ghost use Rattle.ec_axioms.specs.Changes.{is_history};
+ghost use Rattle.ec_axioms.specs.Events.{event_of};
 ghost use Rattle.ec_terms.specs.Matchable.{IsMatchable};
 
 use crate::tables::row_of;
 use ec_axioms::{Event, EventList, holds_plain, is_in_order};
-use ec_moment::Tick;
-use ec_terms::{Name, NoMemory, Sequence, Theory, read_ground};
+use ec_moment::{Moment, Tick};
+use ec_terms::{Name, Sequence, Theory, read_ground};
 use ec_theory::accept;
 use ec_tokens::MOST_BYTES;
 use std::alloc::Global;
 use std::process::Abort;
-use std::test::Fail;
 
 /// A lamp that is lit or put out by a push where it is powered, and a person who is at home or at work, and not at both.
 const LAMP: &[u8] = b"initiates push lit if powered, not lit.
@@ -80,65 +82,85 @@ fn three<'a>(rt: &impl Abort, spelt: &'a str) -> (&'a str, Tick, &'a str) {
     (first, Tick(at.parse::<i64>().expect(rt, spelt)), last)
 }
 
-/// The events that are spelt as `p 5 plug, q 10 push`.
-fn events_of(rt: &impl Abort, alloc: Global, spelt: &str) -> Result<EventList<Tick>, NoMemory> {
-    let mut events: EventList<Tick> = Sequence::new(alloc);
-    for told in spelt.split(", ") {
-        let (id, at, term) = three(rt, told);
-        let (term, _) = read_ground(term.as_bytes()).expect(rt, told);
-        events.push(Event {
-            id: Name::from_bytes(id.as_bytes()).expect(rt, told),
-            at,
-            term: term.to_ground(alloc)?,
-        })?;
+/// The event that is spelt as `p 5 plug`.
+fn read_event(rt: &impl Abort, alloc: Global, spelt: &str) -> Event<Tick> {
+    let (id, at, term) = three(rt, spelt);
+    let (term, _) = read_ground(term.as_bytes()).expect(rt, spelt);
+    Event {
+        id: Name::from_bytes(id.as_bytes()).expect(rt, spelt),
+        at,
+        term: term.to_ground(alloc).expect(rt, "memory"),
     }
-    Ok(events)
+}
+
+/// The events that are spelt as `p 5 plug, q 10 push`.
+fn events_of(rt: &impl Abort, alloc: Global, spelt: &str) -> EventList<Tick> {
+    let mut events: EventList<Tick> = Sequence::new(alloc);
+    for spelt in spelt.split(", ") {
+        let event = read_event(rt, alloc, spelt);
+        events.push(event).expect(rt, "memory");
+    }
+    events
+}
+
+/// Whether a property holds at a time as it is told.
+fn holds_as_told(rt: &impl Abort, events: &[Event<Tick>], theory: &Theory, told: &str) -> bool
+    requires ordered { IsTrue (is_history (map (event_of ⟦<Tick as Moment>⟧.rank) events.now)) }
+    requires matchable { IsMatchable theory.now }
+{
+    let (prop, at, expected) = three(rt, told);
+    let (prop, _) = read_ground(prop.as_bytes()).expect(rt, told);
+    holds_plain(events, theory, &prop, at) == (expected == "yes")
 }
 
 /// Sees that all holds of some events that a row says of them.
-fn check_row(
-    rt: &impl Abort,
-    alloc: Global,
-    theory: &Theory,
-    told: &str,
-    asked: &str,
-) -> Result<(), NoMemory>
+fn check_events(rt: &impl Abort, events: &[Event<Tick>], theory: &Theory, row: (&str, &str))
     requires { IsMatchable theory.now }
 {
-    let events = events_of(rt, alloc, told)?;
-    assert!(rt; is_in_order(events.as_slice()));
+    let (told, asked) = row;
+    assert!(rt; is_in_order(events));
     for one in asked.split(", ") {
-        let (prop, at, expected) = three(rt, one);
-        let (prop, _) = read_ground(prop.as_bytes()).expect(rt, one);
-        let holds = holds_plain(events.as_slice(), theory, &prop, at);
-        assert!(rt; holds == (expected == "yes"), "{told}: {one}");
+        assert!(rt; holds_as_told(rt, events, theory, one), "{told}: {one}");
     }
-    Ok(())
 }
 
-/// Sees that each row of a table holds under the theory of a text.
-fn check_rows(rt: &impl Abort, alloc: Global, text: &[u8], table: &str) -> Result<(), Fail> {
-    assert!(rt; text.len() <= MOST_BYTES);
-    let checked = accept(alloc, text)?;
+/// The same of the events that a row spells.
+fn check_row(rt: &impl Abort, alloc: Global, theory: &Theory, row: (&str, &str))
+    requires { IsMatchable theory.now }
+{
+    let events = events_of(rt, alloc, row.0);
+    check_events(rt, events.as_slice(), theory, row);
+}
+
+/// Sees that each row of a table holds under a theory.
+fn check_table(rt: &impl Abort, alloc: Global, theory: &Theory, table: &str)
+    requires { IsMatchable theory.now }
+{
     for line in table.lines() {
-        if let Some((told, asked)) = row_of(line) {
-            check_row(rt, alloc, checked.theory(), told, asked)?;
+        if let Some(row) = row_of(line) {
+            check_row(rt, alloc, theory, row);
         }
     }
-    Ok(())
+}
+
+/// The same under the theory of a text.
+fn check_rows(rt: &impl Abort, alloc: Global, text: &[u8], table: &str) {
+    assert!(rt; text.len() <= MOST_BYTES);
+    let checked = accept(alloc, text).expect(rt, "a theory");
+    check_table(rt, alloc, checked.theory(), table);
+}
+
+/// Adds clauses to a text, and sees that each row of a table holds under its theory then.
+fn check_with(rt: &impl Abort, alloc: Global, text: &mut Vec<u8>, clauses: &[u8], table: &str) {
+    text.extend_from_slice(clauses).expect(rt, "memory");
+    check_rows(rt, alloc, text, table);
 }
 
 #[test]
-fn worked_rows_hold(rt: HostRuntime) -> Result<(), Fail> {
+fn worked_rows_hold(rt: HostRuntime) {
     let mut text = Vec::new(rt.alloc());
-    for (clauses, table) in [
-        (LAMP, ROWS),
-        (RING, RING_ROWS),
-        (STRONG, STRONG_ROWS),
-        (INITIAL, INITIAL_ROWS),
-    ] {
-        text.extend_from_slice(clauses)?;
-        check_rows(&rt, rt.alloc(), &text, table)?;
-    }
-    Ok(())
+    check_with(&rt, rt.alloc(), &mut text, LAMP, ROWS);
+    check_with(&rt, rt.alloc(), &mut text, RING, RING_ROWS);
+    check_with(&rt, rt.alloc(), &mut text, STRONG, STRONG_ROWS);
+    check_with(&rt, rt.alloc(), &mut text, INITIAL, INITIAL_ROWS);
 }
