@@ -9,6 +9,7 @@ use ec_moment::{Moment, Tick};
 use ec_rows::{End, Span, SpanRow, VecSpans};
 use ec_terms::NoMemory;
 use std::alloc::Global;
+use std::process::Abort;
 
 /// The spans of a row.
 fn spans_of<S: SpanRow<Tick>>(alloc: Global, row: &S) -> Result<Vec<Span<Tick>>, NoMemory>
@@ -90,23 +91,24 @@ fn is_row(spans: &[Span<Tick>]) -> bool
 /// Puts spans in place of those of a row from one place up to another, if what comes of it is a row of spans, and tells
 /// whether it is.
 fn splice_row<S: SpanRow<Tick>>(
+    rt: &impl Abort,
     alloc: Global,
     row: &mut S,
     from: usize,
     to: usize,
     with: &[Span<Tick>],
-) -> Result<bool, NoMemory> {
-    let spans = spans_of(alloc, row)?;
+) -> bool {
+    let spans = spans_of(alloc, row).expect(rt, "memory");
     if to < from || spans.len() < to {
-        return Ok(false);
+        return false;
     }
-    let wanted = spliced(alloc, &spans, from, to, with)?;
+    let wanted = spliced(alloc, &spans, from, to, with).expect(rt, "memory");
     if !is_row(&wanted) {
-        return Ok(false);
+        return false;
     }
-    row.reserve(with.len())?;
+    row.reserve(with.len()).expect(rt, "memory");
     row.splice(from, to, with);
-    Ok(true)
+    true
 }
 
 /// A span of five ticks.
@@ -119,20 +121,19 @@ fn short(from: i64) -> Span<Tick> {
 
 /// Puts up to three spans in place of those that begin within fifty ticks, in both rows, and tells whether both could be spliced.
 fn splice_both<A: SpanRow<Tick>, B: SpanRow<Tick>>(
+    rt: &impl Abort,
     alloc: Global,
     draws: &mut Draws,
     a: &mut A,
     b: &mut B,
-) -> Result<bool, NoMemory> {
+) -> bool {
     let at = draws.draw(200) as i64 * 50;
     let spans = [short(at), short(at + 5), short(at + 20)];
     let count = draws.draw(4) as usize;
     let from = a.count_before(Tick(at));
     let to = a.count_before(Tick(at + 50));
-    Ok(
-        splice_row(alloc, a, from, to, &spans[..count])?
-            && splice_row(alloc, b, from, to, &spans[..count])?,
-    )
+    splice_row(rt, alloc, a, from, to, &spans[..count])
+        && splice_row(rt, alloc, b, from, to, &spans[..count])
 }
 
 /// Whether the spans of two rows are the same.
@@ -149,20 +150,19 @@ fn are_same<A: SpanRow<Tick>, B: SpanRow<Tick>>(a: &A, b: &B) -> bool {
 }
 
 /// Whether two rows are the same after each of 500 calls.
-fn go_the_same_way<A: SpanRow<Tick>, B: SpanRow<Tick>>(alloc: Global) -> Result<bool, NoMemory> {
+fn go_the_same_way<A: SpanRow<Tick>, B: SpanRow<Tick>>(rt: &impl Abort, alloc: Global) -> bool {
     let mut draws = Draws::new();
-    let mut a = A::new(alloc)?;
-    let mut b = B::new(alloc)?;
+    let mut a = A::new(alloc).expect(rt, "memory");
+    let mut b = B::new(alloc).expect(rt, "memory");
     for _ in 0..500 {
-        if !splice_both(alloc, &mut draws, &mut a, &mut b)? || !are_same(&a, &b) {
-            return Ok(false);
+        if !splice_both(rt, alloc, &mut draws, &mut a, &mut b) || !are_same(&a, &b) {
+            return false;
         }
     }
-    Ok(128 < a.len()) // more than one block
+    128 < a.len() // more than one block
 }
 
 #[test]
-fn spans_in_blocks_go_as_spans_in_one_vec(rt: HostRuntime) -> Result<(), NoMemory> {
-    assert!(rt; go_the_same_way::<VecSpans<Tick>, BlockSpans<Tick>>(rt.alloc())?);
-    Ok(())
+fn spans_in_blocks_go_as_spans_in_one_vec(rt: HostRuntime) {
+    assert!(rt; go_the_same_way::<VecSpans<Tick>, BlockSpans<Tick>>(&rt, rt.alloc()));
 }

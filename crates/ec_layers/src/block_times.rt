@@ -6,8 +6,9 @@ use crate::blocks::Draws;
 use ec_blocks::BlockTimes;
 use ec_moment::{Moment, Tick};
 use ec_rows::{TimeRow, VecTimes};
-use ec_terms::{Name, NoMemory, Slot};
+use ec_terms::{Name, Slot};
 use std::alloc::Global;
+use std::process::Abort;
 
 /// Whether an entry is that of a time and an identity.
 fn is_entry(entry: &(Tick, Name, Slot), at: Tick, id: &Name) -> bool
@@ -29,24 +30,35 @@ fn has_entry<X: TimeRow<Tick>>(row: &X, at: Tick, id: &Name) -> bool
 }
 
 /// Takes the entry of a time and an identity out of a row, or puts it in, if it is not there.
-fn turn<X: TimeRow<Tick>>(row: &mut X, at: Tick, id: &Name, slot: Slot) -> Result<Slot, NoMemory> {
+fn turn<X: TimeRow<Tick>>(rt: &impl Abort, row: &mut X, at: Tick, id: &Name, slot: Slot) -> Slot {
     if has_entry(row, at, id) {
-        return Ok(row.take_out(at, id));
+        return row.take_out(at, id);
     }
-    row.reserve(1)?;
+    row.reserve(1).expect(rt, "memory");
     row.put(at, id.copied(), slot);
-    Ok(slot)
+    slot
+}
+
+/// A name of two letters that is drawn.
+fn drawn_name(rt: &impl Abort, draws: &mut Draws) -> Name {
+    let letters = [b'a' + draws.draw(26) as u8, b'a' + draws.draw(26) as u8];
+    Name::from_bytes(&letters).expect(rt, "a name")
 }
 
 /// The time and the identity of the entry at a place in a row, or others, if it has no such place.
-fn pick<X: TimeRow<Tick>>(draws: &mut Draws, row: &X) -> (Tick, Option<Name>) {
+fn pick<X: TimeRow<Tick>>(rt: &impl Abort, draws: &mut Draws, row: &X) -> (Tick, Name) {
     let place = draws.draw(500) as usize;
     if place < row.len() {
         let (at, id, _) = row.get(place);
-        return (at, Some(id));
+        return (at, id);
     }
-    let letters = [b'a' + draws.draw(26) as u8, b'a' + draws.draw(26) as u8];
-    (Tick(draws.draw(50) as i64), Name::from_bytes(&letters))
+    let id = drawn_name(rt, &mut *draws);
+    (Tick(draws.draw(50) as i64), id)
+}
+
+/// Whether two entries are the same.
+fn is_same(a: &(Tick, Name, Slot), b: &(Tick, Name, Slot)) -> bool {
+    a.0 == b.0 && a.1 == b.1 && a.2 == b.2
 }
 
 /// Whether the entries of two rows are the same.
@@ -55,34 +67,40 @@ fn are_same<A: TimeRow<Tick>, B: TimeRow<Tick>>(a: &A, b: &B) -> bool {
         return false;
     }
     for i in 0..a.len() {
-        let (at, id, slot) = a.get(i);
-        let (other_at, other_id, other_slot) = b.get(i);
-        if at != other_at || id != other_id || slot != other_slot {
+        if !is_same(&a.get(i), &b.get(i)) {
             return false;
         }
     }
     true
 }
 
+/// Turns an entry in both rows, and tells whether they go the same way.
+fn turn_both<A: TimeRow<Tick>, B: TimeRow<Tick>>(
+    rt: &impl Abort,
+    a: &mut A,
+    b: &mut B,
+    entry: (Tick, Name),
+    slot: Slot,
+) -> bool {
+    let (at, id) = entry;
+    turn(rt, &mut *a, at, &id, slot) == turn(rt, &mut *b, at, &id, slot) && are_same(a, b)
+}
+
 /// Whether two rows are the same after each of 500 calls.
-fn go_the_same_way<A: TimeRow<Tick>, B: TimeRow<Tick>>(alloc: Global) -> Result<bool, NoMemory> {
+fn go_the_same_way<A: TimeRow<Tick>, B: TimeRow<Tick>>(rt: &impl Abort, alloc: Global) -> bool {
     let mut draws = Draws::new();
-    let mut a = A::new(alloc)?;
-    let mut b = B::new(alloc)?;
+    let mut a = A::new(alloc).expect(rt, "memory");
+    let mut b = B::new(alloc).expect(rt, "memory");
     for number in 0..500 {
-        let (at, Some(id)) = pick(&mut draws, &a) else {
-            return Ok(false);
-        };
-        let slot = turn(&mut a, at, &id, Slot(number))?;
-        if turn(&mut b, at, &id, Slot(number))? != slot || !are_same(&a, &b) {
-            return Ok(false);
+        let entry = pick(rt, &mut draws, &a);
+        if !turn_both(rt, &mut a, &mut b, entry, Slot(number)) {
+            return false;
         }
     }
-    Ok(128 < a.len()) // more than one block
+    128 < a.len() // more than one block
 }
 
 #[test]
-fn times_in_blocks_go_as_times_in_one_vec(rt: HostRuntime) -> Result<(), NoMemory> {
-    assert!(rt; go_the_same_way::<VecTimes<Tick>, BlockTimes<Tick>>(rt.alloc())?);
-    Ok(())
+fn times_in_blocks_go_as_times_in_one_vec(rt: HostRuntime) {
+    assert!(rt; go_the_same_way::<VecTimes<Tick>, BlockTimes<Tick>>(&rt, rt.alloc()));
 }

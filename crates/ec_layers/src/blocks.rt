@@ -4,8 +4,9 @@ ghost use Rattle.std.specs.Prelude.{◌<◌};
 use ec_blocks::{BlockMarks, Blocks};
 use ec_moment::Tick;
 use ec_rows::{Mark, MarkRow, VecMarks};
-use ec_terms::{NoMemory, PropId};
+use ec_terms::PropId;
 use std::alloc::Global;
+use std::process::Abort;
 
 /// Numbers that look random: the high bits of a congruential generator of 64 bits.
 #[derive(Drop)]
@@ -45,80 +46,98 @@ fn are_same<A: MarkRow<Tick>, B: MarkRow<Tick>>(a: &A, b: &B) -> bool {
     true
 }
 
+/// Puts a mark with one start in a row.
+fn put<M: MarkRow<Tick>>(rt: &impl Abort, row: &mut M, at: Tick, terms: u32) {
+    row.reserve(1).expect(rt, "memory");
+    row.put(Mark {
+        at,
+        inits: 1,
+        terms,
+        clashes: 0,
+    });
+}
+
+/// Takes the mark at a place out of a row, if it has the place.
+fn take<M: MarkRow<Tick>>(row: &mut M, place: usize) {
+    if place < row.len() {
+        let _ = row.take_out(place);
+    }
+}
+
 /// Puts a mark in both rows, or takes the one at a place out of both.
 fn change<A: MarkRow<Tick>, B: MarkRow<Tick>>(
+    rt: &impl Abort,
     draws: &mut Draws,
     a: &mut A,
     b: &mut B,
-) -> Result<(), NoMemory> {
+) {
     let count = a.len();
     if count == 0 || draws.draw(10) < 7 {
-        let mark = Mark {
-            at: Tick(draws.draw(1000) as i64),
-            inits: 1,
-            terms: draws.draw(3) as u32,
-            clashes: 0,
-        };
-        a.reserve(1)?;
-        b.reserve(1)?;
-        a.put(mark);
-        b.put(mark);
-        return Ok(());
+        let at = Tick(draws.draw(1000) as i64);
+        let terms = draws.draw(3) as u32;
+        put(rt, a, at, terms);
+        put(rt, b, at, terms);
+        return;
     }
     let place = draws.draw(count as u64) as usize;
-    let _ = a.take_out(place);
-    if place < b.len() {
-        let _ = b.take_out(place);
-    }
-    Ok(())
+    take(a, place);
+    take(b, place);
 }
 
 /// Whether two rows are the same after each of 500 changes.
-fn go_the_same_way<A: MarkRow<Tick>, B: MarkRow<Tick>>(alloc: Global) -> Result<bool, NoMemory> {
+fn go_the_same_way<A: MarkRow<Tick>, B: MarkRow<Tick>>(rt: &impl Abort, alloc: Global) -> bool {
     let mut draws = Draws::new();
-    let mut a = A::new(alloc)?;
-    let mut b = B::new(alloc)?;
+    let mut a = A::new(alloc).expect(rt, "memory");
+    let mut b = B::new(alloc).expect(rt, "memory");
     for _ in 0..500 {
-        change(&mut draws, &mut a, &mut b)?;
+        change(rt, &mut draws, &mut a, &mut b);
         if !are_same(&a, &b) {
-            return Ok(false);
+            return false;
         }
     }
-    Ok(128 < a.len()) // more than one block
+    128 < a.len() // more than one block
 }
 
 /// How many members fill several groups of blocks.
 const MANY: usize = 5000;
 
-/// The places where members stand that were put in front of all others, one by one.
-fn filled_from_behind(alloc: Global) -> Result<Blocks<PropId>, NoMemory> {
-    let mut list = Blocks::new(alloc);
+/// Puts members in front of all others, one by one, so that each stands at its own place.
+fn fill_from_behind(rt: &impl Abort, list: &mut Blocks<PropId>) {
     for i in 0..MANY {
-        list.reserve(1)?;
+        list.reserve(1).expect(rt, "memory");
         list.insert(0, PropId(MANY - 1 - i));
     }
-    Ok(list)
 }
 
 #[test]
-fn rows_in_blocks_go_as_rows_in_one_vec(rt: HostRuntime) -> Result<(), NoMemory> {
-    assert!(rt; go_the_same_way::<VecMarks<Tick>, BlockMarks<Tick>>(rt.alloc())?);
-    Ok(())
+fn rows_in_blocks_go_as_rows_in_one_vec(rt: HostRuntime) {
+    assert!(rt; go_the_same_way::<VecMarks<Tick>, BlockMarks<Tick>>(&rt, rt.alloc()));
+}
+
+/// Whether each second member is taken out in order.
+fn takes_each_second(list: &mut Blocks<PropId>) -> bool {
+    for i in 0..MANY / 2 {
+        if list.len() <= i || list.remove(i) != PropId(2 * i) {
+            return false;
+        }
+    }
+    list.len() == MANY / 2 + 1
+}
+
+/// Whether the others stand in order.
+fn has_others(list: &Blocks<PropId>) -> bool {
+    for i in 0..MANY / 2 {
+        if list.len() <= i || *list.get(i) != PropId(2 * i + 1) {
+            return false;
+        }
+    }
+    list.partition_point(|p| p.0 < 2000) == 1000
 }
 
 #[test]
-fn a_list_in_blocks_keeps_its_order(rt: HostRuntime) -> Result<(), NoMemory> {
-    let mut list = filled_from_behind(rt.alloc())?;
-    list.push(PropId(MANY))?;
-    for i in 0..MANY / 2 {
-        assert!(rt; i < list.len());
-        assert!(rt; list.remove(i) == PropId(2 * i)); // each second one
-    }
-    assert!(rt; list.len() == MANY / 2 + 1);
-    for i in 0..MANY / 2 {
-        assert!(rt; i < list.len());
-        assert!(rt; *list.get(i) == PropId(2 * i + 1));
-    }
-    assert!(rt; list.partition_point(|p| p.0 < 2000) == 1000);
-    Ok(())
+fn a_list_in_blocks_keeps_its_order(rt: HostRuntime) {
+    let mut list = Blocks::new(rt.alloc());
+    fill_from_behind(&rt, &mut list);
+    list.push(PropId(MANY)).expect(&rt, "memory");
+    assert!(rt; takes_each_second(&mut list) && has_others(&list));
 }
