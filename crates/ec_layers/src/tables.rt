@@ -22,45 +22,24 @@ fn add(bytes: &mut Vec<u8>, text: &str) -> Result<(), NoMemory> {
     Ok(())
 }
 
-/// Adds a text so many times.
-fn add_times(bytes: &mut Vec<u8>, count: u32, text: &str) -> Result<(), NoMemory> {
-    for _ in 0..count {
-        add(&mut *bytes, text)?;
-    }
-    Ok(())
-}
-
-/// The count and the text of `12 text`. A text without a count stands once.
-fn counted(piece: &str) -> Option<(u32, &str)> {
-    let (count, text) = piece.split_once(' ').unwrap_or(("1", piece));
-    match count.parse::<u32>() {
-        Ok(count) => Some((count, text)),
-        Err(_) => None,
-    }
-}
-
-/// Adds a piece of a text, of which each second one stood in braces.
-fn add_piece(bytes: &mut Vec<u8>, place: usize, piece: &str) -> Result<(), NoMemory> {
-    if place % 2 == 0 {
-        return add(bytes, piece);
-    }
-    match counted(piece) {
-        Some((count, text)) => add_times(bytes, count, text),
-        None => add(bytes, piece),
-    }
-}
-
-/// Adds what a text of a table stands for.
-fn add_pieces(bytes: &mut Vec<u8>, text: &str) -> Result<(), NoMemory> {
-    for (place, piece) in text.split(['{', '}']).enumerate() {
-        add_piece(&mut *bytes, place, piece)?;
-    }
-    Ok(())
-}
-
 /// The bytes that a text of a table stands for: `|` is a line end, and `{12 text}` is the text twelve times.
 pub fn bytes_of(alloc: Global, text: &str) -> Result<Vec<u8>, NoMemory> {
     let mut bytes = Vec::new(alloc);
-    add_pieces(&mut bytes, text)?;
+    for (place, piece) in text.split(['{', '}']).enumerate() {
+        let (count, repeated) = piece.split_once(' ').unwrap_or(("1", piece));
+        let count = if place % 2 == 0 {
+            None
+        } else {
+            count.parse::<u32>().ok()
+        };
+        match count {
+            Some(count) => {
+                for _ in 0..count {
+                    add(&mut bytes, repeated)?;
+                }
+            }
+            None => add(&mut bytes, piece)?,
+        }
+    }
     Ok(bytes)
 }
