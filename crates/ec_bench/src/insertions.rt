@@ -1,5 +1,5 @@
 //! Lists in blocks, filled one member at a time.
-ghost use Rattle.std.specs.Prelude.{◌≡◌, ◌+◌, ◌-◌, ◌^◌, ◌<◌, ◌≤◌, IfOk, length};
+ghost use Rattle.std.specs.Prelude.{◌≡◌, ◌+◌, ◌-◌, ◌^◌, ◌<◌, ◌≤◌, OnOk, length};
 
 use crate::draws::Draws;
 use ec_blocks::Blocks;
@@ -38,24 +38,45 @@ impl Place {
     }
 }
 
-/// A list of `count` members, each put in by itself, with room made for it alone.
-pub(crate) fn filled(alloc: Global, count: usize, place: Place) -> Result<Blocks<PropId>, NoMemory>
-    ensures { IfOk result (λ list. length list.items ≡ count) }
+/// Puts the member with the next number in a list, with room made for it alone.
+fn put_in(
+    list: &mut Blocks<PropId>,
+    number: usize,
+    place: Place,
+    draws: &mut Draws,
+) -> Result<(), NoMemory>
+    requires next { length list.old.items ≡ number }
+    requires small { number < 2 ^ 64 - 1 }
+    ensures { OnOk result (length list.new.items ≡ number + 1) }
 {
-    let mut list = Blocks::new(alloc);
+    list.reserve(1)?;
+    list.insert(place.within(number, draws), PropId(number));
+    Ok(())
+}
+
+/// Puts `count` members in a list that is empty, each by itself.
+fn put_all(list: &mut Blocks<PropId>, count: usize, place: Place) -> Result<(), NoMemory>
+    requires { length list.old.items ≡ 0 }
+{
     let mut draws = Draws::new();
     for number in 0..count {
-        list.reserve(1)?;
-        list.insert(place.within(number, &mut draws), PropId(number));
+        put_in(list, number, place, &mut draws)?;
     }
-    Ok(list)
+    Ok(())
 }
 
 /// A number that changes with the members of a list and with their order.
-pub(crate) fn checksum(list: &Blocks<PropId>) -> usize {
+fn checksum(list: &Blocks<PropId>) -> usize {
     let mut sum: usize = 0;
     for i in 0..list.len() {
         sum = sum.wrapping_mul(31).wrapping_add(list.get(i).0);
     }
     sum
+}
+
+/// Fills a list with `count` members, and gives its length and its checksum.
+pub(crate) fn fill(alloc: Global, count: usize, place: Place) -> Result<(usize, usize), NoMemory> {
+    let mut list = Blocks::new(alloc);
+    put_all(&mut list, count, place)?;
+    Ok((list.len(), checksum(&list)))
 }

@@ -13,7 +13,7 @@ mod neighbours;
 mod sizes;
 
 use anyhow::{Context, Result, bail};
-use insertions::{Place, checksum, filled};
+use insertions::{Place, fill};
 use neighbours::count_neighbours;
 use sizes::print_sizes;
 use std::alloc::Global;
@@ -24,17 +24,18 @@ use std::string::String;
 const USAGE: &str =
     "usage: ec_bench insertions N front|middle|random.. | ec_bench neighbours N | ec_bench sizes";
 
-/// Fills a list at each of the places that are named, and prints its length and its checksum.
-fn print_insertions(rt: &impl Print, alloc: Global, count: usize, places: &[String]) -> Result<()> {
-    for word in places {
-        let place = Place::from_name(word.as_str()).context(USAGE)?;
-        let list = filled(alloc, count, place)?;
-        println!(rt;
-            "{} length {} checksum {}",
-            word,
-            list.len(),
-            checksum(&list)
-        )?;
+/// Fills a list at the place that is named, and prints its length and its checksum.
+fn print_insertion(rt: &impl Print, alloc: Global, count: usize, name: &str) -> Result<()> {
+    let place = Place::from_name(name).context(USAGE)?;
+    let (length, checksum) = fill(alloc, count, place)?;
+    println!(rt; "{name} length {length} checksum {checksum}")?;
+    Ok(())
+}
+
+/// The same at each of the places that are named.
+fn print_insertions(rt: &impl Print, alloc: Global, count: usize, names: &[String]) -> Result<()> {
+    for name in names {
+        print_insertion(rt, alloc, count, name.as_str())?;
     }
     Ok(())
 }

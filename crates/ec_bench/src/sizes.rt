@@ -7,11 +7,16 @@ use ec_rows::{Mark, Span};
 use std::io;
 use std::mem::size_of;
 
+/// Prints the size of a thing in bytes.
+fn print_size(rt: &impl Print, thing: &str, size: usize) -> io::Result<()> {
+    println!(rt; "{thing} {size}")
+}
+
 /// Prints the size of each thing in bytes, without what it keeps elsewhere: an entry has two literals in place.
 pub(crate) fn print_sizes(rt: &impl Print) -> io::Result<()> {
-    println!(rt; "event {}", size_of::<Event<Tick>>())?;
-    println!(rt; "entry {}", size_of::<Entry>())?;
-    println!(rt; "mark {}", size_of::<Mark<Tick>>())?;
-    println!(rt; "span {}", size_of::<Span<Tick>>())?;
-    println!(rt; "dependent {}", size_of::<Dependent<Tick>>())
+    print_size(rt, "event", size_of::<Event<Tick>>())?;
+    print_size(rt, "entry", size_of::<Entry>())?;
+    print_size(rt, "mark", size_of::<Mark<Tick>>())?;
+    print_size(rt, "span", size_of::<Span<Tick>>())?;
+    print_size(rt, "dependent", size_of::<Dependent<Tick>>())
 }

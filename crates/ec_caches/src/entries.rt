@@ -1,18 +1,17 @@
 //! What no clause shows: that memory is given, and worked dependents.
-ghost use Rattle.std.specs.Prelude.{◌≡◌, ◌<◌, ◌≤◌, IfOk, length};
-ghost use Rattle.ec_context.specs.Entries.{IsEntryList};
+ghost use Rattle.std.specs.Prelude.{◌≡◌, ◌<◌, length};
 
+use crate::fixtures::boxed;
 use ec_axioms::Steps;
 use ec_context::{Entry, EntryList, EntryLiteral, EntryLiterals, MOST_LITERALS};
 use ec_entries::{Entries, EntryLists};
 use ec_layers::tables::row_of;
 use ec_moment::Tick;
-use ec_terms::{Kind, NoMemory, PropId, Slot};
+use ec_terms::{Kind, PropId, Slot};
 use std::alloc::Global;
 use std::marker::Brand;
 use std::process::Abort;
 use std::sync::ledger::{Blank, Ledger};
-use std::test::Fail;
 
 /// Events, two of them at one time: the slot and the time; the literals of the two entries, by the numbers of their
 /// properties, with a minus for a negative one; and the active bits. One entry has property 1 in two literals.
@@ -60,17 +59,14 @@ const NTH_THEN: &str = "
 1 10: 1 => none
 ";
 
-/// The literals that are spelt as `1 -2`, by their signs and the numbers of their properties.
-fn signed_of(rt: &impl Abort, alloc: Global, spelt: &str) -> Result<Vec<(bool, usize)>, NoMemory> {
-    let mut signed = Vec::new(alloc);
-    for literal in spelt.split_whitespace() {
-        let (positive, p) = match literal.strip_prefix('-') {
-            Some(p) => (false, p),
-            None => (true, literal),
-        };
-        signed.push((positive, p.parse::<usize>().expect(rt, literal)))?;
-    }
-    Ok(signed)
+/// The literal that is spelt as `-2`, by its sign and the number of its property.
+fn literal_of(rt: &impl Abort, spelt: &str) -> EntryLiteral {
+    let (positive, p) = match spelt.strip_prefix('-') {
+        Some(p) => (false, p),
+        None => (true, spelt),
+    };
+    let prop = PropId(p.parse::<usize>().expect(rt, spelt));
+    EntryLiteral { positive, prop }
 }
 
 /// The number and the time that are spelt as `1 -4`.
@@ -80,76 +76,85 @@ fn pair_of(rt: &impl Abort, spelt: &str) -> (usize, i64) {
     (number, at.parse::<i64>().expect(rt, spelt))
 }
 
-fn literals(alloc: Global, signed: &[(bool, usize)]) -> Result<EntryLiterals, NoMemory>
-    requires { length signed.now ≤ MOST_LITERALS }
-{
+/// The literals that are spelt as `1 -2`.
+fn literals(rt: &impl Abort, alloc: Global, spelt: &str) -> EntryLiterals {
     let mut literals = EntryLiterals::new(alloc);
-    for (positive, p) in signed {
-        literals.push(EntryLiteral {
-            positive: *positive,
-            prop: PropId(*p),
-        })?;
+    for spelt in spelt.split_whitespace() {
+        assert!(rt; literals.len() < MOST_LITERALS);
+        literals.push(literal_of(rt, spelt)).expect(rt, "memory");
     }
-    Ok(literals)
+    literals
 }
 
-fn entry(rt: &impl Abort, alloc: Global, rule: u16, spelt: &str) -> Result<Entry, NoMemory>
-    ensures { IfOk result (λ entry. entry.rule ≡ rule) }
+fn entry(rt: &impl Abort, alloc: Global, rule: u16, spelt: &str) -> Entry
+    ensures { result.rule ≡ rule }
 {
-    let signed = signed_of(rt, alloc, spelt)?;
-    assert!(rt; signed.len() <= MOST_LITERALS);
-    Ok(Entry {
+    Entry {
         rule,
         kind: Kind::Initiates,
         head: PropId(0),
-        literals: literals(alloc, &signed)?,
-    })
+        literals: literals(rt, alloc, spelt),
+    }
 }
 
-/// The list of two entries.
-fn two(first: Entry, second: Entry, mut list: EntryList) -> Result<EntryList, NoMemory>
-    requires empty { length list ≡ 0 }
+/// Puts two entries in a list that is empty.
+fn put_two(rt: &impl Abort, list: &mut EntryList, first: Entry, second: Entry)
+    requires empty { length list.old ≡ 0 }
     requires order { first.rule < second.rule }
 {
-    list.push(first)?;
-    list.push(second)?;
-    Ok(list)
+    list.push(first).expect(rt, "memory");
+    list.push(second).expect(rt, "memory");
 }
 
 /// The list of the two entries with these literals.
-fn list_of(
+fn list_of(rt: &impl Abort, alloc: Global, first: &str, second: &str) -> EntryList {
+    let first = entry(rt, alloc, 1, first);
+    let second = entry(rt, alloc, 2, second);
+    let mut list = EntryList::new(alloc);
+    put_two(rt, &mut list, first, second);
+    list
+}
+
+/// Keeps a list of entries in a slot that is free.
+fn insert(
     rt: &impl Abort,
-    alloc: Global,
-    first: &str,
-    second: &str,
-) -> Result<EntryList, NoMemory> {
-    let first = entry(rt, alloc, 1, first)?;
-    let second = entry(rt, alloc, 2, second)?;
-    two(first, second, EntryList::new(alloc))
+    entries: &mut Entries<Tick>,
+    slot: Slot,
+    at: i64,
+    active: u64,
+    mut lists: EntryLists,
+) {
+    assert!(rt; slot.0 < 8);
+    entries.prepare(&lists, 8).expect(rt, "memory");
+    assert!(rt; !entries.contains(slot));
+    if let Some(list) = lists.pop() {
+        entries.insert(slot, Tick(at), list, active);
+    }
+}
+
+/// The lists of one event, whose two entries have these literals.
+fn lists_of(rt: &impl Abort, alloc: Global, first: &str, second: &str) -> EntryLists {
+    let mut lists = EntryLists::new(alloc);
+    let list = list_of(rt, alloc, first, second);
+    lists.push(list).expect(rt, "memory");
+    lists
 }
 
 /// Keeps the entries of an event, which is told by a row, in a slot that is free.
-fn keep(
-    rt: &impl Abort,
-    alloc: Global,
-    entries: &mut Entries<Tick>,
-    row: &str,
-) -> Result<(), NoMemory> {
+fn keep(rt: &impl Abort, alloc: Global, entries: &mut Entries<Tick>, row: &str) {
     let (place, told) = row_of(row).expect(rt, row);
     let (number, at) = pair_of(rt, place);
     let (first, behind) = told.split_once("; ").expect(rt, row);
     let (second, active) = behind.split_once("; ").expect(rt, row);
     let active = active.parse::<u64>().expect(rt, row);
-    let slot = Slot(number);
-    assert!(rt; number < 8);
-    let mut lists = EntryLists::new(alloc);
-    lists.push(list_of(rt, alloc, first, second)?)?;
-    entries.prepare(&lists, 8)?;
-    assert!(rt; !entries.contains(slot));
-    if let Some(list) = lists.pop() {
-        entries.insert(slot, Tick(at), list, active);
-    }
-    Ok(())
+    let lists = lists_of(rt, alloc, first, second);
+    insert(rt, entries, Slot(number), at, active, lists);
+}
+
+/// Whether the next dependent of a property after a time is at this one.
+fn is_next(entries: &Entries<Tick>, p: PropId, at: Tick, next: Option<Tick>) -> bool {
+    entries.next_dependent_after(p, at, 1) == next
+        && entries.dependents_after(p, at, 0).is_empty() == next.is_none()
 }
 
 /// Sees that the next dependents are those of a table.
@@ -160,10 +165,7 @@ fn expect_next(rt: &impl Abort, entries: &Entries<Tick>, table: &str) {
         };
         let (p, at) = pair_of(rt, told);
         let next = wanted.parse::<i64>().ok().map(Tick);
-        let found = entries.next_dependent_after(PropId(p), Tick(at), 1);
-        assert!(rt; found == next, "{line}");
-        let none = entries.dependents_after(PropId(p), Tick(at), 0).is_empty();
-        assert!(rt; none == next.is_none(), "{line}");
+        assert!(rt; is_next(entries, PropId(p), Tick(at), next), "{line}");
     }
 }
 
@@ -174,48 +176,55 @@ fn entry_of(rt: &impl Abort, spelt: &str) -> Option<(Slot, u8)> {
     Some((Slot(slot), place.parse::<u8>().expect(rt, spelt)))
 }
 
+/// Whether the dependent of a property at an instant, of which one tells as `1 10: 0`, is the one that is wanted.
+fn is_nth(rt: &impl Abort, entries: &Entries<Tick>, told: &str, wanted: &str) -> bool {
+    let (place, k) = told.split_once(": ").expect(rt, told);
+    let (p, at) = pair_of(rt, place);
+    let k = k.parse::<usize>().expect(rt, told);
+    entries.dependent(PropId(p), Tick(at), k) == entry_of(rt, wanted)
+}
+
 /// Sees that the dependents at an instant are those of a table.
 fn expect_nth(rt: &impl Abort, entries: &Entries<Tick>, table: &str) {
     for line in table.lines() {
-        let Some((told, wanted)) = row_of(line) else {
-            continue;
-        };
-        let (place, k) = told.split_once(": ").expect(rt, line);
-        let (p, at) = pair_of(rt, place);
-        let k = k.parse::<usize>().expect(rt, line);
-        let found = entries.dependent(PropId(p), Tick(at), k);
-        assert!(rt; found == entry_of(rt, wanted), "{line}");
-    }
-}
-
-fn kept(rt: &impl Abort, alloc: Global) -> Result<Entries<Tick>, NoMemory> {
-    let mut entries = Entries::new(alloc);
-    for row in ROWS.lines() {
-        if !row.is_empty() {
-            keep(rt, alloc, &mut entries, row)?;
+        if let Some((told, wanted)) = row_of(line) {
+            assert!(rt; is_nth(rt, entries, told, wanted), "{line}");
         }
     }
-    Ok(entries)
+}
+
+/// The entries of the events of the table.
+fn kept(rt: &impl Abort, alloc: Global) -> Box<Entries<Tick>> {
+    let mut entries = boxed(rt, alloc, Entries::new(alloc));
+    for row in ROWS.lines() {
+        if !row.is_empty() {
+            keep(rt, alloc, &mut entries, row);
+        }
+    }
+    entries
 }
 
 #[test]
-fn dependents_are_found_by_time(rt: HostRuntime) -> Result<(), Fail> {
-    let entries = kept(&rt, rt.alloc())?;
+fn dependents_are_found_by_time(rt: HostRuntime) {
+    let entries = kept(&rt, rt.alloc());
     expect_next(&rt, &entries, NEXT);
     expect_nth(&rt, &entries, NTH);
-    Ok(())
 }
 
-#[test]
-fn a_slot_is_used_again(rt: HostRuntime) -> Result<(), Fail> {
-    let mut entries = kept(&rt, rt.alloc())?;
+/// Takes the two entries of the first slot out.
+fn take_out(rt: &impl Abort, entries: &mut Entries<Tick>) {
     assert!(rt; entries.contains(Slot(0)));
     let list = entries.remove(Slot(0));
     assert!(rt; list.len() == 2);
-    keep(&rt, rt.alloc(), &mut entries, AGAIN)?;
+}
+
+#[test]
+fn a_slot_is_used_again(rt: HostRuntime) {
+    let mut entries = kept(&rt, rt.alloc());
+    take_out(&rt, &mut entries);
+    keep(&rt, rt.alloc(), &mut entries, AGAIN);
     expect_next(&rt, &entries, NEXT_THEN);
     expect_nth(&rt, &entries, NTH_THEN);
-    Ok(())
 }
 
 /// Whether the records of two slots are read and written by themselves.
@@ -235,8 +244,7 @@ fn records_are_apart<L: Ledger>(rt: &impl Abort, entries: &mut Entries<Tick>, bl
 }
 
 #[test]
-fn active_bits_are_those_of_one_slot(rt: HostRuntime) -> Result<(), Fail> {
-    let mut entries = kept(&rt, rt.alloc())?;
+fn active_bits_are_those_of_one_slot(rt: HostRuntime) {
+    let mut entries = kept(&rt, rt.alloc());
     assert!(rt; records_are_apart::<Brand>(&rt, &mut entries, Blank::new(1)));
-    Ok(())
 }

@@ -8,6 +8,8 @@ mod entries;
 #[cfg(test)]
 mod exclusive;
 #[cfg(test)]
+mod fixtures;
+#[cfg(test)]
 mod points;
 #[cfg(test)]
 mod points_tally;

@@ -2,14 +2,17 @@
 ghost use Rattle.std.specs.Prelude.{◌≡◌, ◌++◌, ◌∷◌, [], ◌+◌, ◌≤◌, IsTrue, OnOk, OnErr, if◌then◌else◌};
 ghost use Rattle.ec_rows.specs.Marks.{IsMarkRow, is_counted, are_before, has_mark, with_mark};
 
-use crate::points::{Given, put};
+use crate::fixtures::boxed;
+use crate::points::{initiation, mark_of, put};
 use ec_blocks::BlockMarks;
+use ec_layers::tables::row_of;
 use ec_moment::{Moment, Tick};
 use ec_points::Points;
 use ec_rows::{Mark, MarkRow};
 use ec_terms::{NoMemory, PropId};
 use std::alloc::Global;
 use std::cell::Cell;
+use std::process::Abort;
 
 /// A row of marks in blocks that passes each call on, and counts the calls.
 #[derive(Drop)]
@@ -108,44 +111,61 @@ impl<T: Moment> MarkRow<T> for TallyMarks<T> {
 }
 
 /// The property that the marks are of.
-const P: usize = 3;
+const P: PropId = PropId(3);
 
-/// A property with so many marks, one every ten times.
-fn long_row(alloc: Global, length: i64) -> Result<Points<Tick, TallyMarks<Tick>>, NoMemory> {
-    let mut points = Points::new(alloc)?;
+/// Makes one mark of the property.
+fn put_one(
+    rt: &impl Abort,
+    alloc: Global,
+    points: &mut Points<Tick, TallyMarks<Tick>>,
+    mark: Mark<Tick>,
+) {
+    put(rt, alloc, points, &[(P, mark)]);
+}
+
+/// The property with so many marks, one every ten times.
+fn long_row(rt: &impl Abort, alloc: Global, length: i64) -> Box<Points<Tick, TallyMarks<Tick>>> {
+    let mut points = boxed(rt, alloc, Points::new(alloc).expect(rt, "memory"));
     for k in 0..length {
-        put(alloc, &mut points, &[(P, k.wrapping_mul(10), 1, 0, 0)])?;
+        put_one(rt, alloc, &mut points, initiation(Tick(k.wrapping_mul(10))));
     }
-    Ok(points)
+    points
 }
 
 /// How often the row of the property was called.
 fn calls_of(points: &Points<Tick, TallyMarks<Tick>>) -> u64 {
-    match points.row(PropId(P)) {
+    match points.row(P) {
         Some(row) => row.calls.get(),
         None => 0,
     }
 }
 
-/// The marks of the property, block by block.
-fn blocks_of(
-    alloc: Global,
-    points: &Points<Tick, TallyMarks<Tick>>,
-) -> Result<Vec<Vec<Mark<Tick>>>, NoMemory> {
+/// The marks of a row, block by block.
+fn blocks_in(rt: &impl Abort, alloc: Global, row: &TallyMarks<Tick>) -> Vec<Vec<Mark<Tick>>> {
     let mut blocks = Vec::new(alloc);
-    let Some(row) = points.row(PropId(P)) else {
-        return Ok(blocks);
-    };
     let mut place: usize = 0;
     for _ in 0..row.len() {
         if place >= row.len() {
-            return Ok(blocks);
+            return blocks;
         }
         let run = row.run(place);
-        blocks.push(run.to_vec(alloc)?)?;
+        let block = run.to_vec(alloc).expect(rt, "memory");
+        blocks.push(block).expect(rt, "memory");
         place = place.saturating_add(run.len());
     }
-    Ok(blocks)
+    blocks
+}
+
+/// The marks of the property, block by block.
+fn blocks_of(
+    rt: &impl Abort,
+    alloc: Global,
+    points: &Points<Tick, TallyMarks<Tick>>,
+) -> Vec<Vec<Mark<Tick>>> {
+    match points.row(P) {
+        Some(row) => blocks_in(rt, alloc, row),
+        None => Vec::new(alloc),
+    }
 }
 
 /// How many blocks two lists of blocks have in common at the front.
@@ -167,47 +187,63 @@ fn common_back(blocks: &[Vec<Mark<Tick>>], others: &[Vec<Mark<Tick>>]) -> usize 
         .count()
 }
 
-/// Makes a change of one mark. It gives the number of calls of the row, and how many of its blocks are not as before.
-fn touched(
-    alloc: Global,
-    points: &mut Points<Tick, TallyMarks<Tick>>,
-    given: Given,
-) -> Result<(u64, usize), NoMemory> {
-    let before = blocks_of(alloc, points)?;
-    let calls = calls_of(points);
-    put(alloc, points, &[given])?;
-    let calls = calls_of(points).wrapping_sub(calls);
-    let after = blocks_of(alloc, points)?;
-    let front = common_front(&before, &after);
-    let back = common_back(&before, &after);
-    Ok((
-        calls,
-        after.len().saturating_sub(front).saturating_sub(back),
-    ))
+/// How many blocks of the second list are not as in the first.
+fn count_changed(before: &[Vec<Mark<Tick>>], after: &[Vec<Mark<Tick>>]) -> usize {
+    let front = common_front(before, after);
+    let back = common_back(before, after);
+    after.len().saturating_sub(front).saturating_sub(back)
 }
 
-/// Changes of one mark, each with its time in the row of few marks and in that of many, and how often it initiates and
-/// terminates: a new mark in front, in the middle and behind, another one, and none.
-const CHANGES: [(i64, i64, u32, u32); 5] = [
-    (-5, -5, 1, 0),
-    (5005, 500005, 1, 0),
-    (10005, 1000005, 0, 1),
-    (5000, 500000, 0, 1),
-    (5000, 500000, 0, 0),
-];
+/// Makes a change of one mark. It gives the number of calls of the row, and how many of its blocks are not as before.
+fn touched(
+    rt: &impl Abort,
+    alloc: Global,
+    points: &mut Points<Tick, TallyMarks<Tick>>,
+    mark: Mark<Tick>,
+) -> (u64, usize) {
+    let before = blocks_of(rt, alloc, points);
+    let calls = calls_of(points);
+    put_one(rt, alloc, points, mark);
+    let calls = calls_of(points).wrapping_sub(calls);
+    (calls, count_changed(&before, &blocks_of(rt, alloc, points)))
+}
+
+/// Whether a change of one mark calls a row of many marks as often as one of few, up to five times, and touches one block of
+/// it or two.
+fn touches_few(
+    rt: &impl Abort,
+    alloc: Global,
+    few: &mut Points<Tick, TallyMarks<Tick>>,
+    many: &mut Points<Tick, TallyMarks<Tick>>,
+    in_few: &str,
+    in_many: &str,
+) -> bool {
+    let (calls_of_few, _) = touched(rt, alloc, few, mark_of(rt, in_few));
+    let (calls, blocks) = touched(rt, alloc, many, mark_of(rt, in_many));
+    calls == calls_of_few && 1 <= calls && calls <= 5 && 1 <= blocks && blocks <= 2
+}
+
+/// Changes of one mark, in the row of few marks and in that of many: a new mark in front, in the middle and behind, another
+/// one, and none.
+const CHANGES: &str = "
+-5 1 0 0 => -5 1 0 0
+5005 1 0 0 => 500005 1 0 0
+10005 0 1 0 => 1000005 0 1 0
+5000 0 1 0 => 500000 0 1 0
+5000 0 0 0 => 500000 0 0 0
+";
 
 #[test]
-fn a_change_of_one_mark_touches_few_blocks(rt: HostRuntime) -> Result<(), NoMemory> {
-    let mut few = long_row(rt.alloc(), 1000)?;
-    let mut many = long_row(rt.alloc(), 100000)?;
-    for (in_few, in_many, inits, terms) in CHANGES {
-        let (calls_of_few, _) = touched(rt.alloc(), &mut few, (P, in_few, inits, terms, 0))?;
-        let (calls, blocks) = touched(rt.alloc(), &mut many, (P, in_many, inits, terms, 0))?;
-        assert!(rt;
-            calls == calls_of_few && 1 <= calls && calls <= 5,
-            "calls at {in_many}: {calls}"
-        );
-        assert!(rt; 1 <= blocks && blocks <= 2, "blocks at {in_many}: {blocks}");
+fn a_change_of_one_mark_touches_few_blocks(rt: HostRuntime) {
+    let alloc = rt.alloc();
+    let mut few = long_row(&rt, alloc, 1000);
+    let mut many = long_row(&rt, alloc, 100000);
+    for line in CHANGES.lines() {
+        if let Some((in_few, in_many)) = row_of(line) {
+            assert!(rt;
+                touches_few(&rt, alloc, &mut few, &mut many, in_few, in_many),
+                "{line}"
+            );
+        }
     }
-    Ok(())
 }

@@ -5,10 +5,13 @@ ghost use Rattle.ec_terms.specs.Term.{ground_of, names_are_names};
 ghost use Rattle.ec_props.specs.Keys.{key_of};
 ghost use Rattle.ec_props.specs.Table.{prop_at};
 
+use crate::fixtures::{boxed, term_of};
 use ec_props::PropTable;
-use ec_terms::{ArgRef, GroundRef, NoMemory, PropId, order, read_ground};
+use ec_terms::{ArgRef, GroundRef, NoMemory, PropId, order};
+use std::alloc::Global;
 use std::hash::{FoldHasher, Hasher};
 use std::process::Abort;
+use std::string::String;
 
 /// Terms in their order.
 const TERMS: &str =
@@ -20,12 +23,9 @@ const COUNT: usize = 14;
 /// Other terms: before all of these, between two of them, and behind all.
 const ABSENT: &str = "kamp lamp(5) lamp(4,3) plug(a,b) plugs";
 
-/// The term that a text spells.
-fn term<'a>(rt: &impl Abort, spelt: &'a [u8]) -> GroundRef<'a>
-    ensures { IsTrue (names_are_names (ground_of result)) }
-{
-    let (term, _) = read_ground(spelt).expect(rt, "a term");
-    term
+/// A table of no properties.
+fn new_table(rt: &impl Abort, alloc: Global) -> Box<PropTable> {
+    boxed(rt, alloc, PropTable::new(alloc).expect(rt, "memory"))
 }
 
 /// Keeps a term. If memory runs out, it sees that the table is as it was, and tries again.
@@ -47,7 +47,7 @@ fn keep_terms(rt: &impl Abort, table: &mut PropTable) {
     for step in 0..COUNT {
         let spelt = TERMS.split(' ').nth(step * 5 % COUNT);
         let spelt = spelt.expect(rt, "a term");
-        let _ = keep(rt, table, &term(rt, spelt.as_bytes()));
+        let _ = keep(rt, table, &term_of(rt, spelt.as_bytes()));
     }
 }
 
@@ -64,26 +64,41 @@ fn stands_at(rt: &impl Abort, table: &mut PropTable, place: usize, wanted: &Grou
         && keep(rt, table, wanted) == p
 }
 
+/// The same of the term that a text spells.
+fn stands_spelt_at(rt: &impl Abort, table: &mut PropTable, place: usize, spelt: &str) -> bool {
+    stands_at(rt, table, place, &term_of(rt, spelt.as_bytes()))
+}
+
+/// Sees that the terms stand in order.
+fn expect_order(rt: &impl Abort, table: &mut PropTable) {
+    for (place, spelt) in TERMS.split(' ').enumerate() {
+        assert!(rt; stands_spelt_at(rt, table, place, spelt), "{spelt}");
+    }
+}
+
+/// Whether the term that a text spells is not found.
+fn is_absent(rt: &impl Abort, table: &PropTable, spelt: &str) -> bool {
+    table.lookup(&term_of(rt, spelt.as_bytes())).is_none()
+}
+
+/// Sees that the other terms are not found.
+fn expect_absent(rt: &impl Abort, table: &PropTable) {
+    for spelt in ABSENT.split(' ') {
+        assert!(rt; is_absent(rt, table, spelt), "{spelt}");
+    }
+}
+
 /// Keeps the terms, and sees that they stand in order and that others are not found.
 fn keep_in_order(rt: &impl Abort, table: &mut PropTable) {
     keep_terms(rt, table);
-    assert_eq!(rt; table.len(), COUNT);
-    assert_eq!(rt; TERMS.split(' ').count(), COUNT);
-    for (place, spelt) in TERMS.split(' ').enumerate() {
-        assert!(rt;
-            stands_at(rt, table, place, &term(rt, spelt.as_bytes())),
-            "at {place}"
-        );
-    }
-    for spelt in ABSENT.split(' ') {
-        assert_eq!(rt; table.lookup(&term(rt, spelt.as_bytes())), None);
-    }
+    assert!(rt; table.len() == COUNT && TERMS.split(' ').count() == COUNT);
+    expect_order(rt, table);
+    expect_absent(rt, table);
 }
 
 #[test]
 fn terms_stand_in_order(rt: HostRuntime) {
-    let mut table = PropTable::new(rt.alloc()).expect(&rt, "memory");
-    keep_in_order(&rt, &mut table);
+    keep_in_order(&rt, &mut new_table(&rt, rt.alloc()));
 }
 
 /// The text of a term by its number, such that terms go as the numbers do.
@@ -113,42 +128,92 @@ fn change(table: &mut PropTable, p: PropId, pick: u32) -> Option<u32>
     Some(count)
 }
 
-#[test]
-fn mixed_changes_leave_the_right_table(rt: HostRuntime) {
-    let mut table = PropTable::new(rt.alloc()).expect(&rt, "memory");
+/// Whether a term is mentioned so often. `None`: it is not kept.
+fn is_counted(table: &PropTable, term: &GroundRef<'_>, count: Option<u32>) -> bool {
+    match table.lookup(term) {
+        Some(p) => count == Some(table.mentions(p)),
+        None => count.is_none(),
+    }
+}
+
+/// Changes the property of a term, or keeps the term. It answers how often it is mentioned then, and `None` where it went.
+fn change_or_keep(
+    rt: &impl Abort,
+    table: &mut PropTable,
+    term: &GroundRef<'_>,
+    pick: u32,
+) -> Option<u32>
+    requires { IsTrue (names_are_names (ground_of term.now)) }
+{
+    if let Some(p) = table.lookup(term) {
+        return change(table, p, pick);
+    }
+    let _ = keep(rt, table, term);
+    Some(0)
+}
+
+/// Sees that the term with a number is mentioned so often, and changes that.
+fn change_numbered(
+    rt: &impl Abort,
+    table: &mut PropTable,
+    count: Option<u32>,
+    number: usize,
+    pick: u32,
+) -> Option<u32> {
+    let spelt = numbered(number);
+    let wanted = term_of(rt, &spelt);
+    assert!(rt; is_counted(table, &wanted, count), "of {number}");
+    change_or_keep(rt, table, &wanted, pick)
+}
+
+/// Makes many changes in mixed order, and answers how often the term with each number is mentioned then.
+fn change_mixed(rt: &impl Abort, table: &mut PropTable) -> [Option<u32>; 100] {
     let mut counts: [Option<u32>; 100] = [None; 100];
     let mut state: u32 = 1;
     for _ in 0..2000 {
         state = state.wrapping_mul(1664525).wrapping_add(1013904223);
         let number = (state >> 16) as usize % 100;
-        let spelt = numbered(number);
-        let wanted = term(&rt, &spelt);
-        counts[number] = match table.lookup(&wanted) {
-            Some(p) => {
-                assert_eq!(rt; counts[number], Some(table.mentions(p)), "of {number}");
-                change(&mut table, p, (state >> 8) % 4)
-            }
-            None => {
-                assert_eq!(rt; counts[number], None, "of {number}");
-                let _ = keep(&rt, &mut table, &wanted);
-                Some(0)
-            }
-        };
+        counts[number] = change_numbered(rt, table, counts[number], number, (state >> 8) % 4);
     }
-    let mut place = 0;
+    counts
+}
+
+/// Whether the term with a number stands at a place, and is mentioned so often.
+fn stands_with(
+    rt: &impl Abort,
+    table: &PropTable,
+    place: usize,
+    number: usize,
+    count: u32,
+) -> bool {
+    if table.len() <= place {
+        return false;
+    }
+    let p = table.nth_in_order(place);
+    let spelt = numbered(number);
+    order(&table.ground(p), &term_of(rt, &spelt)).is_eq() && table.mentions(p) == count
+}
+
+/// Sees that those terms stand in the order of their numbers that are kept, each mentioned so often, and no others.
+fn expect_counts(rt: &impl Abort, table: &PropTable, counts: &[Option<u32>]) {
+    let mut place: usize = 0;
     for (number, count) in counts.iter().enumerate() {
         if let Some(count) = count {
-            assert!(rt; place < table.len());
-            let p = table.nth_in_order(place);
             assert!(rt;
-                order(&table.ground(p), &term(&rt, &numbered(number))).is_eq(),
+                stands_with(rt, table, place, number, *count),
                 "of {number}"
             );
-            assert_eq!(rt; table.mentions(p), *count, "of {number}");
-            place += 1;
+            place = place.wrapping_add(1);
         }
     }
-    assert_eq!(rt; place, table.len());
+    assert!(rt; place == table.len());
+}
+
+#[test]
+fn mixed_changes_leave_the_right_table(rt: HostRuntime) {
+    let mut table = new_table(&rt, rt.alloc());
+    let counts = change_mixed(&rt, &mut table);
+    expect_counts(&rt, &table, &counts);
 }
 
 /// A number that leaves nothing of the hash of a name, so that the key of a term with this name and this argument is 0.
@@ -174,26 +239,67 @@ fn key_of(term: &GroundRef<'_>) -> Option<u64>
     }
 }
 
-#[test]
-fn terms_of_one_key_are_told_apart(rt: HostRuntime) {
-    let mut table = PropTable::new(rt.alloc()).expect(&rt, "memory");
+/// Forgets a term if it may go, and otherwise keeps it. It answers the number that the term has then.
+fn forget_or_keep(
+    rt: &impl Abort,
+    table: &mut PropTable,
+    term: &GroundRef<'_>,
+    may_go: bool,
+) -> Option<PropId>
+    requires { IsTrue (names_are_names (ground_of term.now)) }
+{
+    match table.lookup(term) {
+        Some(p) if may_go => {
+            let _ = change(table, p, 0);
+            table.lookup(term)
+        }
+        _ => Some(keep(rt, table, term)),
+    }
+}
+
+/// Whether the key of a term is 0, and it is found under a number. `None`: it is not kept.
+fn is_found(table: &PropTable, term: &GroundRef<'_>, known: Option<PropId>) -> bool {
+    key_of(term) == Some(0) && table.lookup(term) == known
+}
+
+/// Sees that the term that a text spells is found as it was kept, and forgets or keeps it.
+fn change_of_one_key(
+    rt: &impl Abort,
+    table: &mut PropTable,
+    known: Option<PropId>,
+    spelt: &str,
+    may_go: bool,
+) -> Option<PropId> {
+    let wanted = term_of(rt, spelt.as_bytes());
+    assert!(rt; is_found(table, &wanted, known), "{spelt}");
+    forget_or_keep(rt, table, &wanted, may_go)
+}
+
+/// The text of the term with a number whose key is 0.
+fn spelt_with_key(rt: &impl Abort, alloc: Global, number: usize) -> String {
+    let argument = cancelling(&numbered(number));
+    format!(in alloc; "p{:02}({})", number, argument).expect(rt, "memory")
+}
+
+/// Keeps and forgets terms of one key in mixed order. It answers the number that each has then.
+fn change_all_of_one_key(
+    rt: &impl Abort,
+    alloc: Global,
+    table: &mut PropTable,
+) -> [Option<PropId>; 100] {
     let mut numbers: [Option<PropId>; 100] = [None; 100];
     for step in 0..700 {
         let number = step * 37 % 100;
-        let name = numbered(number);
-        let spelt = format!(in rt.alloc(); "p{:02}({})", number, cancelling(&name));
-        let spelt = spelt.expect(&rt, "memory");
-        let wanted = term(&rt, spelt.as_bytes());
-        assert_eq!(rt; key_of(&wanted), Some(0), "of {number}");
-        assert_eq!(rt; table.lookup(&wanted), numbers[number], "of {number}");
-        numbers[number] = match table.lookup(&wanted) {
-            Some(p) if step % 3 > 0 => {
-                let _ = change(&mut table, p, 0);
-                table.lookup(&wanted)
-            }
-            _ => Some(keep(&rt, &mut table, &wanted)),
-        };
+        let spelt = spelt_with_key(rt, alloc, number);
+        let known = numbers[number];
+        numbers[number] = change_of_one_key(rt, table, known, spelt.as_str(), step % 3 > 0);
     }
-    let count = numbers.iter().filter(|p| p.is_some()).count();
-    assert_eq!(rt; table.len(), count);
+    numbers
+}
+
+#[test]
+fn terms_of_one_key_are_told_apart(rt: HostRuntime) {
+    let mut table = new_table(&rt, rt.alloc());
+    let numbers = change_all_of_one_key(&rt, rt.alloc(), &mut table);
+    assert!(rt; table.len() == numbers.iter().flatten().count());
 }

@@ -6,11 +6,11 @@ use Rattle.ec_caches.proofs.exclusive.leave.Goals as goal
 
 pub mentions-requires : goal.mentions-requires
 mentions-requires c =
-    let there : is_added c.args.p c.args.neighbours.now.rows ≡ true = grind (arith, c.is_added.ensures.added, c.if-not-is_added.false) in
-    kept-added c.args.theory.now c.args.props.now c.args.neighbours.now c.args.p c.requires there
+    let there : is_added c.args.p c.args.tables.now.neighbours.rows ≡ true = grind (arith, c.is_added.ensures.added, c.if-not-is_added.false) in
+    kept-added c.args.theory.now c.args.tables.now.props c.args.tables.now.neighbours c.args.p c.requires there
 
 pub returns : goal.returns
 returns c =
-    AreNeighbours-forgotten c.args.theory.now c.args.props.now c.forget.new.self c.drop_prop.new.self c.args.p
-    (ap (is_added c.args.p) c.drop_prop.ensures.rows ∙ absent-left c.args.p c.args.neighbours.now.rows) c.forget.ensures.others
-    (c.drop_prop.ensures.neighbours c.args.theory.now c.args.props.now c.requires)
+    AreNeighbours-forgotten c.args.theory.now c.args.tables.now.props c.forget.new.self c.drop_prop.new.self c.args.p
+    (ap (is_added c.args.p) c.drop_prop.ensures.rows ∙ absent-left c.args.p c.args.tables.now.neighbours.rows) c.forget.ensures.others
+    (c.drop_prop.ensures.neighbours c.args.theory.now c.args.tables.now.props c.requires)

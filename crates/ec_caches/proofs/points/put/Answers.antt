@@ -29,12 +29,12 @@ pub add-requires : goal.add-requires
 add-requires g c = c.loop-one.invariant
 
 pub loop-one-preserved : goal.loop-one-preserved
-loop-one-preserved g c = c.in_ok-add.ensures
+loop-one-preserved g c = c.add.ensures
 
 pub apply-requires-clause-room : goal.apply-requires-clause-room
 apply-requires-clause-room g c = λ n.
-    grows-enough (ghosts).rank n c.loop-one.change c.loop-one.points c.reserve_clashes.new.self c.in_ok-reserve_clashes.ensures.rows (c.loop-one.invariant n)
+    grows-enough (ghosts).rank n c.loop-one.change c.loop-one.points c.make_clash_room.new.points c.make_clash_room.ensures.rows (c.loop-one.invariant n)
 
 pub apply-requires-clause-clash_room : goal.apply-requires-clause-clash_room
 apply-requires-clause-clash_room g c =
-    clashes-enough (ghosts).rank c.reserve_clashes.new.self c.loop-one.change c.len.result c.reserve_clashes.new.self.clash_room c.len.ensures.len c.in_ok-reserve_clashes.ensures.room
+    clashes-enough (ghosts).rank c.make_clash_room.new.points c.loop-one.change c.len.result c.make_clash_room.new.points.clash_room c.len.ensures.len c.make_clash_room.ensures.room
