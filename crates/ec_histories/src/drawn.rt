@@ -1,30 +1,23 @@
 //! Random theories and updates of the plain program.
 ghost use Rattle.std.specs.Prelude.{◌<◌, length};
 
-use crate::plain_terms::{Args, Name, Named, Pattern, Place, Term, Value};
+use crate::plain_terms::{ABSENT, MINUS_ONE, Pattern, Shape, Term};
 use crate::plain_theory::{Event, Identity, Literal, Rule, Test, Theory};
 use ec_terms::{Kind, TestOp};
-use std::alloc::{AllocError, Global};
+use std::alloc::Global;
+use std::process::Abort;
 
 /// The names of events and how many arguments each has.
-const EVENTS: [(Name, u8); 4] = [(Name::E, 1), (Name::E, 2), (Name::E, 2), (Name::F, 0)];
+const EVENTS: [Shape; 4] = [(b'e', 1), (b'e', 2), (b'e', 2), (b'f', 0)];
 
 /// The names of properties and how many arguments each has.
-const PROPS: [(Name, u8); 4] = [(Name::P, 0), (Name::P, 1), (Name::Q, 2), (Name::Q, 2)];
+const PROPS: [Shape; 4] = [(b'p', 0), (b'p', 1), (b'q', 2), (b'q', 2)];
 
 /// All values, in order.
-const VALUES: [Value; 2] = [Value::MinusOne, Value::A];
+const VALUES: [u8; 2] = [MINUS_ONE, b'a'];
 
 /// The places of an event's or an exclusive declaration's pattern.
-const PLACES: [Place; 7] = [
-    Place::X,
-    Place::X,
-    Place::X,
-    Place::Y,
-    Place::Any,
-    Place::Fixed(Value::MinusOne),
-    Place::Fixed(Value::A),
-];
+const PLACES: [u8; 7] = [b'X', b'X', b'X', b'Y', b'_', MINUS_ONE, b'a'];
 
 /// The instants of random events.
 const INSTANTS: [i64; 6] = [-1, 0, 1, 2, 3, 4];
@@ -38,24 +31,36 @@ pub struct Draws {
     state: u64,
 }
 
-/// All properties, in term order.
-pub fn all_props(alloc: Global) -> Result<Vec<Term>, AllocError> {
-    let mut props = Vec::new(alloc);
-    for (name, count) in PROPS {
-        for first in VALUES {
-            for second in VALUES {
-                let args = match count {
-                    0 => Args::Zero,
-                    1 => Args::One(second),
-                    _ => Args::Two(first, second),
-                };
-                props.push(Term { name, args })?;
-            }
-        }
+/// A term of a name and its arguments.
+fn term(name: u8, count: u8, left: u8, right: u8) -> Term {
+    Term {
+        name,
+        count,
+        left,
+        right,
     }
-    props.sort_unstable();
-    props.dedup();
-    Ok(props)
+}
+
+/// All properties, in term order.
+pub fn all_props(rt: &impl Abort, alloc: Global) -> Vec<Term> {
+    let mut props = Vec::new(alloc);
+    props
+        .push(term(b'p', 0, ABSENT, ABSENT))
+        .expect(rt, "memory");
+    for only in VALUES {
+        props.push(term(b'p', 1, only, ABSENT)).expect(rt, "memory");
+    }
+    for left in VALUES {
+        add_pairs(rt, left, &mut props);
+    }
+    props
+}
+
+/// Adds the properties of two arguments that have this on the left.
+fn add_pairs(rt: &impl Abort, left: u8, props: &mut Vec<Term>) {
+    for right in VALUES {
+        props.push(term(b'q', 2, left, right)).expect(rt, "memory");
+    }
 }
 
 impl Draws {
@@ -90,58 +95,57 @@ impl Draws {
         all[self.draw(all.len() as u64) as usize]
     }
 
-    /// A term of one of some kinds.
-    fn term(&mut self, kinds: &[(Name, u8)]) -> Term
-        requires { 0 < length kinds.now }
+    /// A name of one of some shapes, with arguments of these.
+    fn named(&mut self, shapes: &[Shape], places: &[u8]) -> Term
+        requires shapes { 0 < length shapes.now }
+        requires places { 0 < length places.now }
     {
-        let (name, count) = self.pick(kinds);
-        let args = match count {
-            0 => Args::Zero,
-            1 => Args::One(self.pick(&VALUES)),
-            _ => Args::Two(self.pick(&VALUES), self.pick(&VALUES)),
-        };
-        Named { name, args }
-    }
-
-    /// A pattern of one of some kinds.
-    fn pattern(&mut self, kinds: &[(Name, u8)]) -> Pattern
-        requires { 0 < length kinds.now }
-    {
-        let (name, count) = self.pick(kinds);
-        let args = match count {
-            0 => Args::Zero,
-            1 => Args::One(self.pick(&PLACES)),
-            _ => Args::Two(self.pick(&PLACES), self.pick(&PLACES)),
-        };
-        Named { name, args }
+        let (name, count) = self.pick(shapes);
+        let left = if 0 < count { self.pick(places) } else { ABSENT };
+        let right = if 1 < count { self.pick(places) } else { ABSENT };
+        term(name, count, left, right)
     }
 
     /// A place that an event pattern gives a value: mostly one of its variables.
-    fn given_place(&mut self, event: Pattern) -> Place {
-        let place = match event.args {
-            Args::Zero => Place::Any,
-            Args::One(only) => only,
-            Args::Two(left, right) => { if self.one_in(2) { left } else { right } }
+    fn given_place(&mut self, event: Pattern) -> u8 {
+        let place = match event.count {
+            0 => b'_',
+            1 => event.left,
+            _ => {
+                if self.one_in(2) {
+                    event.left
+                } else {
+                    event.right
+                }
+            }
         };
         match place {
-            Place::X | Place::Y if !self.one_in(6) => place,
-            _ => Place::Fixed(self.pick(&VALUES)),
+            b'X' | b'Y' if !self.one_in(6) => place,
+            _ => self.pick(&VALUES),
         }
     }
 
     /// A property whose variables an event pattern gives a value.
     fn given_prop(&mut self, event: Pattern) -> Pattern {
         let (name, count) = self.pick(&PROPS);
-        let args = match count {
-            0 => Args::Zero,
-            1 => Args::One(self.given_place(event)),
-            _ => Args::Two(self.given_place(event), self.given_place(event)),
+        let left = if 0 < count {
+            self.given_place(event)
+        } else {
+            ABSENT
         };
-        Named { name, args }
+        let right = if 1 < count {
+            self.given_place(event)
+        } else {
+            ABSENT
+        };
+        term(name, count, left, right)
     }
 
-    /// A test of an event pattern's variables.
-    fn test(&mut self, event: Pattern) -> Test {
+    /// A test of an event pattern's variables, of one rule in six.
+    fn test(&mut self, event: Pattern) -> Option<Test> {
+        if !self.one_in(6) {
+            return None;
+        }
         let ops = [
             TestOp::Same,
             TestOp::Differ,
@@ -149,59 +153,90 @@ impl Draws {
             TestOp::AtMost,
             TestOp::AtMost,
         ];
-        Test {
+        Some(Test {
             left: self.given_place(event),
             op: self.pick(&ops),
             right: self.given_place(event),
-        }
-    }
-
-    /// A rule with up to two literals.
-    fn rule(&mut self, alloc: Global) -> Result<Rule, AllocError> {
-        let event = self.pattern(&EVENTS);
-        let mut literals = Vec::new(alloc);
-        for _ in 0..self.pick(&[0, 0, 1, 1, 2, 2]) {
-            literals.push(Literal {
-                positive: self.one_in(3),
-                prop: self.given_prop(event),
-            })?;
-        }
-        Ok(Rule {
-            kind: self.pick(&[Kind::Initiates, Kind::Terminates]),
-            event,
-            head: self.given_prop(event),
-            test: if self.one_in(6) {
-                Some(self.test(event))
-            } else {
-                None
-            },
-            literals,
         })
     }
 
-    /// A theory.
-    pub fn theory(&mut self, alloc: Global) -> Result<Theory, AllocError> {
-        let mut theory = Theory {
-            rules: Vec::new(alloc),
-            exclusives: Vec::new(alloc),
-            strongs: Vec::new(alloc),
-            initials: Vec::new(alloc),
-        };
+    /// A literal whose variables an event pattern gives a value.
+    fn literal(&mut self, event: Pattern) -> Literal {
+        Literal {
+            positive: self.one_in(3),
+            prop: self.given_prop(event),
+        }
+    }
+
+    /// Up to two literals.
+    fn literals(&mut self, rt: &impl Abort, alloc: Global, event: Pattern) -> Vec<Literal> {
+        let mut literals = Vec::new(alloc);
+        for _ in 0..self.pick(&[0, 0, 1, 1, 2, 2]) {
+            literals.push(self.literal(event)).expect(rt, "memory");
+        }
+        literals
+    }
+
+    /// A rule with up to two literals.
+    fn rule(&mut self, rt: &impl Abort, alloc: Global) -> Rule {
+        let event = self.named(&EVENTS, &PLACES);
+        let literals = self.literals(rt, alloc, event);
+        Rule {
+            kind: self.pick(&[Kind::Initiates, Kind::Terminates]),
+            event,
+            head: self.given_prop(event),
+            test: self.test(event),
+            literals,
+        }
+    }
+
+    /// Some rules.
+    fn rules(&mut self, rt: &impl Abort, alloc: Global) -> Vec<Rule> {
+        let mut rules = Vec::new(alloc);
         for _ in 0..self.pick(&[8, 10, 12, 14]) {
-            theory.rules.push(self.rule(alloc)?)?;
+            rules.push(self.rule(rt, alloc)).expect(rt, "memory");
         }
+        rules
+    }
+
+    /// Up to three exclusive declarations.
+    fn exclusives(&mut self, rt: &impl Abort, alloc: Global) -> Vec<(Pattern, Pattern)> {
+        let mut exclusives = Vec::new(alloc);
         for _ in 0..self.pick(&[0, 1, 2, 3]) {
-            theory
-                .exclusives
-                .push((self.pattern(&PROPS), self.pattern(&PROPS)))?;
+            let left = self.named(&PROPS, &PLACES);
+            let right = self.named(&PROPS, &PLACES);
+            exclusives.push((left, right)).expect(rt, "memory");
         }
+        exclusives
+    }
+
+    /// At most one strong declaration.
+    fn strongs(&mut self, rt: &impl Abort, alloc: Global) -> Vec<Shape> {
+        let mut strongs = Vec::new(alloc);
         for _ in 0..self.pick(&[0, 1]) {
-            theory.strongs.push(self.pick(&PROPS))?;
+            strongs.push(self.pick(&PROPS)).expect(rt, "memory");
         }
+        strongs
+    }
+
+    /// Up to two initial properties.
+    fn initials(&mut self, rt: &impl Abort, alloc: Global) -> Vec<Term> {
+        let mut initials = Vec::new(alloc);
         for _ in 0..self.pick(&[0, 0, 1, 2]) {
-            theory.initials.push(self.term(&PROPS))?;
+            let initial = self.named(&PROPS, &VALUES);
+            initials.push(initial).expect(rt, "memory");
         }
-        Ok(theory)
+        initials
+    }
+
+    /// A theory.
+    pub fn theory(&mut self, rt: &impl Abort, alloc: Global) -> Theory {
+        Theory {
+            rules: self.rules(rt, alloc),
+            exclusives: self.exclusives(rt, alloc),
+            strongs: self.strongs(rt, alloc),
+            initials: self.initials(rt, alloc),
+        }
     }
 
     /// The beginning and the end of a stretch, mostly in this order.
@@ -217,7 +252,7 @@ impl Draws {
 
     /// An identity, be there an event of it or not.
     pub fn identity(&mut self) -> Identity {
-        Identity(self.draw(10) as usize)
+        self.draw(10) as usize
     }
 
     /// An event.
@@ -225,7 +260,7 @@ impl Draws {
         Event {
             at: self.pick(&INSTANTS),
             id: self.identity(),
-            term: self.term(&EVENTS),
+            term: self.named(&EVENTS, &VALUES),
         }
     }
 }

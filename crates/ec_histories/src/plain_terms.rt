@@ -1,68 +1,48 @@
 //! Terms and patterns of the plain program. There are few names and values, so that random terms often meet.
 use std::fmt;
 
-/// The name of an event or of a property, in the order of their bytes.
-#[derive(Clone, Copy, PartialEq, Eq, PartialOrd, Ord)]
-pub enum Name {
-    E,
-    F,
-    P,
-    Q,
+/// A name with up to two arguments, each of one byte. In a term they are values, and in a pattern they may be variables, or the
+/// place of any value.
+#[derive(Clone, Copy, PartialEq)]
+pub struct Term {
+    pub name: u8,
+    pub count: u8,
+    pub left: u8,
+    pub right: u8,
 }
-
-/// An argument, in the order of arguments: numbers by value, and then names.
-#[derive(Clone, Copy, PartialEq, Eq, PartialOrd, Ord)]
-pub enum Value {
-    MinusOne,
-    A,
-}
-
-/// What stands at a place of a pattern.
-#[derive(Clone, Copy, PartialEq, Eq)]
-pub enum Place {
-    X,
-    Y,
-    Any,
-    Fixed(Value),
-}
-
-/// Up to two arguments: fewer come before more, and as many go from the left.
-#[derive(Clone, Copy, PartialEq, Eq, PartialOrd, Ord)]
-pub enum Args<A> {
-    Zero,
-    One(A),
-    Two(A, A),
-}
-
-/// A name with its arguments.
-#[derive(Clone, Copy, PartialEq, Eq, PartialOrd, Ord)]
-pub struct Named<A> {
-    pub name: Name,
-    pub args: Args<A>,
-}
-
-/// What happens, or what may hold. Terms go by their names and then by their arguments.
-pub type Term = Named<Value>;
 
 /// What a clause says of terms.
-pub type Pattern = Named<Place>;
+pub type Pattern = Term;
+
+/// A name and how many arguments it has.
+pub type Shape = (u8, u8);
+
+/// What stands for an argument that there is not.
+pub const ABSENT: u8 = 0;
+
+/// The value -1. Values go as their bytes do: numbers come before names.
+pub const MINUS_ONE: u8 = b'-';
+
+/// What a byte is written as.
+pub fn spelt(byte: u8) -> &'static str {
+    match byte {
+        MINUS_ONE => "-1",
+        b'X' => "X",
+        b'Y' => "Y",
+        b'_' => "_",
+        b'a' => "a",
+        b'e' => "e",
+        b'f' => "f",
+        b'p' => "p",
+        _ => "q",
+    }
+}
 
 /// The values of the variables that have one.
 #[derive(Clone, Copy)]
 pub struct Binding {
-    x: Option<Value>,
-    y: Option<Value>,
-}
-
-impl<A> Args<A> {
-    /// How many there are.
-    pub fn len(&self) -> u8 {
-        match self {
-            Args::Zero => 0,
-            Args::One(_) => 1,
-            Args::Two(_, _) => 2,
-        }
-    }
+    x: Option<u8>,
+    y: Option<u8>,
 }
 
 impl Binding {
@@ -70,100 +50,55 @@ impl Binding {
     pub const EMPTY: Binding = Binding { x: None, y: None };
 
     /// The value at a place, if it has one.
-    pub fn value(self, place: Place) -> Option<Value> {
+    pub fn value(self, place: u8) -> Option<u8> {
         match place {
-            Place::X => self.x,
-            Place::Y => self.y,
-            Place::Any => None,
-            Place::Fixed(value) => Some(value),
+            b'X' => self.x,
+            b'Y' => self.y,
+            b'_' => None,
+            _ => Some(place),
         }
     }
 
     /// The binding under which a place fits a value too.
-    fn with(self, place: Place, value: Value) -> Option<Binding> {
+    fn with(self, place: u8, value: u8) -> Option<Binding> {
         match self.value(place) {
             Some(known) => { if known == value { Some(self) } else { None } }
-            None => match place {
-                Place::X => Some(Binding {
-                    x: Some(value),
-                    y: self.y,
-                }),
-                Place::Y => Some(Binding {
-                    x: self.x,
-                    y: Some(value),
-                }),
-                _ => Some(self),
-            },
+            None => Some(Binding {
+                x: if place == b'X' { Some(value) } else { self.x },
+                y: if place == b'Y' { Some(value) } else { self.y },
+            }),
         }
     }
 
     /// The binding under which a pattern fits a term too.
     pub fn matching(self, pattern: Pattern, term: Term) -> Option<Binding> {
-        if pattern.name != term.name {
-            return None;
-        }
-        match (pattern.args, term.args) {
-            (Args::Zero, Args::Zero) => Some(self),
-            (Args::One(place), Args::One(value)) => self.with(place, value),
-            (Args::Two(left, right), Args::Two(first, second)) => {
-                self.with(left, first)?.with(right, second)
-            }
-            _ => None,
+        if pattern.name == term.name && pattern.count == term.count {
+            self.with(pattern.left, term.left)?
+                .with(pattern.right, term.right)
+        } else {
+            None
         }
     }
 
     /// A pattern with its variables replaced. None is for a variable without a value.
     pub fn filled(self, pattern: Pattern) -> Option<Term> {
-        let args = match pattern.args {
-            Args::Zero => Args::Zero,
-            Args::One(place) => Args::One(self.value(place)?),
-            Args::Two(left, right) => Args::Two(self.value(left)?, self.value(right)?),
-        };
         Some(Term {
-            name: pattern.name,
-            args,
+            left: self.value(pattern.left)?,
+            right: self.value(pattern.right)?,
+            ..pattern
         })
     }
 }
 
-impl fmt::Display for Name {
+impl fmt::Display for Term {
     fn fmt<W: fmt::Write>(&self, f: &mut fmt::Formatter<W>) -> fmt::Result {
-        match self {
-            Name::E => write!(f, "e"),
-            Name::F => write!(f, "f"),
-            Name::P => write!(f, "p"),
-            Name::Q => write!(f, "q"),
-        }
-    }
-}
-
-impl fmt::Display for Value {
-    fn fmt<W: fmt::Write>(&self, f: &mut fmt::Formatter<W>) -> fmt::Result {
-        match self {
-            Value::MinusOne => write!(f, "-1"),
-            Value::A => write!(f, "a"),
-        }
-    }
-}
-
-impl fmt::Display for Place {
-    fn fmt<W: fmt::Write>(&self, f: &mut fmt::Formatter<W>) -> fmt::Result {
-        match self {
-            Place::X => write!(f, "X"),
-            Place::Y => write!(f, "Y"),
-            Place::Any => write!(f, "_"),
-            Place::Fixed(value) => write!(f, "{value}"),
-        }
-    }
-}
-
-impl<A: fmt::Display> fmt::Display for Named<A> {
-    fn fmt<W: fmt::Write>(&self, f: &mut fmt::Formatter<W>) -> fmt::Result {
-        let name = self.name;
-        match &self.args {
-            Args::Zero => write!(f, "{name}"),
-            Args::One(only) => write!(f, "{name}({only})"),
-            Args::Two(left, right) => write!(f, "{name}({left},{right})"),
+        let name = spelt(self.name);
+        let left = spelt(self.left);
+        let right = spelt(self.right);
+        match self.count {
+            0 => write!(f, "{name}"),
+            1 => write!(f, "{name}({left})"),
+            _ => write!(f, "{name}({left},{right})"),
         }
     }
 }

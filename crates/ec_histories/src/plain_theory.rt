@@ -1,16 +1,16 @@
-//! Theories of the plain program: their text, and the entries of an event.
-use crate::plain_terms::{Binding, Name, Pattern, Place, Term};
+//! Theories of the plain program: their text, and the rules that an event meets.
+use crate::plain_terms::{Binding, Pattern, Shape, Term, spelt};
 use ec_terms::{Kind, TestOp};
-use std::alloc::{AllocError, Global};
-use std::fmt;
+use std::alloc::AllocError;
+use std::cmp::Ordering;
 use std::string::String;
 
 /// A comparison of two arguments.
 #[derive(Clone, Copy)]
 pub struct Test {
-    pub left: Place,
+    pub left: u8,
     pub op: TestOp,
-    pub right: Place,
+    pub right: u8,
 }
 
 /// That a property is current, or that it is not.
@@ -35,12 +35,12 @@ pub struct Rule {
 pub struct Theory {
     pub rules: Vec<Rule>,
     pub exclusives: Vec<(Pattern, Pattern)>,
-    pub strongs: Vec<(Name, u8)>,
+    pub strongs: Vec<Shape>,
     pub initials: Vec<Term>,
 }
 
-/// Something that happened. Events go by time and then by identity.
-#[derive(Clone, Copy, PartialEq, Eq, PartialOrd, Ord)]
+/// Something that happened.
+#[derive(Clone, Copy, PartialEq)]
 pub struct Event {
     pub at: i64,
     pub id: Identity,
@@ -48,28 +48,39 @@ pub struct Event {
 }
 
 /// The identity of an event, a number below ten. Identities are written so that they go as their bytes do.
-#[derive(Clone, Copy, PartialEq, Eq, PartialOrd, Ord)]
-pub struct Identity(pub usize);
+pub type Identity = usize;
 
 /// What the identities are written as, in the order of their bytes.
 const IDENTITIES: [&str; 10] = ["a", "a0", "a10", "a2", "aZ", "a_", "aa", "b", "bB", "ba"];
 
-/// A literal of an entry.
-#[derive(Clone, Copy)]
-pub struct Condition {
-    pub positive: bool,
-    pub prop: Term,
+/// What an identity is written as.
+pub fn id_text(id: Identity) -> &'static str {
+    IDENTITIES.get(id).copied().unwrap_or("z")
 }
 
-/// A rule that an event meets: what it does if it is active, and on which conditions it is.
-#[derive(Drop)]
+/// Whether there is an event of an identity.
+pub fn is_present(id: Identity, events: &[Event]) -> bool {
+    for event in events {
+        if event.id == id {
+            return true;
+        }
+    }
+    false
+}
+
+/// The order of events, by time and then by identity.
+pub fn by_time(one: &Event, other: &Event) -> Ordering {
+    (one.at, one.id).cmp(&(other.at, other.id))
+}
+
+/// What an event does by an active rule.
+#[derive(Clone, Copy)]
 pub struct Entry {
     pub at: i64,
     pub id: Identity,
     pub rule: usize,
     pub kind: Kind,
     pub head: Term,
-    pub conditions: Vec<Condition>,
 }
 
 impl Entry {
@@ -95,91 +106,70 @@ impl Test {
 }
 
 impl Rule {
-    /// The entry that an event has by this rule, if it meets it.
-    fn entry(
-        &self,
-        alloc: Global,
-        number: usize,
-        event: &Event,
-    ) -> Result<Option<Entry>, AllocError> {
-        let Some(binding) = Binding::EMPTY.matching(self.event, event.term) else {
-            return Ok(None);
-        };
-        if let Some(test) = &self.test
-            && !test.holds(binding)
-        {
-            return Ok(None);
+    /// The binding under which an event meets the rule, if it does.
+    pub fn met_by(&self, event: &Event) -> Option<Binding> {
+        let binding = Binding::EMPTY.matching(self.event, event.term)?;
+        match &self.test {
+            Some(test) if !test.holds(binding) => None,
+            _ => Some(binding),
         }
-        let Some(head) = binding.filled(self.head) else {
-            return Ok(None);
-        };
-        let mut conditions = Vec::new(alloc);
-        for literal in &self.literals {
-            let Some(prop) = binding.filled(literal.prop) else {
-                return Ok(None);
-            };
-            conditions.push(Condition {
-                positive: literal.positive,
-                prop,
-            })?;
-        }
-        Ok(Some(Entry {
-            at: event.at,
-            id: event.id,
-            rule: number,
-            kind: self.kind,
-            head,
-            conditions,
-        }))
     }
 }
 
 impl Theory {
-    /// The entries of an event, in the order of the rules, which are numbered from 1.
-    pub fn entries(&self, alloc: Global, event: &Event) -> Result<Vec<Entry>, AllocError> {
-        let mut entries = Vec::new(alloc);
-        for (rule, number) in self.rules.iter().zip(1..usize::MAX) {
-            if let Some(entry) = rule.entry(alloc, number, event)? {
-                entries.push(entry)?;
-            }
-        }
-        Ok(entries)
-    }
-
     /// Whether two properties differ and a declaration speaks of them, in one order or the other.
     pub fn are_exclusive(&self, one: Term, other: Term) -> bool {
-        one != other
-            && self.exclusives.iter().any(|(left, right)| {
-                fit_together(*left, *right, one, other) || fit_together(*left, *right, other, one)
-            })
+        if one == other {
+            return false;
+        }
+        for (left, right) in &self.exclusives {
+            if fit_together(*left, *right, one, other) || fit_together(*left, *right, other, one) {
+                return true;
+            }
+        }
+        false
     }
 
     /// Whether a property is declared strong.
     pub fn is_strong(&self, prop: Term) -> bool {
-        self.strongs.iter().any(|(name, count)| *name == prop.name && *count == prop.args.len())
+        for (name, count) in &self.strongs {
+            if *name == prop.name && *count == prop.count {
+                return true;
+            }
+        }
+        false
     }
 
     /// Whether a property is declared initial.
     pub fn is_initial(&self, prop: Term) -> bool {
-        self.initials.iter().any(|initial| *initial == prop)
+        for initial in &self.initials {
+            if *initial == prop {
+                return true;
+            }
+        }
+        false
     }
 
-    /// The theory as a text.
-    pub fn text(&self, alloc: Global) -> Result<String, AllocError> {
-        let mut text = String::new(alloc);
+    /// Adds the text of the theory.
+    pub fn write(&self, text: &mut String) -> Result<(), AllocError> {
         for rule in &self.rules {
-            write_rule(&mut text, rule)?;
+            write_rule(text, rule)?;
         }
+        self.write_declarations(text)
+    }
+
+    /// Adds the text of what is declared.
+    fn write_declarations(&self, text: &mut String) -> Result<(), AllocError> {
         for (left, right) in &self.exclusives {
-            writeln!(text, "exclusive {left} {right}.")?;
+            write_exclusive(text, *left, *right)?;
         }
         for (name, count) in &self.strongs {
-            writeln!(text, "strong {name}/{count}.")?;
+            write_strong(text, *name, *count)?;
         }
         for initial in &self.initials {
-            writeln!(text, "initially {initial}.")?;
+            write_initial(text, *initial)?;
         }
-        Ok(text)
+        Ok(())
     }
 }
 
@@ -189,6 +179,22 @@ fn fit_together(left: Pattern, right: Pattern, one: Term, other: Term) -> bool {
         Some(binding) => binding.matching(right, other).is_some(),
         None => false,
     }
+}
+
+/// Adds the text of an exclusive declaration.
+fn write_exclusive(text: &mut String, left: Pattern, right: Pattern) -> Result<(), AllocError> {
+    writeln!(text, "exclusive {left} {right}.")
+}
+
+/// Adds the text of a strong declaration.
+fn write_strong(text: &mut String, name: u8, count: u8) -> Result<(), AllocError> {
+    let name = spelt(name);
+    writeln!(text, "strong {name}/{count}.")
+}
+
+/// Adds the text of an initial property.
+fn write_initial(text: &mut String, initial: Term) -> Result<(), AllocError> {
+    writeln!(text, "initially {initial}.")
 }
 
 /// Adds the text of a rule.
@@ -206,18 +212,23 @@ fn write_rule(text: &mut String, rule: &Rule) -> Result<(), AllocError> {
         joint = ",";
     }
     for literal in &rule.literals {
-        let sign = if literal.positive { "" } else { "not " };
-        let prop = literal.prop;
-        write!(text, "{joint} {sign}{prop}")?;
+        write_literal(text, joint, literal)?;
         joint = ",";
     }
     writeln!(text, ".")
 }
 
+/// Adds the text of a literal behind a joint.
+fn write_literal(text: &mut String, joint: &str, literal: &Literal) -> Result<(), AllocError> {
+    let sign = if literal.positive { "" } else { "not " };
+    let prop = literal.prop;
+    write!(text, "{joint} {sign}{prop}")
+}
+
 /// Adds the text of a rule's test, which comes first of its conditions.
 fn write_test(text: &mut String, test: &Test) -> Result<(), AllocError> {
-    let left = test.left;
-    let right = test.right;
+    let left = spelt(test.left);
+    let right = spelt(test.right);
     let op = match test.op {
         TestOp::Same => "=",
         TestOp::Differ => "!=",
@@ -225,11 +236,4 @@ fn write_test(text: &mut String, test: &Test) -> Result<(), AllocError> {
         TestOp::AtMost => "<=",
     };
     write!(text, " if {left} {op} {right}")
-}
-
-impl fmt::Display for Identity {
-    fn fmt<W: fmt::Write>(&self, f: &mut fmt::Formatter<W>) -> fmt::Result {
-        let text = IDENTITIES.get(self.0).copied().unwrap_or("z");
-        write!(f, "{text}")
-    }
 }

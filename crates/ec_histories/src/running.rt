@@ -3,6 +3,7 @@ use ec_outside::{MemFolder, MemSink, MemSource};
 use ec_server::run;
 use ec_terms::NoMemory;
 use std::alloc::Global;
+use std::process::Abort;
 use std::string::String;
 
 /// More than all lines of a history have, and all replies.
@@ -19,16 +20,35 @@ fn status_of(
     run(alloc, words, files, input, output)
 }
 
-/// What is written where lines are served over a theory. `None`: the status is not 0.
-pub fn replies_to(alloc: Global, theory: &[u8], lines: &[u8]) -> Result<Option<MemSink>, NoMemory> {
-    let mut files = MemFolder::new(alloc, &[])?;
-    files.add("t.ec", theory)?;
-    let mut input = MemSource::new(alloc, lines, ROOM, &[])?;
-    let mut output = MemSink::new(alloc, ROOM, ROOM, &[], &[])?;
+/// The words that ask for a theory to be served.
+fn words(rt: &impl Abort, alloc: Global) -> Vec<String> {
     let mut words = Vec::new(alloc);
     for word in ["serve", "t.ec"] {
-        words.push(String::from_str(alloc, word)?)?;
+        let word = String::from_str(alloc, word).expect(rt, "memory");
+        words.push(word).expect(rt, "memory");
     }
+    words
+}
+
+/// A folder with one file, named `t.ec`.
+fn folder(alloc: Global, theory: &[u8]) -> Result<MemFolder, NoMemory> {
+    let mut files = MemFolder::new(alloc, &[])?;
+    files.add("t.ec", theory)?;
+    Ok(files)
+}
+
+/// Whether lines that are served over a theory get these replies, and the status is 0.
+pub fn replies_are(
+    rt: &impl Abort,
+    alloc: Global,
+    theory: &[u8],
+    lines: &[u8],
+    replies: &[u8],
+) -> bool {
+    let words = words(rt, alloc);
+    let mut files = folder(alloc, theory).expect(rt, "memory");
+    let mut input = MemSource::new(alloc, lines, ROOM, &[]).expect(rt, "memory");
+    let mut output = MemSink::new(alloc, ROOM, ROOM, &[], &[]).expect(rt, "memory");
     let status = status_of(alloc, &words, &mut files, &mut input, &mut output);
-    Ok(if status == 0 { Some(output) } else { None })
+    status == 0 && output.bytes() == replies
 }
