@@ -1,0 +1,89 @@
+//! The random history of a seed: a theory, and lines with the replies of the plain program. After each command all that can be
+//! asked is asked.
+use crate::drawn_commands::command;
+use crate::drawn_theories::{all_props, stretch, theory, TIMES};
+use crate::draws::Draws;
+use crate::queries::Query;
+use crate::server::Server;
+
+/// How many commands a history has.
+const COMMANDS: usize = 25;
+
+/// A line and the reply that it should have.
+pub struct Exchange {
+    pub line: String,
+    pub reply: String,
+}
+
+/// The text of a theory, and lines that are served over it.
+pub struct Dialogue {
+    pub theory: String,
+    pub exchanges: Vec<Exchange>,
+}
+
+impl Dialogue {
+    /// That of a seed: random commands, behind each of them all questions by one random stretch, and at the end by stretches from
+    /// each time.
+    pub fn of(seed: u64) -> Dialogue {
+        let mut draws = Draws::new(seed);
+        let theory = theory(&mut draws);
+        let mut dialogue = Dialogue {
+            theory: theory.to_string(),
+            exchanges: Vec::new(),
+        };
+        let mut server = Server::new(&theory);
+        for _ in 0..COMMANDS {
+            dialogue.add_command(&mut draws, &mut server);
+            dialogue.ask_all(&server, &[stretch(&mut draws)]);
+        }
+        dialogue.ask_all(&server, &TIMES.map(|at| (at, stretch(&mut draws).1)));
+        dialogue
+    }
+
+    /// The first lines, as many as are asked for or as there are, each with its line end.
+    pub fn lines(&self, count: usize) -> String {
+        let lines = self.exchanges.iter().map(|exchange| &exchange.line);
+        lines.take(count).map(|line| format!("{line}\n")).collect()
+    }
+
+    /// Adds a line and its reply.
+    fn add(&mut self, line: String, reply: String) {
+        self.exchanges.push(Exchange { line, reply });
+    }
+
+    /// Adds a random command.
+    fn add_command(&mut self, draws: &mut Draws, server: &mut Server<'_>) {
+        let (sender, command) = command(draws, server);
+        let prefix = sender.prefix();
+        let reply = server.answer(sender, &command);
+        self.add(format!("{prefix}{command}"), format!("{prefix}{reply}"));
+    }
+
+    /// Asks all that can be asked: each property for its intervals and broken begins and by some stretches, which properties hold at
+    /// each time, the clashes, the events, and what the last update changed.
+    fn ask_all(&mut self, server: &Server<'_>, stretches: &[(i64, i64)]) {
+        let history = server.history();
+        for query in queries(stretches) {
+            self.add(query.to_string(), query.reply(&history));
+        }
+        self.add("last".to_string(), server.last.to_string());
+    }
+}
+
+/// All questions about a history by some stretches.
+fn queries(stretches: &[(i64, i64)]) -> Vec<Query> {
+    let mut queries = Vec::new();
+    for prop in all_props() {
+        queries.push(Query::Intervals(prop.clone()));
+        queries.push(Query::Broken(prop.clone()));
+        for (from, until) in stretches {
+            queries.push(Query::Holds(prop.clone(), *from));
+            queries.push(Query::Why(prop.clone(), *from));
+            queries.push(Query::Through(prop.clone(), *from, *until));
+        }
+    }
+    queries.extend(TIMES.map(Query::At));
+    queries.push(Query::Clashes);
+    queries.push(Query::Events);
+    queries
+}

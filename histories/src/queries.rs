@@ -1,0 +1,129 @@
+//! Lines that ask a history, and the replies to them.
+use crate::history::{Entry, History, Span};
+use crate::terms::Term;
+use crate::theory::Kind;
+use std::fmt;
+
+/// A line that asks something of a history.
+pub enum Query {
+    Holds(Term, i64),
+    Through(Term, i64, i64),
+    Intervals(Term),
+    Broken(Term),
+    At(i64),
+    Why(Term, i64),
+    Clashes,
+    Events,
+}
+
+impl fmt::Display for Query {
+    fn fmt(&self, f: &mut fmt::Formatter<'_>) -> fmt::Result {
+        match self {
+            Query::Holds(prop, at) => write!(f, "holds {prop} {at}"),
+            Query::Through(prop, from, until) => write!(f, "through {prop} {from} {until}"),
+            Query::Intervals(prop) => write!(f, "intervals {prop}"),
+            Query::Broken(prop) => write!(f, "broken {prop}"),
+            Query::At(at) => write!(f, "at {at}"),
+            Query::Why(prop, at) => write!(f, "why {prop} {at}"),
+            Query::Clashes => f.write_str("clashes"),
+            Query::Events => f.write_str("events"),
+        }
+    }
+}
+
+impl Query {
+    /// The reply by a history.
+    pub fn reply(&self, history: &History<'_>) -> String {
+        match self {
+            Query::Holds(prop, at) => yes_or_no(history.holds(prop, *at)),
+            Query::Through(_, from, until) if until < from => "refused order".to_string(),
+            Query::Through(prop, from, until) => {
+                yes_or_no((*from..=*until).all(|at| history.holds(prop, at)))
+            }
+            Query::Intervals(prop) => list(history.intervals(prop).iter().map(interval)),
+            Query::Broken(prop) => list(history.broken(prop).iter().map(broken)),
+            Query::At(at) => {
+                let props = history.props().into_iter();
+                list(props.filter(|prop| history.holds(prop, *at)))
+            }
+            Query::Why(prop, at) => reason(history, prop, *at),
+            Query::Clashes => list(history.clashes()),
+            Query::Events => list(&history.events),
+        }
+    }
+}
+
+/// The reply whether something is so.
+fn yes_or_no(is_so: bool) -> String {
+    if is_so { "yes" } else { "no" }.to_string()
+}
+
+/// How many things there are, and each behind a blank.
+fn list<T: fmt::Display>(things: impl IntoIterator<Item = T>) -> String {
+    let things = things.into_iter();
+    let texts: Vec<String> = things.map(|thing| format!(" {thing}")).collect();
+    format!("{}{}", texts.len(), texts.concat())
+}
+
+/// An instant, or the word for there being none.
+fn instant(at: Option<i64>, none: &str) -> String {
+    at.map_or(none.to_string(), |at| at.to_string())
+}
+
+/// The begin and the end of a span, with a text between them.
+fn bounds(span: &Span, between: &str) -> String {
+    let (begin, end) = (instant(span.begin, "-inf"), instant(span.end, "inf"));
+    format!("{begin}{between}{end}")
+}
+
+/// An interval.
+fn interval(span: &Span) -> String {
+    let close = if span.end.is_some() { "]" } else { ")" };
+    format!("({}{close}", bounds(span, ","))
+}
+
+/// A broken begin.
+fn broken(span: &Span) -> String {
+    bounds(span, " ")
+}
+
+/// A word and a cause behind it, or nothing where there is none.
+fn cause(word: &str, entry: Option<&Entry>) -> String {
+    match entry {
+        Some(entry) => format!(" {word} {} rule {}", entry.id, entry.rule),
+        None => String::new(),
+    }
+}
+
+/// The reason why a property holds at a time, or why it does not, by its last begin before that.
+fn reason(history: &History<'_>, prop: &Term, at: i64) -> String {
+    let spans = history.spans(prop);
+    let Some(span) = spans.iter().rfind(|span| span.begin < Some(at)) else {
+        return "no never".to_string();
+    };
+    let bounds = bounds(span, " ");
+    match span.end {
+        Some(end) if span.is_broken => {
+            let by = cause("by", history.first_break(prop, end));
+            format!("no broken {bounds}{by}")
+        }
+        Some(end) if end < at => {
+            let by = cause("by", history.first_of(Kind::Terminates, prop, end));
+            format!("no ended {bounds}{by}")
+        }
+        _ => format!("yes {bounds}{}", causes(history, prop, span)),
+    }
+}
+
+/// What caused the begin of a span, and its end, if it has one.
+fn causes(history: &History<'_>, prop: &Term, span: &Span) -> String {
+    let origin = match span.begin {
+        Some(at) => cause("by", history.first_of(Kind::Initiates, prop, at)),
+        None => " initially".to_string(),
+    };
+    let until = match span.end {
+        Some(at) => cause("until", history.first_of(Kind::Terminates, prop, at)),
+        None => String::new(),
+    };
+    format!("{origin}{until}")
+}
