@@ -4,65 +4,92 @@ use ec_intervals::Begin;
 use ec_moment::Tick;
 use ec_outside::MemSink;
 use ec_reasons::{Cause, Origin, Reason, write_reason};
-use ec_terms::{Name, NoMemory};
+use ec_terms::Name;
 use std::alloc::Global;
+use std::process::Abort;
 
 /// Whether a reason is told as this text.
-fn is_told(alloc: Global, reason: &Reason<Tick>, text: &[u8]) -> Result<bool, NoMemory> {
-    let mut out = MemSink::new(alloc, 300, 3, &[], &[])?;
-    Ok(write_reason(reason, &mut out).is_ok() && out.bytes() == text)
+fn is_told(rt: &impl Abort, alloc: Global, reason: &Reason<Tick>, text: &[u8]) -> bool {
+    let mut out = MemSink::new(alloc, 300, 3, &[], &[]).expect(rt, "memory");
+    write_reason(reason, &mut out).is_ok() && out.bytes() == text
 }
 
 /// An event and a rule.
-fn cause(id: &Name, rule: u16) -> Cause {
+fn cause(rt: &impl Abort, id: &[u8], rule: u16) -> Cause {
     Cause {
-        id: id.copied(),
+        id: Name::from_bytes(id).expect(rt, "a name"),
         rule,
     }
 }
 
-/// Each kind of reason, with begins and ends of each kind.
-fn reasons_are_told(alloc: Global, e: &Name, f: &Name) -> Result<bool, NoMemory> {
-    let lasting = Reason::Yes {
-        from: Origin::At(Tick(-5), cause(e, 2)),
-        until: None,
-    };
-    let ending = Reason::Yes {
-        from: Origin::At(Tick(5), cause(e, 65535)),
-        until: Some((Tick(10), cause(f, 4))),
-    };
-    let initial = Reason::Yes {
+/// An end with its cause.
+fn end_of(rt: &impl Abort, at: Option<i64>) -> Option<(Tick, Cause)> {
+    Some((Tick(at?), cause(rt, b"f", 4)))
+}
+
+/// What began at a time by an event and a rule, and lasts or ended.
+fn begun(rt: &impl Abort, at: i64, rule: u16, until: Option<i64>) -> Reason<Tick> {
+    Reason::Yes {
+        from: Origin::At(Tick(at), cause(rt, b"e", rule)),
+        until: end_of(rt, until),
+    }
+}
+
+/// What was initial, and lasts or ended.
+fn initial(rt: &impl Abort, until: Option<i64>) -> Reason<Tick> {
+    Reason::Yes {
         from: Origin::Initial,
-        until: Some((Tick(7), cause(f, 4))),
-    };
-    let always = Reason::Yes {
-        from: Origin::Initial,
-        until: None,
-    };
-    let ended = Reason::Ended {
+        until: end_of(rt, until),
+    }
+}
+
+/// What ended at 10.
+fn past(rt: &impl Abort) -> Reason<Tick> {
+    Reason::Ended {
         from: Begin::At(Tick(5)),
         until: Tick(10),
-        by: cause(f, 4),
-    };
-    let broken = Reason::Broken {
+        by: cause(rt, b"f", 4),
+    }
+}
+
+/// What was broken at 10.
+fn broken(rt: &impl Abort) -> Reason<Tick> {
+    Reason::Broken {
         from: Begin::Initial,
         until: Tick(10),
-        by: cause(e, 1),
-    };
-    Ok(
-        is_told(alloc, &lasting, b"yes -5 inf by e rule 2")?
-            && is_told(alloc, &ending, b"yes 5 10 by e rule 65535 until f rule 4")?
-            && is_told(alloc, &initial, b"yes -inf 7 initially until f rule 4")?
-            && is_told(alloc, &always, b"yes -inf inf initially")?
-            && is_told(alloc, &Reason::Never, b"no never")?
-            && is_told(alloc, &ended, b"no ended 5 10 by f rule 4")?
-            && is_told(alloc, &broken, b"no broken -inf 10 by e rule 1")?,
-    )
+        by: cause(rt, b"e", 1),
+    }
+}
+
+/// The reasons of what holds, with begins and ends of each kind.
+fn holding_is_told(rt: &impl Abort, alloc: Global) -> bool {
+    is_told(
+        rt,
+        alloc,
+        &begun(rt, -5, 2, None),
+        b"yes -5 inf by e rule 2",
+    ) && is_told(
+        rt,
+        alloc,
+        &begun(rt, 5, 65535, Some(10)),
+        b"yes 5 10 by e rule 65535 until f rule 4",
+    ) && is_told(
+        rt,
+        alloc,
+        &initial(rt, Some(7)),
+        b"yes -inf 7 initially until f rule 4",
+    ) && is_told(rt, alloc, &initial(rt, None), b"yes -inf inf initially")
+}
+
+/// The reasons of what does not hold.
+fn not_holding_is_told(rt: &impl Abort, alloc: Global) -> bool {
+    is_told(rt, alloc, &Reason::Never, b"no never")
+        && is_told(rt, alloc, &past(rt), b"no ended 5 10 by f rule 4")
+        && is_told(rt, alloc, &broken(rt), b"no broken -inf 10 by e rule 1")
 }
 
 #[test]
 fn each_reason_has_its_text(rt: HostRuntime) {
-    let e = Name::from_bytes(b"e").expect(&rt, "a name");
-    let f = Name::from_bytes(b"f").expect(&rt, "a name");
-    assert!(rt; reasons_are_told(rt.alloc(), &e, &f) == Ok(true));
+    assert!(rt; holding_is_told(&rt, rt.alloc()));
+    assert!(rt; not_holding_is_told(&rt, rt.alloc()));
 }

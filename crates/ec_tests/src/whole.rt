@@ -5,18 +5,20 @@ use ec_outside::{MemFolder, MemSink, MemSource};
 use ec_server::run;
 use ec_terms::NoMemory;
 use std::alloc::Global;
+use std::process::Abort;
 use std::string::String;
 
 /// More than any reply or line here has.
 const ROOM: usize = 1 << 20;
 
 /// Words as the program gets them.
-fn words(alloc: Global, all: &[&str]) -> Result<Vec<String>, NoMemory> {
+fn words(rt: &impl Abort, alloc: Global, all: &[&str]) -> Vec<String> {
     let mut words = Vec::new(alloc);
     for word in all {
-        words.push(String::from_str(alloc, word)?)?;
+        let word = String::from_str(alloc, word).expect(rt, "memory");
+        words.push(word).expect(rt, "memory");
     }
-    Ok(words)
+    words
 }
 
 /// A folder with one file, named `t.ec`, whose calls of these numbers fail.
@@ -91,57 +93,61 @@ fn status_of(
 
 /// A run with these words.
 pub fn ran_over(
+    rt: &impl Abort,
     alloc: Global,
     all: &[&str],
     mut files: MemFolder,
     mut input: MemSource,
     mut output: MemSink,
-) -> Result<Outcome, NoMemory> {
-    let words = words(alloc, all)?;
+) -> Outcome {
+    let words = words(rt, alloc, all);
     let status = status_of(alloc, &words, &mut files, &mut input, &mut output);
-    Ok(Outcome { status, output })
+    Outcome { status, output }
 }
 
 /// A run over one file named `t.ec` and an input that comes in pieces of at most `most` bytes.
 pub fn ran(
+    rt: &impl Abort,
     alloc: Global,
     all: &[&str],
     theory: &[u8],
     lines: &[u8],
     most: usize,
-) -> Result<Outcome, NoMemory> {
-    let files = folder(alloc, theory, &[])?;
-    let input = source(alloc, lines, most, &[])?;
-    ran_over(alloc, all, files, input, wide_sink(alloc)?)
+) -> Outcome {
+    let files = folder(alloc, theory, &[]).expect(rt, "memory");
+    let input = source(alloc, lines, most, &[]).expect(rt, "memory");
+    let output = wide_sink(alloc).expect(rt, "memory");
+    ran_over(rt, alloc, all, files, input, output)
 }
 
 /// Whether `check` of a theory comes to a status and these bytes.
-pub fn checks(alloc: Global, theory: &[u8], status: u8, written: &[u8]) -> Result<bool, NoMemory> {
-    Ok(ran(alloc, &["check", "t.ec"], theory, b"", 4_096)?.is(status, written))
+pub fn checks(rt: &impl Abort, alloc: Global, theory: &[u8], status: u8, written: &[u8]) -> bool {
+    ran(rt, alloc, &["check", "t.ec"], theory, b"", 4_096).is(status, written)
 }
 
 /// Whether a run of `serve` comes to a status and these bytes, with an input in pieces of at most `most` bytes.
 pub fn serves(
+    rt: &impl Abort,
     alloc: Global,
-    theory: &[u8],
-    lines: &[u8],
+    (theory, lines): (&[u8], &[u8]),
     most: usize,
     status: u8,
     written: &[u8],
-) -> Result<bool, NoMemory> {
-    Ok(ran(alloc, &["serve", "t.ec"], theory, lines, most)?.is(status, written))
+) -> bool {
+    ran(rt, alloc, &["serve", "t.ec"], theory, lines, most).is(status, written)
 }
 
 /// Whether a run of `replay` comes to a status and these bytes, with nothing on the input.
 pub fn replays(
+    rt: &impl Abort,
     alloc: Global,
-    theory: &[u8],
-    lines: &[u8],
+    (theory, lines): (&[u8], &[u8]),
     status: u8,
     written: &[u8],
-) -> Result<bool, NoMemory> {
-    let files = folder_with_lines(alloc, theory, lines, &[])?;
-    let input = source(alloc, b"", 1, &[])?;
+) -> bool {
+    let files = folder_with_lines(alloc, theory, lines, &[]).expect(rt, "memory");
+    let input = source(alloc, b"", 1, &[]).expect(rt, "memory");
+    let output = wide_sink(alloc).expect(rt, "memory");
     let words = ["replay", "t.ec", "a.lines"];
-    Ok(ran_over(alloc, &words, files, input, wide_sink(alloc)?)?.is(status, written))
+    ran_over(rt, alloc, &words, files, input, output).is(status, written)
 }
