@@ -5,9 +5,10 @@ use ec_axioms::{Event, Steps};
 use ec_events::EventStore;
 use ec_moment::Tick;
 use ec_rows::{TimeRow, VecTimes};
-use ec_terms::{Args, Ground, Name, NoMemory};
+use ec_terms::{Args, Ground, Name};
 use std::alloc::Global;
 use std::marker::Brand;
+use std::process::Abort;
 use std::sync::ledger::{Blank, Ledger};
 
 /// An event of no arguments.
@@ -44,17 +45,27 @@ fn has_ids<X: TimeRow<Tick>, L: Ledger>(
     store.next(cursor).is_none()
 }
 
+/// A store without events, in a box.
+fn no_events<X: TimeRow<Tick> + Drop>(
+    rt: &impl Abort,
+    alloc: Global,
+) -> Box<EventStore<Tick, X>> {
+    let store = EventStore::<Tick, X>::new(alloc).expect(rt, "memory");
+    Box::new(alloc, store).expect(rt, "memory")
+}
+
 /// Puts an event into the store, or says that its identity is there.
 fn put<X: TimeRow<Tick>>(
+    rt: &impl Abort,
     store: &mut EventStore<Tick, X>,
     event: Event<Tick>,
-) -> Result<bool, NoMemory> {
+) -> bool {
     if store.find(&event.id).is_some() {
-        return Ok(false);
+        return false;
     }
-    store.reserve(1)?;
+    store.reserve(1).expect(rt, "memory");
     let _ = store.insert(event);
-    Ok(true)
+    true
 }
 
 /// Takes the event of an identity out of the store, if it is there.
@@ -70,31 +81,32 @@ fn take<X: TimeRow<Tick>, L: Ledger>(
     event.id == *id
 }
 
+/// Whether a store has no event, and this identity is in none.
+fn is_empty<X: TimeRow<Tick>>(store: &EventStore<Tick, X>, id: &Name) -> bool {
+    store.len() == 0 && store.next(store.first()).is_none() && store.find(id).is_none()
+}
+
+/// Whether events at one instant stand by their identities, and each once.
 fn orders_one_instant<X: TimeRow<Tick>, L: Ledger>(
+    rt: &impl Abort,
     alloc: Global,
     names: &[Name; 3],
+    store: &mut EventStore<Tick, X>,
     steps: &mut Steps<L>,
-) -> Result<bool, NoMemory> {
+) -> bool {
     let [p, q, r] = names;
-    let mut store = EventStore::<Tick, X>::new(alloc)?;
-    let first = store.first();
-    if store.len() != 0 || store.next(first).is_some() || store.find(p).is_some() {
-        return Ok(false);
-    }
-    let added = put(&mut store, event(alloc, 10, q))?
-        && put(&mut store, event(alloc, 10, p))?
-        && put(&mut store, event(alloc, 5, r))?
-        && !put(&mut store, event(alloc, 7, r))?;
-    Ok(
-        added
-            && store.len() == 3
-            && has_ids(&store, 10, &[b"p", b"q"], steps)
-            && has_ids(&store, 5, &[b"r", b"p", b"q"], steps)
-            && has_ids(&store, 11, &[], steps)
-            && take(&mut store, p, steps)
-            && !take(&mut store, p, steps)
-            && has_ids(&store, i64::MIN, &[b"r", b"q"], steps),
-    )
+    is_empty(store, p)
+        && put(rt, store, event(alloc, 10, q))
+        && put(rt, store, event(alloc, 10, p))
+        && put(rt, store, event(alloc, 5, r))
+        && !put(rt, store, event(alloc, 7, r))
+        && store.len() == 3
+        && has_ids(store, 10, &[b"p", b"q"], steps)
+        && has_ids(store, 5, &[b"r", b"p", b"q"], steps)
+        && has_ids(store, 11, &[], steps)
+        && take(store, p, steps)
+        && !take(store, p, steps)
+        && has_ids(store, i64::MIN, &[b"r", b"q"], steps)
 }
 
 /// The name of an event by its number, such that names go as the numbers do.
@@ -126,50 +138,65 @@ fn walks<X: TimeRow<Tick>, L: Ledger>(
     store.next(cursor).is_none()
 }
 
+/// Takes out the event of this number where it is present, and else puts it in at this time.
+fn change<X: TimeRow<Tick>, L: Ledger>(
+    rt: &impl Abort,
+    alloc: Global,
+    store: &mut EventStore<Tick, X>,
+    present: &mut Vec<Present>,
+    (at, number): Present,
+    steps: &mut Steps<L>,
+) -> bool {
+    let id = numbered(number).expect(rt, "a name");
+    match present.iter().position(|held| held.1 == number) {
+        Some(place) if place < present.len() => {
+            let _ = present.swap_remove(place);
+            take(store, &id, steps)
+        }
+        _ => {
+            present.push((at, number)).expect(rt, "memory");
+            put(rt, store, event(alloc, at, &id))
+        }
+    }
+}
+
 /// A thousand insertions and removals, in an order and at times that a generator picks.
 fn mixes_changes<X: TimeRow<Tick>, L: Ledger>(
+    rt: &impl Abort,
     alloc: Global,
+    store: &mut EventStore<Tick, X>,
     steps: &mut Steps<L>,
-) -> Result<bool, NoMemory> {
-    let mut store = EventStore::<Tick, X>::new(alloc)?;
+) -> bool {
     let mut present: Vec<Present> = Vec::new(alloc);
     let mut state: u32 = 1;
     for _ in 0..1000 {
         state = state.wrapping_mul(1664525).wrapping_add(1013904223);
         let number = (state >> 16) as u16 % 200;
         let at = (state >> 8) as i64 % 20 - 10;
-        let Some(id) = numbered(number) else {
-            return Ok(false);
-        };
-        let place = present.iter().position(|held| held.1 == number);
-        let changed = match place {
-            Some(place) if place < present.len() => {
-                let _ = present.swap_remove(place);
-                take(&mut store, &id, steps)
-            }
-            _ => {
-                present.push((at, number))?;
-                put(&mut store, event(alloc, at, &id))?
-            }
-        };
-        if !changed {
-            return Ok(false);
+        if !change(rt, alloc, store, &mut present, (at, number), steps) {
+            return false;
         }
     }
-    present.sort()?;
-    Ok(store.len() == present.len() && walks(&store, &present, steps))
+    present.sort().expect(rt, "memory");
+    store.len() == present.len() && walks(store, &present, steps)
 }
 
-fn all_pass<L: Ledger>(alloc: Global, names: &[Name; 3], blank: Blank) -> Result<bool, NoMemory>
+/// Whether all this is so of stores over rows of this kind.
+fn all_pass<X: TimeRow<Tick> + Drop, L: Ledger>(
+    rt: &impl Abort,
+    alloc: Global,
+    names: &[Name; 3],
+    blank: Blank,
+) -> bool
     requires name { blank.name ≡ L.name }
     requires parts { blank.parts ≡ L.parts }
     requires some { 0 < L.parts }
 {
     let mut steps = Steps::<L>::new(blank);
-    Ok(
-        orders_one_instant::<VecTimes<Tick>, L>(alloc, names, &mut steps)?
-            && mixes_changes::<VecTimes<Tick>, L>(alloc, &mut steps)?,
-    )
+    let mut few = no_events::<X>(rt, alloc);
+    let mut many = no_events::<X>(rt, alloc);
+    orders_one_instant(rt, alloc, names, &mut few, &mut steps)
+        && mixes_changes(rt, alloc, &mut many, &mut steps)
 }
 
 #[test]
@@ -177,5 +204,6 @@ fn a_store_keeps_its_events_in_order(rt: HostRuntime) {
     let p = Name::from_bytes(b"p").expect(&rt, "a name");
     let q = Name::from_bytes(b"q").expect(&rt, "a name");
     let r = Name::from_bytes(b"r").expect(&rt, "a name");
-    assert!(rt; all_pass::<Brand>(rt.alloc(), &[p, q, r], Blank::new(1)) == Ok(true));
+    let names = [p, q, r];
+    assert!(rt; all_pass::<VecTimes<Tick>, Brand>(&rt, rt.alloc(), &names, Blank::new(1)));
 }
