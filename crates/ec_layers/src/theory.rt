@@ -1,17 +1,38 @@
 //! Texts of theories, and what is said of each.
+ghost use Rattle.ec_check.specs.Numbering.{IsNumbered};
+
 use crate::tables::{bytes_of, row_of};
 use ec_check::{CheckFault, Many, check};
+use ec_terms::Theory;
 use ec_theory::{SyntaxFault, read_theory};
-use ec_tokens::{MOST_BYTES, Place, TokenFault, tokens};
-use std::alloc::{AllocError, Global};
+use ec_tokens::{MOST_BYTES, Place, TokenFault, TokenList, tokens};
+use std::alloc::Global;
 use std::process::Abort;
-use std::test::Fail;
 
-/// The line about a fault at a place.
-fn at(alloc: Global, place: Place, name: &str) -> Result<String, AllocError> {
+/// Whether this is said of a fault at a place.
+fn is_at(rt: &impl Abort, alloc: Global, place: Place, name: &str, wanted: &str) -> bool {
     let line = place.line;
     let col = place.col;
-    format!(in alloc; "theory {line} {col} {name}")
+    let said = format!(in alloc; "theory {line} {col} {name}").expect(rt, "memory");
+    said.as_str() == wanted
+}
+
+/// Whether this is said of a token that is wrong.
+fn is_bad_token(rt: &impl Abort, alloc: Global, fault: TokenFault, wanted: &str) -> bool {
+    match fault {
+        TokenFault::BadByte(place) => is_at(rt, alloc, place, "byte", wanted),
+        TokenFault::LongName(place) => is_at(rt, alloc, place, "long-name", wanted),
+        TokenFault::BigNumber(place) => is_at(rt, alloc, place, "number", wanted),
+        TokenFault::Memory => false,
+    }
+}
+
+/// Whether this is said of tokens that are no theory.
+fn is_bad_syntax(rt: &impl Abort, alloc: Global, fault: SyntaxFault, wanted: &str) -> bool {
+    match fault {
+        SyntaxFault::Syntax(place) => is_at(rt, alloc, place, "syntax", wanted),
+        SyntaxFault::Memory => false,
+    }
 }
 
 /// The name of what there is too much of.
@@ -28,55 +49,65 @@ fn many_name(many: Many) -> &'static str {
     }
 }
 
-/// The line about a clause that is wrong.
-fn wrong(alloc: Global, fault: CheckFault) -> Result<String, AllocError> {
+/// The clause that is wrong, and the name of what is wrong in it.
+fn wrong(fault: CheckFault) -> (u32, &'static str) {
     match fault {
-        CheckFault::Arity(clause) => format!(in alloc; "theory {clause} arity"),
-        CheckFault::TooMany(many, clause) => {
-            let name = many_name(many);
-            format!(in alloc; "theory {clause} {name}")
-        }
-        CheckFault::AnyInHead(clause) => format!(in alloc; "theory {clause} any"),
-        CheckFault::Unbound(clause, _) => format!(in alloc; "theory {clause} unbound"),
+        CheckFault::Arity(clause) => (clause, "arity"),
+        CheckFault::TooMany(many, clause) => (clause, many_name(many)),
+        CheckFault::AnyInHead(clause) => (clause, "any"),
+        CheckFault::Unbound(clause, _) => (clause, "unbound"),
     }
 }
 
-/// What is said of a text.
-fn said(alloc: Global, bytes: &[u8]) -> Result<String, AllocError> {
-    if bytes.len() > MOST_BYTES {
-        return format!(in alloc; "theory too-long");
-    }
-    let list = match tokens(alloc, bytes) {
-        Ok(list) => list,
-        Err(TokenFault::BadByte(place)) => return at(alloc, place, "byte"),
-        Err(TokenFault::LongName(place)) => return at(alloc, place, "long-name"),
-        Err(TokenFault::BigNumber(place)) => return at(alloc, place, "number"),
-        Err(TokenFault::Memory) => return format!(in alloc; "memory"),
-    };
-    let theory = match read_theory(alloc, &list) {
-        Ok(theory) => theory,
-        Err(SyntaxFault::Syntax(place)) => return at(alloc, place, "syntax"),
-        Err(SyntaxFault::Memory) => return format!(in alloc; "memory"),
-    };
+/// Whether this is said of a clause that is wrong.
+fn is_wrong(rt: &impl Abort, alloc: Global, fault: CheckFault, wanted: &str) -> bool {
+    let (clause, name) = wrong(fault);
+    let said = format!(in alloc; "theory {clause} {name}").expect(rt, "memory");
+    said.as_str() == wanted
+}
+
+/// Whether a theory has as many rules and declarations as are told.
+fn has_counts(rt: &impl Abort, alloc: Global, theory: &Theory, wanted: &str) -> bool {
     let rules = theory.rules.len();
     let exclusives = theory.exclusives.len();
     let strongs = theory.strongs.len();
-    let initials = theory.initials.len();
+    let said = format!(in alloc;
+        "accepted rules {rules} exclusives {exclusives} strongs {strongs}"
+    ).expect(rt, "memory");
+    said.as_str() == wanted
+}
+
+/// Whether a theory has as many clauses as are told. Initial properties are told where there are some.
+fn is_accepted(rt: &impl Abort, alloc: Global, theory: &Theory, wanted: &str) -> bool {
+    let (others, initials) = wanted.split_once(" initials ").unwrap_or((wanted, "0"));
+    initials.parse::<usize>() == Ok(theory.initials.len()) && has_counts(rt, alloc, theory, others)
+}
+
+/// Whether this is said of a theory that is read.
+fn is_said_when_read(rt: &impl Abort, alloc: Global, theory: Theory, wanted: &str) -> bool
+    requires { IsNumbered theory }
+{
     match check(theory) {
-        Ok(_) if initials == 0 => format!(in alloc;
-            "accepted rules {rules} exclusives {exclusives} strongs {strongs}"
-        ),
-        Ok(_) => format!(in alloc;
-            "accepted rules {rules} exclusives {exclusives} strongs {strongs} initials {initials}"
-        ),
-        Err(fault) => wrong(alloc, fault),
+        Ok(checked) => is_accepted(rt, alloc, checked.theory(), wanted),
+        Err(fault) => is_wrong(rt, alloc, fault, wanted),
+    }
+}
+
+/// Whether this is said of tokens.
+fn is_said_of_tokens(rt: &impl Abort, alloc: Global, list: &TokenList<'_>, wanted: &str) -> bool {
+    match read_theory(alloc, list) {
+        Ok(theory) => is_said_when_read(rt, alloc, theory, wanted),
+        Err(fault) => is_bad_syntax(rt, alloc, fault, wanted),
     }
 }
 
 /// Whether this is said of a text.
-fn is_said(alloc: Global, text: &str, wanted: &str) -> Result<bool, AllocError> {
-    let answer = said(alloc, text.as_bytes())?;
-    Ok(answer.as_str() == wanted)
+fn is_said(rt: &impl Abort, alloc: Global, bytes: &[u8], wanted: &str) -> bool {
+    assert!(rt; bytes.len() <= MOST_BYTES);
+    match tokens(alloc, bytes) {
+        Ok(list) => is_said_of_tokens(rt, alloc, &list, wanted),
+        Err(fault) => is_bad_token(rt, alloc, fault, wanted),
+    }
 }
 
 const LIGHTS: &str = "initiates push(P,L) lit(L) if powered(L), not lit(L).
@@ -147,26 +178,35 @@ initiates e p if not q(a,_). => theory 1 any
 strong at/9. strong => theory 1 20 syntax
 ";
 
+/// Whether what stands behind the arrow of a row is said of its text.
+fn stands(rt: &impl Abort, alloc: Global, spelt: &str, wanted: &str) -> bool {
+    let text = bytes_of(alloc, spelt).expect(rt, "memory");
+    is_said(rt, alloc, &text, wanted)
+}
+
 /// Sees that what is said of each text of a table is what stands behind it.
-fn play(rt: &impl Abort, alloc: Global, table: &str) -> Result<(), Fail> {
+fn play(rt: &impl Abort, alloc: Global, table: &str) {
     for line in table.lines() {
-        let Some((spelt, wanted)) = row_of(line) else {
-            continue;
-        };
-        let text = bytes_of(alloc, spelt)?;
-        let answer = said(alloc, &text)?;
-        assert!(rt; answer.as_str() == wanted, "{line}: {answer}");
+        if let Some((spelt, wanted)) = row_of(line) {
+            assert!(rt; stands(rt, alloc, spelt, wanted), "{line}");
+        }
     }
-    Ok(())
+}
+
+/// Whether a text is accepted with seven rules and one declaration.
+fn is_whole(rt: &impl Abort, alloc: Global, text: &str) -> bool {
+    is_said(
+        rt,
+        alloc,
+        text.as_bytes(),
+        "accepted rules 7 exclusives 1 strongs 0",
+    )
 }
 
 #[test]
-fn texts(rt: HostRuntime) -> Result<(), Fail> {
-    for whole in [LIGHTS, LENDING] {
-        let holds = is_said(rt.alloc(), whole, "accepted rules 7 exclusives 1 strongs 0")?;
-        assert!(rt; holds, "{whole}");
-    }
-    play(&rt, rt.alloc(), TEXTS)
+fn texts(rt: HostRuntime) {
+    assert!(rt; is_whole(&rt, rt.alloc(), LIGHTS) && is_whole(&rt, rt.alloc(), LENDING));
+    play(&rt, rt.alloc(), TEXTS);
 }
 
 /// Texts with initial properties, and what is said of each.
@@ -203,8 +243,8 @@ initially p. strong p/9. initially p(_). => theory 2 arity
 ";
 
 #[test]
-fn initial_properties(rt: HostRuntime) -> Result<(), Fail> {
-    play(&rt, rt.alloc(), INITIALS)
+fn initial_properties(rt: HostRuntime) {
+    play(&rt, rt.alloc(), INITIALS);
 }
 
 /// Each limit, at it and one over it.
@@ -234,8 +274,8 @@ strong p/8.{1048565  } => accepted rules 0 exclusives 0 strongs 1
 ";
 
 #[test]
-fn limits(rt: HostRuntime) -> Result<(), Fail> {
-    play(&rt, rt.alloc(), LIMITS)
+fn limits(rt: HostRuntime) {
+    play(&rt, rt.alloc(), LIMITS);
 }
 
 /// Clauses with two faults, of which the first in their order is told.
@@ -250,28 +290,17 @@ initiates e p(X,_). => theory 1 any
 ";
 
 #[test]
-fn the_first_fault_of_a_clause_is_told(rt: HostRuntime) -> Result<(), Fail> {
-    play(&rt, rt.alloc(), ORDER)
+fn the_first_fault_of_a_clause_is_told(rt: HostRuntime) {
+    play(&rt, rt.alloc(), ORDER);
 }
 
-/// The text of 1,024 rules over 16 events with 64 rules each.
-fn rules_over_events(alloc: Global) -> Result<String, AllocError> {
-    let mut text = String::new(alloc);
-    for i in 0..1024u32 {
-        let event = i / 64;
-        let rule = format!(in alloc; "initiates e{event} p.\n")?;
-        text.push_str(rule.as_str())?;
-    }
-    Ok(text)
-}
+/// 1,024 rules over 16 events with 64 rules each, and one rule more.
+const MANY_RULES: &str = "
+{64 initiates e0 p.|}{64 initiates e1 p.|}{64 initiates e2 p.|}{64 initiates e3 p.|}{64 initiates e4 p.|}{64 initiates e5 p.|}{64 initiates e6 p.|}{64 initiates e7 p.|}{64 initiates e8 p.|}{64 initiates e9 p.|}{64 initiates e10 p.|}{64 initiates e11 p.|}{64 initiates e12 p.|}{64 initiates e13 p.|}{64 initiates e14 p.|}{64 initiates e15 p.|} => accepted rules 1024 exclusives 0 strongs 0
+{64 initiates e0 p.|}{64 initiates e1 p.|}{64 initiates e2 p.|}{64 initiates e3 p.|}{64 initiates e4 p.|}{64 initiates e5 p.|}{64 initiates e6 p.|}{64 initiates e7 p.|}{64 initiates e8 p.|}{64 initiates e9 p.|}{64 initiates e10 p.|}{64 initiates e11 p.|}{64 initiates e12 p.|}{64 initiates e13 p.|}{64 initiates e14 p.|}{64 initiates e15 p.|}initiates last p. => theory 1025 many-rules
+";
 
-/// 1,025 rules over 17 events with at most 64 rules each, and one less.
 #[test]
-fn many_rules(rt: HostRuntime) -> Result<(), Fail> {
-    let mut text = rules_over_events(rt.alloc())?;
-    let accepted = "accepted rules 1024 exclusives 0 strongs 0";
-    assert!(rt; is_said(rt.alloc(), text.as_str(), accepted)?);
-    text.push_str("initiates last p.")?;
-    assert!(rt; is_said(rt.alloc(), text.as_str(), "theory 1025 many-rules")?);
-    Ok(())
+fn many_rules(rt: HostRuntime) {
+    play(&rt, rt.alloc(), MANY_RULES);
 }
