@@ -46,10 +46,7 @@ fn has_ids<X: TimeRow<Tick>, L: Ledger>(
 }
 
 /// A store without events, in a box.
-fn no_events<X: TimeRow<Tick> + Drop>(
-    rt: &impl Abort,
-    alloc: Global,
-) -> Box<EventStore<Tick, X>> {
+fn no_events<X: TimeRow<Tick> + Drop>(rt: &impl Abort, alloc: Global) -> Box<EventStore<Tick, X>> {
     let store = EventStore::<Tick, X>::new(alloc).expect(rt, "memory");
     Box::new(alloc, store).expect(rt, "memory")
 }

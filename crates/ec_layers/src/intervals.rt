@@ -1,8 +1,8 @@
 //! The intervals and the broken begins of worked rows of marks, and that a mended row is the one rebuilt.
-ghost use Rattle.std.specs.Prelude.{◌≡◌, IsTrue, OnOk};
+ghost use Rattle.std.specs.Prelude.{◌≡◌, ◌+◌, ◌<◌, ◌≤◌, IsTrue, length};
 ghost use Rattle.ec_axioms.specs.Marks.{spans_of};
-ghost use Rattle.ec_intervals.specs.Table.{has_row, members_at, plain_intervals};
-ghost use Rattle.ec_rows.specs.Marks.{is_counted};
+ghost use Rattle.ec_intervals.specs.Table.{IsGrown, has_row, members_at, plain_intervals, room_at, row_at};
+ghost use Rattle.ec_rows.specs.Marks.{IsMarkRow, is_counted, with_mark};
 ghost use Rattle.ec_rows.specs.PlainMarks.{plain_marks};
 
 use crate::tables::row_of;
@@ -10,13 +10,9 @@ use crate::tally::TallySpans;
 use ec_intervals::{Begin, Interval, Intervals, broken_after};
 use ec_moment::{Moment, Tick};
 use ec_rows::{End, Mark, MarkRow, SpanRow, VecMarks, VecSpans};
-use ec_terms::{NoMemory, PropId};
+use ec_terms::PropId;
 use std::alloc::Global;
 use std::process::Abort;
-use std::test::Fail;
-
-/// A mark: its time, and the three counts.
-type Given = (i64, u32, u32, u32);
 
 /// The property that the marks are of.
 const P: PropId = PropId(3);
@@ -34,6 +30,137 @@ const KINDS: [(u32, u32, u32); 6] = [
     (1, 0, 1),
 ];
 
+/// A mark with its three counts.
+fn mark(at: i64, inits: u32, terms: u32, clashes: u32) -> Mark<Tick>
+    ensures { (result.inits ≡ inits) × (result.terms ≡ terms) × (result.clashes ≡ clashes) }
+{
+    Mark {
+        at: Tick(at),
+        inits,
+        terms,
+        clashes,
+    }
+}
+
+/// A mark of a kind.
+fn mark_of_kind(at: i64, kind: usize) -> Mark<Tick> {
+    let (inits, terms, clashes) = KINDS[kind % 6];
+    mark(at, inits, terms, clashes)
+}
+
+/// Whether some count of a mark is not zero.
+fn is_counted<T: Moment>(mark: Mark<T>) -> bool
+    ensures { result ≡ is_counted mark }
+{
+    mark.inits > 0 || mark.terms > 0 || mark.clashes > 0
+}
+
+/// Puts a mark into a row.
+fn put<T: Moment, M: MarkRow<T>>(rt: &impl Abort, row: &mut M, mark: Mark<T>)
+    requires { IsTrue (is_counted mark) }
+    ensures { M.marks row.new ≡ with_mark T.rank mark (M.marks row.old) }
+{
+    row.reserve(1).expect(rt, "memory");
+    row.put(mark);
+}
+
+/// Puts a mark with a count into a row.
+fn put_counted<M: MarkRow<Tick>>(rt: &impl Abort, row: &mut M, mark: Mark<Tick>) {
+    if is_counted(mark) {
+        put(rt, row, mark);
+    }
+}
+
+/// Makes room for the intervals that a short row of marks spells.
+fn prepare<T: Moment, I: SpanRow<T>, M: MarkRow<T>>(
+    rt: &impl Abort,
+    intervals: &mut Intervals<T, I>,
+    p: PropId,
+    row: &M,
+)
+    ensures room { length (M.marks row.now) + 1 ≤ room_at p.0 intervals.new }
+    ensures buffer { length (M.marks row.now) < intervals.new.buffer }
+    ensures there { IsTrue (has_row p.0 intervals.new) }
+    ensures grown { IsGrown (row_at p.0 intervals.old) (row_at p.0 intervals.new) }
+    ensures row { IsMarkRow T.rank (M.marks row.now) }
+{
+    let marks = row.len();
+    assert!(rt; marks < 1000);
+    let ready = intervals.prepare(p, marks + 1, marks);
+    ready.expect(rt, "memory");
+}
+
+/// Rebuilds the intervals of a property from a short row of marks.
+fn rebuild<T: Moment, I: SpanRow<T>, M: MarkRow<T>>(
+    rt: &impl Abort,
+    intervals: &mut Intervals<T, I>,
+    p: PropId,
+    row: &M,
+    strong: bool,
+    initial: bool,
+)
+    ensures spelt { plain_intervals T.rank (members_at p.0 intervals.new) ≡ spans_of (plain_marks T.rank (M.marks row.now)) strong initial }
+    ensures there { IsTrue (has_row p.0 intervals.new) }
+    ensures row { IsMarkRow T.rank (M.marks row.now) }
+{
+    prepare(rt, intervals, p, row);
+    intervals.rebuild(p, row, strong, initial);
+}
+
+/// Puts a mark into a short row, and mends the intervals that it spelt.
+fn mend<T: Moment, I: SpanRow<T>, M: MarkRow<T>>(
+    rt: &impl Abort,
+    intervals: &mut Intervals<T, I>,
+    row: &mut M,
+    strong: bool,
+    initial: bool,
+    mark: Mark<T>,
+)
+    requires spelt { plain_intervals T.rank (members_at P.0 intervals.old) ≡ spans_of (plain_marks T.rank (M.marks row.old)) strong initial }
+    requires there { IsTrue (has_row P.0 intervals.old) }
+    requires row { IsMarkRow T.rank (M.marks row.old) }
+    requires counted { IsTrue (is_counted mark) }
+    ensures spelt { plain_intervals T.rank (members_at P.0 intervals.new) ≡ spans_of (plain_marks T.rank (M.marks row.new)) strong initial }
+    ensures there { IsTrue (has_row P.0 intervals.new) }
+    ensures row { IsMarkRow T.rank (M.marks row.new) }
+{
+    put(rt, row, mark);
+    prepare(rt, intervals, P, row);
+    intervals.splice_from(P, row, strong, initial, mark.at, mark.at);
+}
+
+/// A begin or an end that is spelt: `inf` is none.
+fn time_of(spelt: &str) -> Option<i64> {
+    spelt.parse::<i64>().ok()
+}
+
+/// A count that is spelt.
+fn count_of(rt: &impl Abort, spelt: &str) -> u32 {
+    spelt.parse::<u32>().expect(rt, "a count")
+}
+
+/// The mark that is spelt as `10:1,0,0`.
+fn mark_of(rt: &impl Abort, spelt: &str) -> Mark<Tick> {
+    let (at, counts) = spelt.split_once(':').expect(rt, "a mark");
+    let (inits, counts) = counts.split_once(',').expect(rt, "a count");
+    let (terms, clashes) = counts.split_once(',').expect(rt, "a count");
+    Mark {
+        at: Tick(time_of(at).expect(rt, "a time")),
+        inits: count_of(rt, inits),
+        terms: count_of(rt, terms),
+        clashes: count_of(rt, clashes),
+    }
+}
+
+/// The row of the marks that are spelt as `10:1,0,0 20:0,1,0`.
+fn row_of_marks<M: MarkRow<Tick>>(rt: &impl Abort, alloc: Global, spelt: &str) -> M {
+    let mut row = M::new(alloc).expect(rt, "memory");
+    for mark in spelt.split_whitespace() {
+        put_counted(rt, &mut row, mark_of(rt, mark));
+    }
+    row
+}
+
 /// A begin: before all events, or at a time.
 fn begin(at: Option<i64>) -> Begin<Tick> {
     match at {
@@ -50,215 +177,111 @@ fn end(at: Option<i64>) -> End<Tick> {
     }
 }
 
-/// A mark as it is given.
-fn mark(given: Given) -> Mark<Tick>
-    ensures { (result.inits ≡ given.1) × (result.terms ≡ given.2) × (result.clashes ≡ given.3) }
-{
-    let (at, inits, terms, clashes) = given;
-    Mark {
-        at: Tick(at),
-        inits,
-        terms,
-        clashes,
+/// The interval that is spelt as `5..10`.
+fn interval_of(rt: &impl Abort, spelt: &str) -> Interval<Tick> {
+    let (from, until) = spelt.split_once("..").expect(rt, "an interval");
+    Interval {
+        from: begin(time_of(from)),
+        end: end(time_of(until)),
     }
 }
 
-/// Whether some count of a mark is not zero.
-fn is_counted<T: Moment>(mark: Mark<T>) -> bool
-    ensures { result ≡ is_counted mark }
-{
-    mark.inits > 0 || mark.terms > 0 || mark.clashes > 0
+/// No intervals, in a box. What holds a box is proved at less cost than what holds its value.
+fn no_intervals<I: SpanRow<Tick>>(rt: &impl Abort, alloc: Global) -> Box<Intervals<Tick, I>> {
+    Box::new(alloc, Intervals::new(alloc)).expect(rt, "memory")
 }
 
-/// The row of the marks with a count.
-fn mark_row<M: MarkRow<Tick>>(alloc: Global, given: &[Given]) -> Result<M, NoMemory> {
-    let mut row = M::new(alloc)?;
-    for given in given {
-        let mark = mark(*given);
-        row.reserve(1)?;
-        if is_counted(mark) {
-            row.put(mark);
-        }
+/// Whether a begin is before all events, or the last begin of a property before it is this one.
+fn is_behind<I: SpanRow<Tick>>(
+    intervals: &Intervals<Tick, I>,
+    from: Begin<Tick>,
+    last: Option<Begin<Tick>>,
+) -> bool {
+    match from {
+        Begin::At(at) => intervals.last_begin_before(P, at) == last,
+        Begin::Initial => true,
     }
-    Ok(row)
 }
 
-/// Rebuilds the intervals of a property from a short row of marks.
-fn rebuild<T: Moment, I: SpanRow<T>, M: MarkRow<T>>(
-    intervals: &mut Intervals<T, I>,
-    p: PropId,
-    row: &M,
-    strong: bool,
-    initial: bool,
-) -> Result<(), NoMemory>
-    ensures spelt { OnOk result (plain_intervals T.rank (members_at p.0 intervals.new) ≡ spans_of (plain_marks T.rank (M.marks row.now)) strong initial) }
-    ensures there { OnOk result (IsTrue (has_row p.0 intervals.new)) }
-{
-    let len = row.len();
-    let Some(spans) = len.checked_add(1) else {
-        return Err(NoMemory);
-    };
-    intervals.prepare(p, spans, len)?;
-    intervals.rebuild(p, row, strong, initial);
-    Ok(())
+/// Whether a property has an interval at a place, the last begin before which is this one.
+fn stands_at<I: SpanRow<Tick>>(
+    intervals: &Intervals<Tick, I>,
+    i: usize,
+    wanted: Interval<Tick>,
+    last: Option<Begin<Tick>>,
+) -> bool {
+    i < intervals.len(P)
+        && intervals.member(P, i) == wanted
+        && is_behind(intervals, wanted.from, last)
 }
 
-/// Puts a mark into a short row, and mends the intervals that it spelt.
-fn mend<T: Moment, I: SpanRow<T>, M: MarkRow<T>>(
-    intervals: &mut Intervals<T, I>,
-    row: &mut M,
-    strong: bool,
-    initial: bool,
-    mark: Mark<T>,
-) -> Result<bool, NoMemory>
-    requires spelt { plain_intervals T.rank (members_at P.0 intervals.old) ≡ spans_of (plain_marks T.rank (M.marks row.old)) strong initial }
-    requires there { IsTrue (has_row P.0 intervals.old) }
-    requires counted { IsTrue (is_counted mark) }
-    ensures spelt { OnOk result (plain_intervals T.rank (members_at P.0 intervals.new) ≡ spans_of (plain_marks T.rank (M.marks row.new)) strong initial) }
-    ensures there { OnOk result (IsTrue (has_row P.0 intervals.new)) }
-{
-    if row.len() > 1000 {
-        return Err(NoMemory);
-    }
-    row.reserve(1)?;
-    row.put(mark);
-    let len = row.len();
-    let Some(spans) = len.checked_add(1) else {
-        return Err(NoMemory);
-    };
-    intervals.prepare(P, spans, len)?;
-    Ok(intervals.splice_from(P, row, strong, initial, mark.at, mark.at))
-}
-
-/// A begin or an end that is spelt: `inf` is none.
-fn time_of(spelt: &str) -> Option<i64> {
-    spelt.parse::<i64>().ok()
-}
-
-/// The marks that are spelt as `10:1,0,0 20:0,1,0`.
-fn marks_of(rt: &impl Abort, alloc: Global, spelt: &str) -> Result<Vec<Given>, NoMemory> {
-    let mut marks = Vec::new(alloc);
-    for mark in spelt.split_whitespace() {
-        let (at, counts) = mark.split_once(':').expect(rt, "a mark");
-        let mut counts = counts
-            .split(',')
-            .map(|count| count.parse::<u32>().unwrap_or(0));
-        let at = time_of(at).expect(rt, "a time");
-        let inits = counts.next().expect(rt, "a count");
-        let terms = counts.next().expect(rt, "a count");
-        let clashes = counts.next().expect(rt, "a count");
-        marks.push((at, inits, terms, clashes))?;
-    }
-    Ok(marks)
-}
-
-/// The begin and the end that are spelt as `5..10`.
-fn pair_of(rt: &impl Abort, spelt: &str) -> (Option<i64>, Option<i64>) {
-    let (from, until) = spelt.split_once("..").expect(rt, "a pair");
-    (time_of(from), time_of(until))
-}
-
-/// The begins and ends that are spelt as `5..10 20..inf`.
-fn pairs_of(
-    rt: &impl Abort,
-    alloc: Global,
-    spelt: &str,
-) -> Result<Vec<(Option<i64>, Option<i64>)>, NoMemory> {
-    let mut pairs = Vec::new(alloc);
-    for pair in spelt.split_whitespace() {
-        pairs.push(pair_of(rt, pair))?;
-    }
-    Ok(pairs)
-}
-
-/// Whether a property has these intervals.
+/// Whether a property has the intervals that are spelt as `5..10 20..inf`, and whether the last begin before each of them, and
+/// before a later time, is the one in front of it.
 fn has_members<I: SpanRow<Tick>>(
+    rt: &impl Abort,
     intervals: &Intervals<Tick, I>,
-    wanted: &[(Option<i64>, Option<i64>)],
+    wanted: &str,
 ) -> bool {
-    if intervals.len(P) != wanted.len() {
-        return false;
-    }
-    for i in 0..intervals.len(P) {
-        let interval = Interval {
-            from: begin(wanted[i].0),
-            end: end(wanted[i].1),
-        };
-        if intervals.member(P, i) != interval {
+    let mut count = 0usize;
+    let mut last = None;
+    for spelt in wanted.split_whitespace() {
+        let interval = interval_of(rt, spelt);
+        if !stands_at(intervals, count, interval, last) {
             return false;
         }
+        count = count.wrapping_add(1);
+        last = Some(interval.from);
     }
-    true
+    count == intervals.len(P) && intervals.last_begin_before(P, Tick(100)) == last
 }
 
-/// Whether the last begin of a property before each of these begins, and before a later time, is the one in front of it.
-fn has_last_begins<I: SpanRow<Tick>>(
-    intervals: &Intervals<Tick, I>,
-    wanted: &[(Option<i64>, Option<i64>)],
-) -> bool {
-    let mut last = None;
-    for (from, _) in wanted {
-        if let Begin::At(at) = begin(*from)
-            && intervals.last_begin_before(P, at) != last
-        {
-            return false;
-        }
-        last = Some(begin(*from));
+/// A broken begin, with its break as its end.
+fn broken_interval(found: Option<(Begin<Tick>, Tick)>) -> Option<Interval<Tick>> {
+    match found {
+        Some((from, at)) => Some(Interval {
+            from,
+            end: End::At(at),
+        }),
+        None => None,
     }
-    intervals.last_begin_before(P, Tick(100)) == last
+}
+
+/// Whether the next broken begin of a row behind a begin is this one, or none.
+fn is_next_broken<M: MarkRow<Tick>>(
+    row: &M,
+    kind: &str,
+    after: Option<Begin<Tick>>,
+    wanted: Option<Interval<Tick>>,
+) -> bool {
+    let found = broken_after(row, kind == "strong", kind == "initial", after);
+    broken_interval(found) == wanted
 }
 
 /// Whether the broken begins of a row are these, one after the other.
-fn has_broken<M: MarkRow<Tick>>(
-    row: &M,
-    strong: bool,
-    initial: bool,
-    wanted: &[(Option<i64>, Option<i64>)],
-) -> bool {
+fn has_broken<M: MarkRow<Tick>>(rt: &impl Abort, row: &M, kind: &str, wanted: &str) -> bool {
     let mut after = None;
-    for (from, at) in wanted {
-        let found = broken_after(row, strong, initial, after);
-        if found.map(|(from, at)| (from, End::At(at))) != Some((begin(*from), end(*at))) {
+    for spelt in wanted.split_whitespace() {
+        let interval = interval_of(rt, spelt);
+        if !is_next_broken(row, kind, after, Some(interval)) {
             return false;
         }
-        after = Some(begin(*from));
+        after = Some(interval.from);
     }
-    broken_after(row, strong, initial, after).is_none()
+    is_next_broken(row, kind, after, None)
 }
 
-/// The intervals that a row of marks spells, rebuilt over those of the other kind of property.
-fn rebuilt_over_others(
-    alloc: Global,
-    row: &VecMarks<Tick>,
-    strong: bool,
-    initial: bool,
-) -> Result<Intervals<Tick, VecSpans<Tick>>, NoMemory> {
-    let mut intervals = Intervals::new(alloc);
-    rebuild(&mut intervals, P, row, !strong, true)?;
-    rebuild(&mut intervals, P, row, strong, initial)?;
-    Ok(intervals)
-}
-
-/// Whether a property has these intervals, and the last begins that follow from them.
-fn has_wanted(
-    intervals: &Intervals<Tick, VecSpans<Tick>>,
-    wanted: &[(Option<i64>, Option<i64>)],
+/// Whether a row of marks, rebuilt over the intervals of the other kind of property, spells these intervals.
+fn has_intervals<I: SpanRow<Tick>, M: MarkRow<Tick>>(
+    rt: &impl Abort,
+    intervals: &mut Intervals<Tick, I>,
+    row: &M,
+    kind: &str,
+    wanted: &str,
 ) -> bool {
-    has_members(intervals, wanted) && has_last_begins(intervals, wanted)
-}
-
-/// Whether marks spell these intervals and these broken begins.
-fn spells(
-    alloc: Global,
-    marks: &[Given],
-    strong: bool,
-    initial: bool,
-    wanted: &[(Option<i64>, Option<i64>)],
-    broken: &[(Option<i64>, Option<i64>)],
-) -> Result<bool, NoMemory> {
-    let row: VecMarks<Tick> = mark_row(alloc, marks)?;
-    let intervals = rebuilt_over_others(alloc, &row, strong, initial)?;
-    Ok(has_wanted(&intervals, wanted) && has_broken(&row, strong, initial, broken))
+    let strong = kind == "strong";
+    rebuild(rt, &mut *intervals, P, row, !strong, true);
+    rebuild(rt, &mut *intervals, P, row, strong, kind == "initial");
+    has_members(rt, intervals, wanted)
 }
 
 /// The kind of a property and its marks, each with its time and its counts of starts, ends and clashes; the intervals and, behind
@@ -277,22 +300,36 @@ initial 7:0,1,0 => inf..7 broken
 initial 7:0,0,1 => broken inf..7
 ";
 
+/// Whether a row of marks spells these intervals and these broken begins.
+fn row_spells<M: MarkRow<Tick>>(
+    rt: &impl Abort,
+    alloc: Global,
+    row: &M,
+    kind: &str,
+    wanted: &str,
+) -> bool {
+    let (members, broken) = wanted.split_once("broken").expect(rt, wanted);
+    let mut intervals = no_intervals::<VecSpans<Tick>>(rt, alloc);
+    has_intervals(rt, &mut *intervals, row, kind, members) && has_broken(rt, row, kind, broken)
+}
+
+/// Whether the marks of a property of a kind spell these intervals and these broken begins.
+fn spells<M: MarkRow<Tick>>(rt: &impl Abort, alloc: Global, given: &str, wanted: &str) -> bool {
+    let (kind, marks) = given.split_once(' ').unwrap_or((given, ""));
+    let row: M = row_of_marks(rt, alloc, marks);
+    row_spells(rt, alloc, &row, kind, wanted)
+}
+
 #[test]
-fn marks_spell_intervals_and_broken_begins(rt: HostRuntime) -> Result<(), Fail> {
+fn marks_spell_intervals_and_broken_begins(rt: HostRuntime) {
     for line in ROWS.lines() {
-        let Some((given, wanted)) = row_of(line) else {
-            continue;
-        };
-        let (kind, marks) = given.split_once(' ').unwrap_or((given, ""));
-        let (members, broken) = wanted.split_once("broken").expect(&rt, line);
-        let marks = marks_of(&rt, rt.alloc(), marks)?;
-        let members = pairs_of(&rt, rt.alloc(), members)?;
-        let broken = pairs_of(&rt, rt.alloc(), broken)?;
-        let (strong, initial) = (kind == "strong", kind == "initial");
-        let holds = spells(rt.alloc(), &marks, strong, initial, &members, &broken)?;
-        assert!(rt; holds, "{line}");
+        if let Some((given, wanted)) = row_of(line) {
+            assert!(rt;
+                spells::<VecMarks<Tick>>(&rt, rt.alloc(), given, wanted),
+                "{line}"
+            );
+        }
     }
-    Ok(())
 }
 
 /// Whether two tables have the same intervals of the property.
@@ -311,121 +348,142 @@ fn have_same_members<I: SpanRow<Tick>>(
     true
 }
 
-/// Three marks whose kinds are the digits of a number.
-fn three_marks(kinds: usize) -> [Given; 3] {
-    let kind = |digit: usize| KINDS[digit % 6];
-    let (a, b, c) = (kind(kinds), kind(kinds / 6), kind(kinds / 36));
-    [(1, a.0, a.1, a.2), (3, b.0, b.1, b.2), (5, c.0, c.1, c.2)]
+/// The row of three marks whose kinds are the digits of a number.
+fn three_marks<M: MarkRow<Tick>>(rt: &impl Abort, alloc: Global, kinds: usize) -> M {
+    let mut row = M::new(alloc).expect(rt, "memory");
+    put_counted(rt, &mut row, mark_of_kind(1, kinds));
+    put_counted(rt, &mut row, mark_of_kind(3, kinds / 6));
+    put_counted(rt, &mut row, mark_of_kind(5, kinds / 36));
+    row
 }
 
-/// The intervals that a row of marks spells.
-fn rebuilt(
-    alloc: Global,
-    row: &VecMarks<Tick>,
-    strong: bool,
-    initial: bool,
-) -> Result<Intervals<Tick, VecSpans<Tick>>, NoMemory> {
-    let mut intervals = Intervals::new(alloc);
-    rebuild(&mut intervals, P, row, strong, initial)?;
-    Ok(intervals)
-}
-
-/// The intervals that a row of marks spells, mended by one more mark that is put into it. A mark with no count changes
-/// nothing.
-fn mended(
-    alloc: Global,
-    row: &mut VecMarks<Tick>,
+/// Rebuilds the intervals that a row of marks spells, and mends them by one more mark that is put into the row. A mark with no
+/// count changes nothing.
+fn rebuild_and_mend<I: SpanRow<Tick>, M: MarkRow<Tick>>(
+    rt: &impl Abort,
+    intervals: &mut Intervals<Tick, I>,
+    row: &mut M,
     mark: Mark<Tick>,
     strong: bool,
     initial: bool,
-) -> Result<Intervals<Tick, VecSpans<Tick>>, NoMemory> {
-    let mut intervals = Intervals::new(alloc);
-    rebuild(&mut intervals, P, row, strong, initial)?;
+) {
+    rebuild(rt, &mut *intervals, P, row, strong, initial);
     if is_counted(mark) {
-        mend(&mut intervals, row, strong, initial, mark)?;
+        mend(rt, &mut *intervals, row, strong, initial, mark);
     }
-    Ok(intervals)
+}
+
+/// Whether intervals are those that a row of marks spells, rebuilt.
+fn is_as_rebuilt<I: SpanRow<Tick>, M: MarkRow<Tick>>(
+    rt: &impl Abort,
+    alloc: Global,
+    intervals: &Intervals<Tick, I>,
+    row: &M,
+    strong: bool,
+    initial: bool,
+) -> bool {
+    let mut wanted = no_intervals(rt, alloc);
+    rebuild(rt, &mut *wanted, P, row, strong, initial);
+    have_same_members(intervals, &wanted)
 }
 
 /// Whether a row of three marks whose kinds are the digits of a number, mended by one more mark, has the intervals of
 /// the row rebuilt.
-fn is_mended(
+fn is_mended<I: SpanRow<Tick>, M: MarkRow<Tick>>(
+    rt: &impl Abort,
     alloc: Global,
     kinds: usize,
-    given: Given,
+    mark: Mark<Tick>,
     strong: bool,
     initial: bool,
-) -> Result<bool, NoMemory> {
-    let mut row: VecMarks<Tick> = mark_row(alloc, &three_marks(kinds))?;
-    let intervals = mended(alloc, &mut row, mark(given), strong, initial)?;
-    let wanted = rebuilt(alloc, &row, strong, initial)?;
-    Ok(have_same_members(&intervals, &wanted))
+) -> bool {
+    let mut row: M = three_marks(rt, alloc, kinds);
+    let mut intervals = no_intervals::<I>(rt, alloc);
+    rebuild_and_mend(rt, &mut *intervals, &mut row, mark, strong, initial);
+    is_as_rebuilt(rt, alloc, &*intervals, &row, strong, initial)
+}
+
+/// The same for a property of each kind.
+fn is_mended_for_each(rt: &impl Abort, alloc: Global, kinds: usize, mark: Mark<Tick>) -> bool {
+    is_mended::<VecSpans<Tick>, VecMarks<Tick>>(rt, alloc, kinds, mark, false, false)
+        && is_mended::<VecSpans<Tick>, VecMarks<Tick>>(rt, alloc, kinds, mark, true, false)
+        && is_mended::<VecSpans<Tick>, VecMarks<Tick>>(rt, alloc, kinds, mark, false, true)
 }
 
 #[test]
 fn mended_rows_are_those_rebuilt(rt: HostRuntime) {
-    let alloc = rt.alloc();
     for kinds in 0..216 {
         for at in 0..7 {
-            for (inits, terms, clashes) in KINDS {
-                let given = (at, inits, terms, clashes);
-                assert!(rt; is_mended(alloc, kinds, given, false, false) == Ok(true));
-                assert!(rt; is_mended(alloc, kinds, given, true, false) == Ok(true));
-                assert!(rt; is_mended(alloc, kinds, given, false, true) == Ok(true));
+            for kind in 0..6 {
+                let mark = mark_of_kind(at, kind);
+                assert!(rt; is_mended_for_each(&rt, rt.alloc(), kinds, mark));
             }
         }
     }
 }
 
-/// Starts and ends the property a hundred times, and starts it once more.
-fn pulse<M: MarkRow<Tick>>(
-    intervals: &mut Intervals<Tick, TallySpans>,
-    row: &mut M,
-) -> Result<(), NoMemory> {
-    rebuild(intervals, P, row, false, false)?;
-    for k in 1i64..101 {
-        let start = k.wrapping_mul(10);
-        let end = start.wrapping_add(5);
-        mend(intervals, row, false, false, mark((start, 1, 0, 0)))?;
-        mend(intervals, row, false, false, mark((end, 0, 1, 0)))?;
+/// The mark of a change: each even one starts the property, and each odd one ends it.
+fn mark_of_change(k: i64) -> Mark<Tick>
+    ensures { IsTrue (is_counted result) }
+{
+    let at = k.wrapping_mul(5).wrapping_add(10);
+    if k % 2 == 0 {
+        mark(at, 1, 0, 0)
+    } else {
+        mark(at, 0, 1, 0)
     }
-    mend(intervals, row, false, false, mark((2000, 1, 0, 0)))?;
-    Ok(())
 }
 
-/// How often the row of the other property was spliced.
-fn splices_of_other(intervals: &Intervals<Tick, TallySpans>) -> Option<u64> {
-    intervals.spans(Q).map(|row| row.splices())
+/// Starts and ends the property a hundred times, and starts it once more.
+fn pulse<I: SpanRow<Tick>, M: MarkRow<Tick>>(
+    rt: &impl Abort,
+    intervals: &mut Intervals<Tick, I>,
+    row: &mut M,
+) {
+    rebuild(rt, &mut *intervals, P, row, false, false);
+    for k in 0i64..201 {
+        mend(rt, &mut *intervals, row, false, false, mark_of_change(k));
+    }
+}
+
+/// How often the row of a property was spliced.
+fn splices(intervals: &Intervals<Tick, TallySpans>, p: PropId) -> Option<u64> {
+    match intervals.spans(p) {
+        Some(row) => Some(row.splices()),
+        None => None,
+    }
+}
+
+/// Whether the row that was pulsed has one splice for each change, and its last spans alone were touched.
+fn is_touched_last(intervals: &Intervals<Tick, TallySpans>) -> bool {
+    match intervals.spans(P) {
+        Some(row) => row.len() == 101 && row.splices() == 202 && row.least() == 99,
+        None => false,
+    }
 }
 
 /// Whether changes of one row touch the last spans of its property alone, by one splice for each change, and not the row of
 /// another property.
-fn touch_the_last_alone(
+fn touch_the_last_alone<M: MarkRow<Tick>>(
+    rt: &impl Abort,
     intervals: &mut Intervals<Tick, TallySpans>,
-    row: &mut VecMarks<Tick>,
-    other: &VecMarks<Tick>,
-) -> Result<bool, NoMemory> {
-    rebuild(intervals, Q, other, false, false)?;
-    let before = splices_of_other(intervals);
-    pulse(intervals, row)?;
-    if before.is_none() || splices_of_other(intervals) != before {
-        return Ok(false);
-    }
-    match intervals.spans(P) {
-        Some(tally) => Ok(tally.len() == 101 && tally.splices() == 202 && tally.least() == 99),
-        None => Ok(false),
-    }
+    row: &mut M,
+    other: &M,
+) -> bool {
+    rebuild(rt, &mut *intervals, Q, other, false, false);
+    let before = splices(intervals, Q);
+    pulse(rt, &mut *intervals, row);
+    before.is_some() && splices(intervals, Q) == before && is_touched_last(intervals)
 }
 
 /// The same from no row on.
-fn touches_the_last_alone(alloc: Global) -> Result<bool, NoMemory> {
-    let other: VecMarks<Tick> = mark_row(alloc, &[(1, 1, 0, 0)])?;
-    let mut row: VecMarks<Tick> = VecMarks::new(alloc)?;
-    let mut intervals = Intervals::new(alloc);
-    touch_the_last_alone(&mut intervals, &mut row, &other)
+fn touches_the_last_alone<M: MarkRow<Tick>>(rt: &impl Abort, alloc: Global) -> bool {
+    let other: M = row_of_marks(rt, alloc, "1:1,0,0");
+    let mut row: M = row_of_marks(rt, alloc, "");
+    touch_the_last_alone(rt, &mut no_intervals(rt, alloc), &mut row, &other)
 }
 
 #[test]
 fn a_late_change_touches_the_last_spans_alone(rt: HostRuntime) {
-    assert!(rt; touches_the_last_alone(rt.alloc()) == Ok(true));
+    assert!(rt; touches_the_last_alone::<VecMarks<Tick>>(&rt, rt.alloc()));
 }

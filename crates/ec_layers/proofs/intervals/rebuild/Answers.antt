@@ -5,5 +5,5 @@ use Rattle.ec_layers.proofs.intervals.rebuild.Goals as goal
 
 pub rebuild-requires-clause-room : goal.rebuild-requires-clause-room
 rebuild-requires-clause-room g c =
-    let most = length-spans_of g.T.Moment.rank (g.M.MarkRow.marks c.args.row.now) c.args.strong c.args.initial c.len-len.ensures.row in
-    omega (arith, most, c.len-len.ensures.len, c.in_ok-prepare.ensures.room)
+    let most = length-spans_of g.T.Moment.rank (g.M.MarkRow.marks c.args.row.now) c.args.strong c.args.initial c.prepare.ensures.row in
+    omega (arith, most, c.prepare.ensures.room)
