@@ -176,12 +176,32 @@ fn entry_of(rt: &impl Abort, spelt: &str) -> Option<(Slot, u8)> {
     Some((Slot(slot), place.parse::<u8>().expect(rt, spelt)))
 }
 
+/// Whether the dependent of this number in the run at an instant, if there is a run, is the one that is wanted.
+fn is_in_run(
+    entries: &Entries<Tick>,
+    p: PropId,
+    at: Tick,
+    k: usize,
+    wanted: Option<(Slot, u8)>,
+) -> bool {
+    let mut near = 1;
+    match entries.dependents_at(p, at, &mut near) {
+        Some(run) => run
+            .get(k)
+            .map(|dependent| (dependent.slot, dependent.place))
+            == wanted,
+        None => true,
+    }
+}
+
 /// Whether the dependent of a property at an instant, of which one tells as `1 10: 0`, is the one that is wanted.
 fn is_nth(rt: &impl Abort, entries: &Entries<Tick>, told: &str, wanted: &str) -> bool {
     let (place, k) = told.split_once(": ").expect(rt, told);
     let (p, at) = pair_of(rt, place);
     let k = k.parse::<usize>().expect(rt, told);
-    entries.dependent(PropId(p), Tick(at), k) == entry_of(rt, wanted)
+    let wanted = entry_of(rt, wanted);
+    entries.dependent(PropId(p), Tick(at), k) == wanted
+        && is_in_run(entries, PropId(p), Tick(at), k, wanted)
 }
 
 /// Sees that the dependents at an instant are those of a table.

@@ -14,7 +14,8 @@ use std::alloc::Global;
 use std::process::Abort;
 
 // The calls that are made of a table, one a line, and what they answer. `put` makes marks in one change: the number of a
-// property, the time, and how often it initiates, terminates and clashes there. `begin` leaves a property one initiation.
+// property, the time, and how often it initiates, terminates and clashes there. `begin` leaves a property one initiation. `next`
+// tells how many marks of a property are before a time, and the time of the first mark behind it.
 
 /// A property that is initiated and terminated twice.
 const CURRENCY: &str = "
@@ -34,6 +35,14 @@ current 1 30 => yes
 current 1 31 => no
 current 0 8 => no
 current 2 8 => no
+next 1 -9223372036854775808 => 0 7
+next 1 7 => 0 10
+next 1 8 => 1 10
+next 1 20 => 2 30
+next 1 30 => 3 none
+next 1 31 => 4 none
+next 0 8 => 0 none
+next 2 8 => 0 none
 ";
 
 /// Where 2 and 5 hold from before all events.
@@ -50,6 +59,9 @@ current 5 10 => yes
 current 5 11 => no
 current 3 10 => no
 current 3 11 => no
+next 2 0 => 0 none
+next 5 9 => 0 10
+next 5 11 => 1 none
 ";
 
 /// A change of two properties: at the front, in the middle, at the end, over a mark, of a mark, and of none.
@@ -282,6 +294,57 @@ fn is_current<C: Current<Tick>>(table: &C, p: PropId, at: Tick) -> bool {
     table.current(p, at)
 }
 
+/// Whether one search that begins at a place finds what the calls for the mark and for the currency answer.
+fn is_read_from<M: MarkRow<Tick>>(
+    points: &Points<Tick, M>,
+    p: PropId,
+    at: Tick,
+    near: usize,
+) -> bool {
+    let reading = points.read(p, at, near);
+    reading.mark == points.mark_at(p, at) && reading.is_current == is_current(points, p, at)
+}
+
+/// Whether it finds as many marks before the time as are told, and the next mark at the time that is told.
+fn is_next_from<M: MarkRow<Tick>>(
+    points: &Points<Tick, M>,
+    p: PropId,
+    at: Tick,
+    near: usize,
+    (before, next): (&str, &str),
+) -> bool {
+    let reading = points.read(p, at, near);
+    let next_at = reading.next.map(|mark| mark.at);
+    before.parse::<usize>() == Ok(reading.place) && next_at == time_of(next)
+}
+
+/// Whether searches from a first, a middle and a far place find what the other calls answer.
+fn is_read<M: MarkRow<Tick>>(points: &Points<Tick, M>, p: PropId, at: Tick) -> bool {
+    for near in [0, 2, 9] {
+        if !is_read_from(points, p, at, near) {
+            return false;
+        }
+    }
+    true
+}
+
+/// Whether they find the marks before a time and behind it that are spelt as `1 10`.
+fn is_next<M: MarkRow<Tick>>(
+    rt: &impl Abort,
+    points: &Points<Tick, M>,
+    p: PropId,
+    at: Tick,
+    spelt: &str,
+) -> bool {
+    let told = spelt.split_once(' ').expect(rt, spelt);
+    for near in [0, 2, 9] {
+        if !is_next_from(points, p, at, near, told) {
+            return false;
+        }
+    }
+    true
+}
+
 /// Asks of a property at a time, and says whether the answer is the one that is wanted.
 fn answers_at<M: MarkRow<Tick>>(
     rt: &impl Abort,
@@ -292,8 +355,9 @@ fn answers_at<M: MarkRow<Tick>>(
 ) -> bool {
     let (p, at) = place_of(rt, given);
     match name {
-        "mark" => has_mark(rt, points, p, at, wanted),
-        "current" => is_current(points, p, at) == (wanted == "yes"),
+        "mark" => has_mark(rt, points, p, at, wanted) && is_read(points, p, at),
+        "current" => is_current(points, p, at) == (wanted == "yes") && is_read(points, p, at),
+        "next" => is_next(rt, points, p, at, wanted),
         _ => false,
     }
 }
