@@ -52,7 +52,7 @@ impl<'a> TokenList<'a> {
     pub fn as_slice(&self) -> &[Token<'a>]
         ensures tokens { map lexeme_of result.now ≡ self.now.tokens }
         ensures spelling { IsTrue (list_all is_spelt (map lexeme_of result.now)) }
-        ensures most { length result.now ≤ 1048576 }
+        ensures most { length result.now ≤ MOST_BYTES }
     {
         self.items.as_slice()
     }
