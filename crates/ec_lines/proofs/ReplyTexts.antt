@@ -1,11 +1,8 @@
 -- How the texts of replies are put together.
-use Rattle.std.proofs.Common.{◌≡◌, ℕ, List, ◌++◌, append_assoc, append-nil, ap, ◌∙◌, refl}
+use Rattle.std.proofs.Common.{◌≡◌, ℕ, List, ◌++◌, append_assoc, ap, ◌∙◌, refl}
 use Rattle.std.specs.Prelude.{codes, decimal}
 use Rattle.ec_axioms.specs.declared.event.Cut.{Cut}
 use Rattle.ec_axioms.specs.Answers.{refused_commit, answer_text, cut_text}
-
--- parts that are added one after another are added joined
-pub ruleset texts = (append_assoc, append-nil)
 
 -- two parts that are added one after another
 pub two_parts : (start a b : List ℕ) {first all : List ℕ} → first ≡ start ++ a → all ≡ first ++ b → all ≡ start ++ (a ++ b)

@@ -4,7 +4,7 @@ ghost use Rattle.ec_outside.specs.Counts.{Rose};
 ghost use Rattle.ec_outside.specs.Streams.{Appended, AppendedPart};
 ghost use Rattle.ec_lines.specs.ShownAnswer.{plain_answer};
 
-use crate::reply_text::ReplyText;
+use crate::reply_text::{front, push_answer};
 use ec_axioms::{Cut, Seen};
 use ec_outside::{Failed, Sink, write_all};
 
@@ -35,7 +35,7 @@ pub enum Answer {
 /// Writes a whole reply line: the prefix if the line had one, the answer's text and the line end.
 /// `Failed` comes only where a call of the sink failed, and then some first part of the line was
 /// written.
-#[tactic(auto, unfolding(ec_axioms::specs::Answers::reply_text), using(crate::proofs::ReplyTexts::texts))]
+#[tactic(auto, unfolding(ec_axioms::specs::Answers::reply_text), using(ec_outside::proofs::Texts::texts))]
 pub fn write_answer<K: Sink>(
     session: Option<u8>,
     answer: &Answer,
@@ -46,20 +46,20 @@ pub fn write_answer<K: Sink>(
     ensures failed { OnErr result (Rose (K.faults out.old) (K.faults out.new)) }
     ensures counted { K.faults out.old ≤ K.faults out.new }
 {
-    let mut text = ReplyText::front(session);
-    text.push_answer(answer);
+    let mut text = front(session);
+    push_answer(&mut text, answer);
     text.push(b"\n");
     write_all(out, text.as_bytes())
 }
 
 /// Writes the prefix of a reply: `@`, the session's number without leading zeros and a space, and
 /// nothing where the line had no prefix. `Failed` is as for `write_answer`.
-#[tactic(auto, unfolding(ec_axioms::specs::Answers::reply_text), using(crate::proofs::ReplyTexts::texts))]
+#[tactic(auto, unfolding(ec_axioms::specs::Answers::reply_text), using(ec_outside::proofs::Texts::texts))]
 pub fn write_front<K: Sink>(session: Option<u8>, out: &mut K) -> Result<(), Failed>
     ensures written { OnOk result (Appended K.stands out.old out.new (front_text session)) }
     ensures part { OnErr result (AppendedPart K.stands out.old out.new (front_text session)) }
     ensures failed { OnErr result (Rose (K.faults out.old) (K.faults out.new)) }
     ensures counted { K.faults out.old ≤ K.faults out.new }
 {
-    write_all(out, ReplyText::front(session).as_bytes())
+    write_all(out, front(session).as_bytes())
 }

@@ -13,6 +13,7 @@ mod named_files;
 mod real;
 mod sink;
 mod source;
+mod text;
 
 pub use buffered::Buffered;
 pub use folder::{Folder, FolderAnswer};
@@ -22,3 +23,4 @@ pub use mem_source::MemSource;
 pub use real::{RealFolder, RealSink, RealSource};
 pub use sink::{Sink, write_all};
 pub use source::{Failed, Source};
+pub use text::Text;

@@ -12,7 +12,7 @@ ghost use Rattle.ec_query.specs.Members.{members_text};
 
 use crate::counted::write_count;
 use crate::marked::Marked;
-use crate::text::MemberText;
+use crate::text::{MemberText, set_broken};
 use ec_intervals::broken_after;
 use ec_moment::Moment;
 use ec_outside::{Failed, Sink, write_all};
@@ -49,7 +49,7 @@ fn write_members<T: Moment, M: MarkRow<T>, K: Sink>(
     let mut text = MemberText::new();
     let mut after = None;
     while let Some(found) = broken_after(row, strong, is_initial, after) {
-        text.set_broken(found.0, found.1);
+        set_broken(&mut text, found.0, found.1);
         write_all(out, text.as_bytes())?;
         after = Some(found.0);
     }

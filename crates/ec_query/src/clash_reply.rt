@@ -9,7 +9,7 @@ ghost use Rattle.ec_query.specs.Members.{members_text};
 
 use crate::counted::write_count;
 use crate::marked::Marked;
-use crate::text::MemberText;
+use crate::text::{MemberText, set_time};
 use ec_moment::Moment;
 use ec_outside::{Failed, Sink, write_all};
 use ec_points::Points;
@@ -41,7 +41,7 @@ fn write_members<T: Moment, M: MarkRow<T>, K: Sink>(
     let mut text = MemberText::new();
     let mut after = None;
     while let Some(at) = points.next_clash(after) {
-        text.set_time(at);
+        set_time(&mut text, at);
         write_all(out, text.as_bytes())?;
         after = Some(at);
     }

@@ -7,7 +7,7 @@ ghost use Rattle.ec_outside.specs.Streams.{Appended, AppendedPart};
 ghost use Rattle.ec_parts.specs.Caches.{AreEventsOf};
 
 use crate::counted::write_count;
-use crate::text::MemberText;
+use crate::text::{MemberText, set_event};
 use ec_axioms::Steps;
 use ec_events::EventStore;
 use ec_moment::Moment;
@@ -33,7 +33,7 @@ pub fn events<T: Moment, X: TimeRow<T>, K: Sink, L: Ledger>(
     let mut text = MemberText::new();
     let mut cursor = store.first();
     while let Some(found) = store.next(cursor) {
-        text.set_event(store.event(found.0, steps));
+        set_event(&mut text, store.event(found.0, steps));
         write_all(out, text.as_bytes())?;
         cursor = found.1;
     }

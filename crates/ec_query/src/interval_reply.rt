@@ -12,7 +12,7 @@ ghost use Rattle.ec_query.specs.Members.{members_text, span_text};
 
 use crate::counted::write_count;
 use crate::held::Held;
-use crate::text::MemberText;
+use crate::text::{MemberText, set_interval};
 use ec_intervals::{Begin, Interval, Intervals};
 use ec_moment::Moment;
 use ec_outside::{Failed, Sink, write_all};
@@ -28,10 +28,13 @@ fn write_run<T: Moment, K: Sink>(run: &[Span<T>], out: &mut K) -> Result<(), Fai
 {
     let mut text = MemberText::new();
     for span in run {
-        text.set_interval(Interval {
-            from: Begin::At(span.from),
-            end: span.end,
-        });
+        set_interval(
+            &mut text,
+            Interval {
+                from: Begin::At(span.from),
+                end: span.end,
+            },
+        );
         write_all(out, text.as_bytes())?;
     }
     Ok(())
@@ -62,10 +65,13 @@ fn write_front<T: Moment, K: Sink>(front: Option<End<T>>, out: &mut K) -> Result
 {
     let mut text = MemberText::new();
     if let Some(end) = front {
-        text.set_interval(Interval {
-            from: Begin::Initial,
-            end,
-        });
+        set_interval(
+            &mut text,
+            Interval {
+                from: Begin::Initial,
+                end,
+            },
+        );
     }
     write_all(out, text.as_bytes())
 }

@@ -15,7 +15,7 @@ ghost use Rattle.ec_query.specs.Members.{members_text};
 use crate::counted::write_count;
 use crate::held::Held;
 use crate::held_list::{HeldList, list_held};
-use crate::text::MemberText;
+use crate::text::{MemberText, set_term};
 use ec_moment::Moment;
 use ec_outside::{Failed, Sink, write_all};
 use ec_props::PropTable;
@@ -35,7 +35,7 @@ fn write_member<K: Sink>(
     ensures failed { OnErr result (Rose (K.faults out.old) (K.faults out.new)) }
     ensures counted { K.faults out.old ≤ K.faults out.new }
 {
-    text.set_term(&props.ground(p));
+    set_term(text, &props.ground(p));
     write_all(out, text.as_bytes())
 }
 

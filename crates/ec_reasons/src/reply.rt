@@ -12,7 +12,7 @@ ghost use Rattle.ec_reasons.specs.Texts.{told_reason};
 
 use crate::explaining::why;
 use crate::reason::Reason;
-use crate::text::ReasonText;
+use crate::text::text_of;
 use ec_axioms::Steps;
 use ec_moment::Moment;
 use ec_outside::{Failed, Sink, write_all};
@@ -31,7 +31,7 @@ pub fn write_reason<T: Moment, K: Sink>(reason: &Reason<T>, out: &mut K) -> Resu
     ensures failed { OnErr result (Rose (K.faults out.old) (K.faults out.new)) }
     ensures counted { K.faults out.old ≤ K.faults out.new }
 {
-    let text = ReasonText::of(reason);
+    let text = text_of(reason);
     write_all(out, text.as_bytes())
 }
 

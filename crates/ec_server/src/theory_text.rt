@@ -9,7 +9,7 @@ use ec_theory::{Refused, SyntaxFault};
 use ec_tokens::{Place, TokenFault};
 
 /// A fault of that name at a place.
-#[tactic(auto, unfolding(crate::specs::TheoryFiles::at_place, crate::specs::TheoryFiles::place_text), using(ec_lines::proofs::ReplyTexts::texts))]
+#[tactic(auto, unfolding(crate::specs::TheoryFiles::at_place, crate::specs::TheoryFiles::place_text), using(ec_outside::proofs::Texts::texts))]
 fn at_place(place: Place, name: &[u8]) -> ReplyText
     requires { length name.now ≤ 20 }
     ensures text { result ≡ at_place place name.now }
@@ -25,7 +25,7 @@ fn at_place(place: Place, name: &[u8]) -> ReplyText
 }
 
 /// A fault of that name in a clause.
-#[tactic(auto, unfolding(crate::specs::TheoryFiles::in_clause), using(ec_lines::proofs::ReplyTexts::texts))]
+#[tactic(auto, unfolding(crate::specs::TheoryFiles::in_clause), using(ec_outside::proofs::Texts::texts))]
 fn in_clause(clause: u32, name: &[u8]) -> ReplyText
     requires { length name.now ≤ 20 }
     ensures text { result ≡ in_clause clause name.now }
@@ -110,7 +110,7 @@ pub(crate) fn fault_text(refused: Refused) -> Option<ReplyText>
 }
 
 /// The line about a theory that is refused.
-#[tactic(auto, unfolding(crate::specs::TheoryFiles::theory_line), using(ec_lines::proofs::ReplyTexts::texts))]
+#[tactic(auto, unfolding(crate::specs::TheoryFiles::theory_line), using(ec_outside::proofs::Texts::texts))]
 pub(crate) fn theory_line(said: &ReplyText) -> ReplyText
     requires { length said.now ≤ 62 }
     ensures { result ≡ theory_line said.now }
@@ -123,7 +123,7 @@ pub(crate) fn theory_line(said: &ReplyText) -> ReplyText
 }
 
 /// How many rules, exclusive and strong declarations there are.
-#[tactic(auto, unfolding(crate::specs::TheoryFiles::counts_text), using(ec_lines::proofs::ReplyTexts::texts))]
+#[tactic(auto, unfolding(crate::specs::TheoryFiles::counts_text), using(ec_outside::proofs::Texts::texts))]
 fn counts_text(theory: &Theory) -> ReplyText
     ensures text { result ≡ counts_text theory.now }
     ensures short { length result ≤ 90 }
@@ -139,7 +139,7 @@ fn counts_text(theory: &Theory) -> ReplyText
 }
 
 /// Adds how many initial properties there are, if there are any.
-#[tactic(auto, unfolding(crate::specs::TheoryFiles::initials_text), using(ec_lines::proofs::ReplyTexts::texts))]
+#[tactic(auto, unfolding(crate::specs::TheoryFiles::initials_text), using(ec_outside::proofs::Texts::texts))]
 fn push_initials(line: &mut ReplyText, count: u64)
     requires { length line.old ≤ 100 }
     ensures text { line.new ≡ line.old ++ initials_text count }
@@ -152,7 +152,7 @@ fn push_initials(line: &mut ReplyText, count: u64)
 }
 
 /// The line about a theory that is accepted.
-#[tactic(auto, unfolding(crate::specs::TheoryFiles::accepted_line), using(ec_lines::proofs::ReplyTexts::texts))]
+#[tactic(auto, unfolding(crate::specs::TheoryFiles::accepted_line), using(ec_outside::proofs::Texts::texts))]
 pub(crate) fn accepted_line(theory: &Theory) -> ReplyText
     ensures { result ≡ accepted_line theory.now }
 {

@@ -3,7 +3,7 @@ ghost use Rattle.std.specs.Prelude.{◌≡◌, ◌<◌, ◌≤◌, ◌++◌, [],
 ghost use Rattle.ec_outside.specs.Streams.{Took, IsAtEnd};
 
 use crate::generated_lines::GeneratedLines;
-use crate::line_text::LineText;
+use crate::line_text::{LineText, text_of};
 use ec_outside::{Failed, Source};
 use std::marker::Model;
 
@@ -51,7 +51,7 @@ impl SoakSource {
     {
         if self.at == self.text.as_bytes().len() {
             if let Some(line) = self.lines.next_line() {
-                self.text = LineText::of_line(&line);
+                self.text = text_of(&line);
                 self.at = 0;
             }
         }

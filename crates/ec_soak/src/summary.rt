@@ -5,21 +5,21 @@ ghost use Rattle.ec_outside.specs.Streams.{Appended, AppendedPart};
 ghost use Rattle.ec_soak.specs.Tally.{summary_line};
 
 use crate::counts::Counts;
-use crate::line_text::LineText;
+use crate::line_text::{LineText, push_count, push_number};
 use ec_outside::{Failed, Sink, write_all};
 
 /// The line that sums up a run over so many lines.
-#[tactic(auto, unfolding(crate::specs::Tally::summary_line), using(crate::proofs::LineTexts::texts))]
+#[tactic(auto, unfolding(crate::specs::Tally::summary_line), using(ec_outside::proofs::Texts::texts))]
 fn summary_text(lines: u32, counts: &Counts) -> LineText
     ensures { result ≡ summary_line lines counts.now }
 {
     let mut text = LineText::new();
-    text.push_number(b"soak lines ", lines, b"");
-    text.push_count(b" ok ", counts.ok);
-    text.push_count(b" yes ", counts.yes);
-    text.push_count(b" no ", counts.no);
-    text.push_count(b" refused ", counts.refused);
-    text.push_count(b" bytes ", counts.bytes);
+    push_number(&mut text, b"soak lines ", lines, b"");
+    push_count(&mut text, b" ok ", counts.ok);
+    push_count(&mut text, b" yes ", counts.yes);
+    push_count(&mut text, b" no ", counts.no);
+    push_count(&mut text, b" refused ", counts.refused);
+    push_count(&mut text, b" bytes ", counts.bytes);
     text.push(b"\n");
     text
 }

@@ -16,7 +16,7 @@ returns-clause-given c =
           rw w.self-inside-is (
           sym c.self.view_is
           ∙ left-next c.self.inside.text _ c.self.inside.at _ _ w.in-Some.line
-          (w.if-self-as_bytes.true ∙ ap length c.as_bytes.ensures) w.in-Some.ensures.next w.of_line-self-inside.ensures.text
+          (w.if-self-as_bytes.true ∙ ap length c.as_bytes.ensures) w.in-Some.ensures.next w.text_of-self-inside.ensures.text
           )
       | then-self-as_bytes+in_default w ↦
           rw w.self-inside-is (sym c.self.view_is ∙ ap (λ lines. drop c.self.inside.at c.self.inside.text ++ load_of lines) w.in_default.ensures.next)

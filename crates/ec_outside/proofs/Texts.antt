@@ -1,4 +1,4 @@
--- How the texts of lines are put together.
+-- How texts are put together.
 use Rattle.std.proofs.Common.{append_assoc, append-nil}
 
 -- parts that are added one after another are added joined

@@ -1,7 +1,7 @@
 -- The lamp is added before the time.
 use Rattle.std.proofs.Common.{append_assoc, append-nil}
 use Rattle.ec_soak.specs.Load.{line_text}
-use Rattle.ec_soak.proofs.line_text.LineText.push_line.Goals as goal
+use Rattle.ec_soak.proofs.line_text.push_line.Goals as goal
 
 pub returns-in-HoldsLit-clause-text : goal.returns-in-HoldsLit-clause-text
 unfolding line_text

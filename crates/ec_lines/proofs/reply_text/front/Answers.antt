@@ -2,7 +2,7 @@
 use Rattle.std.proofs.Common.{◌++◌, ◌∙◌, length, ap, sym, arith}
 use Rattle.std.specs.Prelude.{codes, decimal}
 use Rattle.ec_axioms.specs.Answers.{front_text}
-use Rattle.ec_lines.proofs.reply_text.ReplyText.front.Goals as goal
+use Rattle.ec_lines.proofs.reply_text.front.Goals as goal
 
 pub returns-in-Some-clause-text : goal.returns-in-Some-clause-text
 unfolding front_text
