@@ -1,4 +1,4 @@
-ghost use Rattle.std.specs.Prelude.{◌≤◌, OnOk, OnErr};
+ghost use Rattle.std.specs.Prelude.{◌≡◌, ◌≤◌, OnOk, OnErr};
 ghost use Rattle.ec_axioms.specs.Answers.{reply_text, front_text};
 ghost use Rattle.ec_outside.specs.Counts.{Rose};
 ghost use Rattle.ec_outside.specs.Streams.{Appended, AppendedPart};
@@ -44,6 +44,7 @@ pub fn write_answer<K: Sink>(
     ensures written { OnOk result (Appended K.stands out.old out.new (reply_text session (plain_answer answer.now))) }
     ensures part { OnErr result (AppendedPart K.stands out.old out.new (reply_text session (plain_answer answer.now))) }
     ensures failed { OnErr result (Rose (K.faults out.old) (K.faults out.new)) }
+    ensures quiet { OnOk result (K.faults out.new ≡ K.faults out.old) }
     ensures counted { K.faults out.old ≤ K.faults out.new }
 {
     let mut text = front(session);
@@ -59,6 +60,7 @@ pub fn write_front<K: Sink>(session: Option<u8>, out: &mut K) -> Result<(), Fail
     ensures written { OnOk result (Appended K.stands out.old out.new (front_text session)) }
     ensures part { OnErr result (AppendedPart K.stands out.old out.new (front_text session)) }
     ensures failed { OnErr result (Rose (K.faults out.old) (K.faults out.new)) }
+    ensures quiet { OnOk result (K.faults out.new ≡ K.faults out.old) }
     ensures counted { K.faults out.old ≤ K.faults out.new }
 {
     write_all(out, front(session).as_bytes())

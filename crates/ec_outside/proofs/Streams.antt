@@ -2,7 +2,6 @@
 use Rattle.std.proofs.Common.{◌≡◌, ℕ, ◌≤◌, List, [], ◌++◌, take, drop, length, ◌-◌, Option, refl, sym, ◌∙◌, ap, subst, append_assoc, append-nil, take-append-drop, arith, ◌+◌, ◌+◌, Some}
 use Rattle.std.proofs.lemmas.List.{take_rest, take_at, drop-drop, length-take-le, length-drop, take_all}
 use Rattle.std.proofs.Math.Seq.{take-add}
-use Rattle.ec_outside.specs.Counts.{last_count}
 use Rattle.ec_outside.specs.Streams.{Appended, AppendedPart, Kept, Took}
 
 -- bytes taken, and then more
@@ -94,29 +93,27 @@ module _ {S : Type 0} {stands : S → List ℕ → Type 0} where
     appended = Appended-then-Kept some.appended kept;
   }
 
--- the first of the bytes have been appended, as many as the count says, and the faults have not fallen
+-- the first of the bytes have been appended, as many as the count says, and no fault was counted
 pub record WrittenSoFar {S : Type 0} (stands : S → List ℕ → Type 0) (faults : S → ℕ) (before after : S) (bytes : List ℕ) (count : ℕ) : Type 0 where
   pub within : count ≤ length bytes
   pub appended : Appended stands before after (take count bytes)
-  pub counted : faults before ≤ faults after
-  pub bounded : faults before ≤ last_count → faults after ≤ last_count
+  pub quiet : faults after ≡ faults before
 
 -- one more write
 pub WrittenSoFar-next : {S : Type 0} {stands : S → List ℕ → Type 0} {faults : S → ℕ} {before middle after : S} {bytes : List ℕ} {count : ℕ}
     → WrittenSoFar stands faults before middle bytes count
     → (taken : ℕ) → taken ≤ length (take (length bytes - count) (drop count bytes))
     → Appended stands middle after (take taken (take (length bytes - count) (drop count bytes)))
-    → faults middle ≤ faults after → (faults middle ≤ last_count → faults after ≤ last_count)
+    → faults after ≡ faults middle
     → WrittenSoFar stands faults before after bytes (count + taken)
-WrittenSoFar-next {stands = stands} {before = before} {middle = middle} {after = after} {bytes = bytes} {count = count} so_far taken fits appended counted bounded =
+WrittenSoFar-next {stands = stands} {before = before} {middle = middle} {after = after} {bytes = bytes} {count = count} so_far taken fits appended quiet =
     let rest : take (length bytes - count) (drop count bytes) ≡ drop count bytes = take_rest bytes count in
     let next : Appended stands before after (take count bytes ++ take taken (drop count bytes)) =
     Appended-then so_far.appended (subst (λ (all : List ℕ). Appended stands middle after (take taken all)) rest appended) in
     record {
       within = omega (arith, so_far.within, fits, ap length rest, length-drop count bytes);
       appended = subst (λ (all : List ℕ). Appended stands before after all) (sym (take-add count taken bytes)) next;
-      counted = omega (arith, so_far.counted, counted);
-      bounded = λ within. bounded (so_far.bounded within);
+      quiet = quiet ∙ so_far.quiet;
     }
 
 -- all or a part, as the count says

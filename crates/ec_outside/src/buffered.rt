@@ -80,6 +80,7 @@ impl<K: Sink> Buffered<K> {
         ensures kept { Kept (stands_with_waiting K.stands) self.old self.new }
         ensures all { OnOk result (self.new.1 ≡ []) }
         ensures failed { OnErr result (Rose (K.faults self.old.0) (K.faults self.new.0)) }
+        ensures quiet { OnOk result (K.faults self.new.0 ≡ K.faults self.old.0) }
         ensures counted { K.faults self.old.0 ≤ K.faults self.new.0 }
         ensures bounded { K.faults self.old.0 ≤ last_count → K.faults self.new.0 ≤ last_count }
     {
@@ -116,6 +117,7 @@ impl<K: Sink> Sink for Buffered<K> {
         ensures handed_on { OnOk result (length self.new.1 + K.waiting self.new.0 ≡ 0) }
         ensures kept { Kept (stands_with_waiting K.stands) self.old self.new }
         ensures failed { OnErr result (Rose (K.faults self.old.0) (K.faults self.new.0)) }
+        ensures quiet { OnOk result (K.faults self.new.0 ≡ K.faults self.old.0) }
         ensures counted { K.faults self.old.0 ≤ K.faults self.new.0 }
         ensures bounded { K.faults self.old.0 ≤ last_count → K.faults self.new.0 ≤ last_count }
 

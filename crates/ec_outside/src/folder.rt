@@ -38,6 +38,7 @@ pub trait Folder {
         // When there are none.
         ensures failed { IsErrOf result FolderAnswer.Failed →
             Rose (faults self.old) (faults self.new) ⊎ IsMissing (files self.old) name.now }
+        ensures quiet { IsErrOf result FolderAnswer.Failed ⊎ (faults self.new ≡ faults self.old) }
         ensures missing { IsMissing (files self.old) name.now → faults self.new ≡ faults self.old }
         ensures long { IsErrOf result FolderAnswer.Long → IsSome (files self.old) →
             IsTooLong (files self.old) name.now most }

@@ -71,6 +71,7 @@ impl Folder for MemFolder {
         ensures exact { OnOk result (IsSome (Some self.old.files) → HasFile (Some self.old.files) name.now into.new.items) }
         ensures failed { IsErrOf result FolderAnswer.Failed →
             Rose self.old.faults self.new.faults ⊎ IsMissing (Some self.old.files) name.now }
+        ensures quiet { IsErrOf result FolderAnswer.Failed ⊎ (self.new.faults ≡ self.old.faults) }
         ensures missing { IsMissing (Some self.old.files) name.now → self.new.faults ≡ self.old.faults }
         ensures long { IsErrOf result FolderAnswer.Long → IsSome (Some self.old.files) →
             IsTooLong (Some self.old.files) name.now most }

@@ -1,4 +1,4 @@
-ghost use Rattle.std.specs.Prelude.{◌≡◌, ℕ, ◌<◌, ◌≤◌, ◌↔◌, List, [], ◌++◌, length, take, if◌then◌else◌, IsTrue, IsErr, IfOk, OnErr};
+ghost use Rattle.std.specs.Prelude.{◌≡◌, ℕ, ◌<◌, ◌≤◌, ◌↔◌, List, [], ◌++◌, length, take, if◌then◌else◌, IsTrue, IsErr, IfOk, OnOk, OnErr};
 ghost use Rattle.ec_outside.specs.Calls.{no_calls, next_fails, one_more};
 ghost use Rattle.ec_outside.specs.Counts.{Rose, last_count, next_count};
 ghost use Rattle.ec_outside.specs.SinkState.{stands_for, write_fails, taken_count};
@@ -84,6 +84,7 @@ impl Sink for MemSink {
         ensures appended { IfOk result (λ n. Appended stands_for self.old self.new (take n from.now)) }
         ensures kept { OnErr result (Kept stands_for self.old self.new) }
         ensures failed { OnErr result (Rose self.old.faults self.new.faults) }
+        ensures quiet { OnOk result (self.new.faults ≡ self.old.faults) }
         ensures counted { self.old.faults ≤ self.new.faults }
         ensures bounded { self.new.faults ≤ last_count }
 
@@ -116,6 +117,7 @@ impl Sink for MemSink {
         // As for every sink.
         ensures kept { Kept stands_for self.old self.new }
         ensures failed { OnErr result (Rose self.old.faults self.new.faults) }
+        ensures quiet { OnOk result (self.new.faults ≡ self.old.faults) }
         ensures counted { self.old.faults ≤ self.new.faults }
         ensures bounded { self.new.faults ≤ last_count }
 

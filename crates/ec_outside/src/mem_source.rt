@@ -1,4 +1,4 @@
-ghost use Rattle.std.specs.Prelude.{◌≡◌, ℕ, ◌<◌, ◌≤◌, ◌↔◌, Some, List, length, take, drop, if◌then◌else◌, IsTrue, IsErr, IfOk, OnErr};
+ghost use Rattle.std.specs.Prelude.{◌≡◌, ℕ, ◌<◌, ◌≤◌, ◌↔◌, Some, List, length, take, drop, if◌then◌else◌, IsTrue, IsErr, IfOk, OnOk, OnErr};
 ghost use Rattle.ec_outside.specs.Calls.{no_calls, next_fails, one_more};
 ghost use Rattle.ec_outside.specs.Counts.{Rose, last_count, next_count};
 ghost use Rattle.ec_outside.specs.SourceState.{given_count};
@@ -68,6 +68,7 @@ impl Source for MemSource {
         ensures end { IfOk result (λ n. n ≡ 0 → 0 < length into.new → IsAtEnd (Some self.new.left)) }
         ensures unchanged { OnErr result (Some self.new.left ≡ Some self.old.left) }
         ensures failed { OnErr result (Rose self.old.faults self.new.faults) }
+        ensures quiet { OnOk result (self.new.faults ≡ self.old.faults) }
         ensures counted { self.old.faults ≤ self.new.faults }
         ensures bounded { self.new.faults ≤ last_count }
 

@@ -23,6 +23,7 @@ pub trait Sink {
         ensures appended { IfOk result (λ n. Appended stands self.old self.new (take n from.now)) }
         ensures kept { OnErr result (Kept stands self.old self.new) }
         ensures failed { OnErr result (Rose (faults self.old) (faults self.new)) }
+        ensures quiet { OnOk result (faults self.new ≡ faults self.old) }
         ensures counted { faults self.old ≤ faults self.new }
         ensures bounded { faults self.old ≤ last_count → faults self.new ≤ last_count };
 
@@ -31,6 +32,7 @@ pub trait Sink {
         ensures handed_on { OnOk result (waiting self.new ≡ 0) }
         ensures kept { Kept stands self.old self.new }
         ensures failed { OnErr result (Rose (faults self.old) (faults self.new)) }
+        ensures quiet { OnOk result (faults self.new ≡ faults self.old) }
         ensures counted { faults self.old ≤ faults self.new }
         ensures bounded { faults self.old ≤ last_count → faults self.new ≤ last_count };
 }
@@ -42,6 +44,7 @@ pub(crate) fn write_counted<K: Sink>(out: &mut K, bytes: &[u8]) -> (usize, Resul
     ensures appended { Appended K.stands out.old out.new (take result.0 bytes.now) }
     ensures all { OnOk result.1 (result.0 ≡ length bytes.now) }
     ensures failed { OnErr result.1 (Rose (K.faults out.old) (K.faults out.new)) }
+    ensures quiet { OnOk result.1 (K.faults out.new ≡ K.faults out.old) }
     ensures counted { K.faults out.old ≤ K.faults out.new }
     ensures bounded { K.faults out.old ≤ last_count → K.faults out.new ≤ last_count }
 {
@@ -60,6 +63,7 @@ pub fn write_all<K: Sink>(out: &mut K, bytes: &[u8]) -> Result<(), Failed>
     ensures written { OnOk result (Appended K.stands out.old out.new bytes.now) }
     ensures part { OnErr result (AppendedPart K.stands out.old out.new bytes.now) }
     ensures failed { OnErr result (Rose (K.faults out.old) (K.faults out.new)) }
+    ensures quiet { OnOk result (K.faults out.new ≡ K.faults out.old) }
     ensures counted { K.faults out.old ≤ K.faults out.new }
     ensures bounded { K.faults out.old ≤ last_count → K.faults out.new ≤ last_count }
 {

@@ -1,4 +1,4 @@
-ghost use Rattle.std.specs.Prelude.{◌≡◌, ℕ, ◌<◌, ◌≤◌, List, length, take, Option, IfOk, OnErr, Some, codes};
+ghost use Rattle.std.specs.Prelude.{◌≡◌, ℕ, ◌<◌, ◌≤◌, List, length, take, Option, IfOk, OnOk, OnErr, Some, codes};
 ghost use Rattle.ec_outside.specs.Counts.{Rose, last_count};
 ghost use Rattle.ec_outside.specs.Streams.{Took, IsAtEnd};
 
@@ -35,6 +35,7 @@ pub trait Source {
         ensures end { IfOk result (λ n. n ≡ 0 → 0 < length into.new → IsAtEnd (left self.new)) }
         ensures unchanged { OnErr result (left self.new ≡ left self.old) }
         ensures failed { OnErr result (Rose (faults self.old) (faults self.new)) }
+        ensures quiet { OnOk result (faults self.new ≡ faults self.old) }
         ensures counted { faults self.old ≤ faults self.new }
         ensures bounded { faults self.old ≤ last_count → faults self.new ≤ last_count };
 }

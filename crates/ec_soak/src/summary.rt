@@ -30,6 +30,7 @@ pub fn write_summary<K: Sink>(lines: u32, counts: &Counts, out: &mut K) -> Resul
     ensures written { OnOk result (Appended K.stands out.old out.new (summary_line lines counts.now)) }
     ensures part { OnErr result (AppendedPart K.stands out.old out.new (summary_line lines counts.now)) }
     ensures failed { OnErr result (Rose (K.faults out.old) (K.faults out.new)) }
+    ensures quiet { OnOk result (K.faults out.new ≡ K.faults out.old) }
     ensures counted { K.faults out.old ≤ K.faults out.new }
     ensures bounded { K.faults out.old ≤ last_count → K.faults out.new ≤ last_count }
 {

@@ -4,7 +4,7 @@ use Rattle.ec_outside.proofs.sink.write_counted.Goals as goal
 
 pub loop-written-preserved : goal.loop-written-preserved
 loop-written-preserved g c =
-    WrittenSoFar-next c.loop-written.invariant c.in-Ok.taken c.in-Ok.ensures.within c.in-Ok.ensures.appended c.in-Ok.ensures.counted c.in-Ok.ensures.bounded
+    WrittenSoFar-next c.loop-written.invariant c.in-Ok.taken c.in-Ok.ensures.within c.in-Ok.ensures.appended c.in-Ok.ensures.quiet
 
 pub returns-in-Err-clause-all : goal.returns-in-Err-clause-all
 returns-in-Err-clause-all g c = tt
