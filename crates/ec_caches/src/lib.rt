@@ -1,8 +1,11 @@
-//! The calls of the tables and caches that the engine keeps, each used as the engine uses it.
+//! The calls of the tables and caches that the engine keeps, each used as the engine uses it; and those of the engine, of queries
+//! and of reasons.
 #![tactic(auto)]
 
 #[cfg(test)]
 mod delta;
+#[cfg(test)]
+mod engine;
 #[cfg(test)]
 mod entries;
 #[cfg(test)]
@@ -16,4 +19,10 @@ mod points_tally;
 #[cfg(test)]
 mod props;
 #[cfg(test)]
+mod queries;
+#[cfg(test)]
+mod reasons;
+#[cfg(test)]
 mod revise;
+#[cfg(test)]
+mod spans;

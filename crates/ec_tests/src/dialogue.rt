@@ -1,82 +1,116 @@
-//! Lines beside their replies, in tables: the rows of ec_layers' `tables`.
-use crate::whole::{replays, serves};
-use ec_layers::tables::row_of;
-use ec_terms::NoMemory;
+//! Tables of dialogues: the lines of one run beside their replies.
+//!
+//! ```text
+//! # what the dialogue shows ; theory ROOMS initially powered(a).
+//! assert p 5 plug(a) => ok
+//! % a line without a reply =>
+//! 1..20: assert q* * push(bob,r+) => ok
+//! ```
+//!
+//! A dialogue begins at its heading, where parts may stand that its run has, as in `cases`. A row that begins with a range is a line
+//! for each number, which stands in place of `*`, and its rest by 257 in place of `+`.
+use crate::cases::{is_met, set_all};
+use crate::whole::{Case, SERVED};
 use std::alloc::Global;
 use std::process::Abort;
+use std::string::String;
 
-/// The bytes of many lines, and those of the replies to them.
+/// Many lines, and the replies to them.
 #[derive(Drop)]
 pub struct Script {
     /// The lines with their ends.
-    pub lines: Vec<u8>,
+    pub lines: String,
     /// The replies with their ends.
-    pub replies: Vec<u8>,
+    pub replies: String,
+}
+
+/// Adds a line and its end to a text.
+fn push_line(rt: &impl Abort, text: &mut String, line: &str) {
+    text.push_str(line).expect(rt, "memory");
+    text.push('\n').expect(rt, "memory");
+}
+
+/// A text with a number in place of `*`, and with its rest by 257 in place of `+`.
+fn numbered(rt: &impl Abort, alloc: Global, text: &str, number: u32) -> String {
+    let mut told = String::new(alloc);
+    let rest = number % 257;
+    for letter in text.chars() {
+        let added = match letter {
+            '*' => write!(told, "{number}"),
+            '+' => write!(told, "{rest}"),
+            _ => told.push(letter),
+        };
+        added.expect(rt, "memory");
+    }
+    told
 }
 
 impl Script {
     /// No lines.
     pub fn new(alloc: Global) -> Script {
         Script {
-            lines: Vec::new(alloc),
-            replies: Vec::new(alloc),
+            lines: String::new(alloc),
+            replies: String::new(alloc),
         }
     }
 
     /// Adds a line and its reply, both without their ends. A line that gets no reply has an empty one here.
-    fn try_add(&mut self, line: &str, reply: &str) -> Result<(), NoMemory> {
-        self.lines.extend_from_slice(line.as_bytes())?;
-        self.lines.push(b'\n')?;
-        if !reply.is_empty() {
-            self.replies.extend_from_slice(reply.as_bytes())?;
-            self.replies.push(b'\n')?;
-        }
-        Ok(())
-    }
-
-    /// Adds a line and its reply.
     pub fn add(&mut self, rt: &impl Abort, line: &str, reply: &str) {
-        self.try_add(line, reply).expect(rt, "memory");
+        push_line(rt, &mut self.lines, line);
+        if !reply.is_empty() {
+            push_line(rt, &mut self.replies, reply);
+        }
     }
 
-    /// Adds the lines of a table and their replies.
-    pub fn add_all(&mut self, rt: &impl Abort, table: &str) {
+    /// Adds a line and its reply for each number of a range.
+    fn add_range(&mut self, rt: &impl Abort, alloc: Global, range: &str, row: (&str, &str)) {
+        let (first, last) = range.split_once("..").expect(rt, range);
+        let first = first.parse::<u32>().ok().expect(rt, range);
+        let last = last.parse::<u32>().ok().expect(rt, range);
+        for number in first..=last {
+            let line = numbered(rt, alloc, row.0, number);
+            let reply = numbered(rt, alloc, row.1, number);
+            self.add(rt, line.as_str(), reply.as_str());
+        }
+    }
+
+    /// Adds what a row tells: a line and its reply, or one for each number.
+    fn add_row(&mut self, rt: &impl Abort, alloc: Global, told: &str, reply: &str) {
+        match told.split_once(": ") {
+            Some((range, line)) => self.add_range(rt, alloc, range, (line, reply)),
+            None => self.add(rt, told, reply),
+        }
+    }
+
+    /// Adds all rows of a table.
+    pub fn add_all(&mut self, rt: &impl Abort, alloc: Global, table: &str) {
         for row in table.lines() {
-            if let Some((line, reply)) = row_of(row) {
-                self.add(rt, line, reply);
+            if let Some((told, reply)) = row.split_once(" =>") {
+                self.add_row(rt, alloc, told, reply.trim());
             }
         }
     }
-
-    /// Whether `serve` gives the replies to the lines, where they come in pieces of at most `most` bytes.
-    pub fn is_served_by(&self, rt: &impl Abort, alloc: Global, theory: &[u8], most: usize) -> bool {
-        serves(rt, alloc, (theory, &self.lines), most, 0, &self.replies)
-    }
-
-    /// Whether `serve` gives the replies to the lines, where they come byte by byte and where they come in large pieces.
-    pub fn is_served(&self, rt: &impl Abort, alloc: Global, theory: &[u8]) -> bool {
-        self.is_served_by(rt, alloc, theory, 1) && self.is_served_by(rt, alloc, theory, 4_096)
-    }
-
-    /// Whether `replay` gives the replies to a file of the lines.
-    pub fn is_replayed(&self, rt: &impl Abort, alloc: Global, theory: &[u8]) -> bool {
-        replays(rt, alloc, (theory, &self.lines), 0, &self.replies)
-    }
 }
 
-/// Whether the lines of a table get their replies.
-pub fn is_told(rt: &impl Abort, alloc: Global, theory: &[u8], table: &str) -> bool {
+/// Whether the lines of a dialogue get their replies, in a run that has what is given and these parts.
+fn is_told(rt: &impl Abort, alloc: Global, given: &Case<'_>, parts: &str, rows: &str) -> bool {
     let mut script = Script::new(alloc);
-    script.add_all(rt, table);
-    script.is_served(rt, alloc, theory)
+    script.add_all(rt, alloc, rows);
+    let mut case = *given;
+    set_all(rt, &mut case, parts);
+    case.input = script.lines.as_str();
+    case.written = script.replies.as_str();
+    is_met(rt, alloc, &case)
 }
 
-/// Serves each dialogue of a table. Each stands behind a heading, which begins with `#` and says what can be seen in it.
-pub fn tell_all(rt: &impl Abort, alloc: Global, theory: &[u8], table: &str) {
+/// Runs all dialogues of a table, where they have what is given, and stops at the first whose lines do not get their replies.
+pub fn tell_all(rt: &impl Abort, alloc: Global, given: &str, table: &str) {
+    let mut case = SERVED;
+    set_all(rt, &mut case, given);
     for dialogue in table.split('#') {
-        let Some((shows, rows)) = dialogue.split_once('\n') else {
-            continue;
-        };
-        assert!(rt; is_told(rt, alloc, theory, rows), "{shows}");
+        if let Some((heading, rows)) = dialogue.split_once('\n') {
+            let (shows, parts) = heading.split_once(" ; ").unwrap_or((heading, ""));
+            assert!(rt; is_told(rt, alloc, &case, parts, rows), "{shows}");
+        }
     }
 }

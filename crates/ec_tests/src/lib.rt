@@ -1,11 +1,10 @@
-//! Whole runs of the program's top call, over folders, sources and sinks in memory; and calls of the crates below it that
-//! are too large to be proved twice.
+//! Whole runs of the program's top call, over folders, sources and sinks in memory.
 #![tactic(auto)]
 
 #[cfg(test)]
-mod dialogue;
+mod cases;
 #[cfg(test)]
-mod engine;
+mod dialogue;
 #[cfg(test)]
 mod faults;
 #[cfg(test)]
@@ -19,15 +18,9 @@ mod limits;
 #[cfg(test)]
 mod lines;
 #[cfg(test)]
-mod queries;
-#[cfg(test)]
-mod reasons;
-#[cfg(test)]
 mod replayed;
 #[cfg(test)]
 mod soaked;
-#[cfg(test)]
-mod spans;
 #[cfg(test)]
 mod texts;
 #[cfg(test)]

@@ -1,161 +1,47 @@
 //! Files of lines that are replayed.
-use crate::whole::{folder_with_lines, ran_over, replays, sink, source};
-use ec_layers::tables::bytes_of;
-use std::alloc::Global;
-use std::process::Abort;
+use crate::cases::run_all;
 
-const LAMPS: &[u8] = b"initiates plug(L) powered(L). terminates unplug(L) powered(L).";
-
-const LINES: &[u8] = b"assert p 5 plug(a)\r\nholds powered(a) 6\n% a note\nintervals powered(a)";
-
-const REPLIES: &[u8] = b"ok\nyes\n1 (5,inf)\n";
-
-/// Which calls fail: those of the folder, the writes and the flushes.
-#[derive(Clone, Copy)]
-struct Failing {
-    files: &'static [u64],
-    writes: &'static [u64],
-    flushes: &'static [u64],
-}
-
-const NONE: &[u64] = &[];
-
-const NOTHING_FAILS: Failing = Failing {
-    files: &[],
-    writes: &[],
-    flushes: &[],
-};
-
-/// Whether a replay of lines over a theory with those faults comes to a status and these bytes, where the words name these two files,
-/// and a byte is written at a time. The theory is in `t.ec` and the lines are in `a.lines`. The input fails if it is read.
-fn is_replayed(
-    rt: &impl Abort,
-    alloc: Global,
-    (theory, lines): (&[u8], &[u8]),
-    (first, second): (&str, &str),
-    failing: &Failing,
-    (status, written): (u8, &[u8]),
-) -> bool {
-    let files = folder_with_lines(alloc, theory, lines, failing.files).expect(rt, "memory");
-    let input = source(alloc, b"holds p 1\n", 4_096, &[1]).expect(rt, "memory");
-    let output = sink(alloc, 1, failing.writes, failing.flushes).expect(rt, "memory");
-    let words = ["replay", first, second];
-    ran_over(rt, alloc, &words, files, input, output).is(status, written)
-}
-
-/// Whether a replay with no fault comes to a status and these bytes.
-fn comes_to(
-    rt: &impl Abort,
-    alloc: Global,
-    contents: (&[u8], &[u8]),
-    names: (&str, &str),
-    status: u8,
-    written: &[u8],
-) -> bool {
-    is_replayed(
-        rt,
-        alloc,
-        contents,
-        names,
-        &NOTHING_FAILS,
-        (status, written),
-    )
-}
-
-const FILES: (&str, &str) = ("t.ec", "a.lines");
-
-const BAD: &[u8] = b"initiates a";
-
-/// Whether lines are replayed that a theory comes with.
-fn lines_are_replayed(rt: &impl Abort, alloc: Global) -> bool {
-    let twice = b"holds p 1\nquit\nholds p 1\n";
-    comes_to(rt, alloc, (LAMPS, LINES), FILES, 0, REPLIES)
-        && comes_to(rt, alloc, (LAMPS, twice), FILES, 0, b"no\nbye\n")
-        && comes_to(rt, alloc, (LAMPS, b""), FILES, 0, b"")
-        // the text of a theory is one line that is no command
-        && comes_to(
-            rt,
-            alloc,
-            (LAMPS, LINES),
-            ("t.ec", "t.ec"),
-            0,
-            b"refused syntax\n",
-        )
-}
-
-/// Whether bad theories and missing files are told of. The theory comes first.
-fn bad_files_are_told(rt: &impl Abort, alloc: Global) -> bool {
-    let fault = b"theory 1 12 syntax\n";
-    comes_to(rt, alloc, (BAD, LINES), FILES, 3, fault)
-        && comes_to(rt, alloc, (BAD, LINES), ("t.ec", "other.lines"), 3, fault)
-        && comes_to(rt, alloc, (LAMPS, LINES), ("t.ec", "other.lines"), 7, b"")
-        && comes_to(rt, alloc, (LAMPS, LINES), ("other.ec", "a.lines"), 7, b"")
-}
+/// Replays where the input would fail if it was read.
+const REPLAYED: &str = "\
+words replay,t.ec,a.lines ; theory LAMPS ; input holds p 1| ; read 1 fails ; writes 1
+lines holds p 1|quit|holds p 1| => 0 no|bye|
+lines => 0
+lines assert p 5 plug(a)\r|holds powered(a) 6|% a note|intervals powered(a)
+ => 0 ok|yes|1 (5,inf)|
+# the text of a theory is one line that is no command
+words replay,t.ec,t.ec => 0 refused syntax|
+# a file that there is not
+words replay,t.ec,other.lines => 7
+words replay,other.ec,a.lines => 7
+# a bad theory comes first
+theory initiates a => 3 theory 1 12 syntax|
+theory initiates a ; words replay,t.ec,other.lines => 3 theory 1 12 syntax|
+# a fault of the file of the theory, and of that of the lines
+file 1 fails => 7
+file 2 fails => 7
+# a fault of a write, of the flush before the first read, and of the one at the end
+write 4 fails => 5 ok|
+flush 1 fails => 5
+flush 3 fails => 5 ok|yes|1 (5,inf)|
+";
 
 #[test]
-fn the_lines_of_a_file_are_replayed(rt: HostRuntime) {
-    assert!(rt; lines_are_replayed(&rt, rt.alloc()));
-    assert!(rt; bad_files_are_told(&rt, rt.alloc()));
+fn the_lines_of_a_file_are_replayed_and_faults_told(rt: HostRuntime) {
+    run_all(&rt, rt.alloc(), "", REPLAYED);
 }
 
-/// Whether a replay with those faults comes to a status and these bytes.
-fn tells(rt: &impl Abort, alloc: Global, failing: &Failing, status: u8, written: &[u8]) -> bool {
-    is_replayed(rt, alloc, (LAMPS, LINES), FILES, failing, (status, written))
-}
-
-/// Whether faults of the file of the theory, and of that of the lines, are told of.
-fn faults_of_files_are_told(rt: &impl Abort, alloc: Global) -> bool {
-    let theory = Failing {
-        files: &[1],
-        ..NOTHING_FAILS
-    };
-    let lines = Failing {
-        files: &[2],
-        ..NOTHING_FAILS
-    };
-    tells(rt, alloc, &theory, 7, b"") && tells(rt, alloc, &lines, 7, b"")
-}
-
-/// Whether faults of a write, of the flush before the first read, and of the one at the end are told of.
-fn faults_of_output_are_told(rt: &impl Abort, alloc: Global) -> bool {
-    let write = Failing {
-        writes: &[4],
-        ..NOTHING_FAILS
-    };
-    let first = Failing {
-        flushes: &[1],
-        ..NOTHING_FAILS
-    };
-    let last = Failing {
-        flushes: &[3],
-        ..NOTHING_FAILS
-    };
-    tells(rt, alloc, &write, 5, b"ok\n")
-        && tells(rt, alloc, &first, 5, b"")
-        && tells(rt, alloc, &last, 5, REPLIES)
-}
-
-#[test]
-fn a_replay_tells_what_fails(rt: HostRuntime) {
-    assert!(rt; faults_of_files_are_told(&rt, rt.alloc()));
-    assert!(rt; faults_of_output_are_told(&rt, rt.alloc()));
-}
-
-/// Whether a replay of a file of lines, which stands as a row of a table has it, comes to a status and these bytes.
-fn text_is_replayed(
-    rt: &impl Abort,
-    alloc: Global,
-    text: &str,
-    status: u8,
-    written: &[u8],
-) -> bool {
-    let lines = bytes_of(alloc, text).expect(rt, "memory");
-    replays(rt, alloc, (LAMPS, &lines), status, written)
-}
+/// Lines of blanks alone: as many as may be, and one more.
+const LENGTHS: &str = "\
+lines {67108864  } => 0 refused long-line|
+lines {67108865  } => 9
+";
 
 #[test]
 fn the_file_of_lines_has_a_limit(rt: HostRuntime) {
-    let long = b"refused long-line\n";
-    assert!(rt; text_is_replayed(&rt, rt.alloc(), "{67108864  }", 0, long));
-    assert!(rt; text_is_replayed(&rt, rt.alloc(), "{67108865  }", 9, b""));
+    run_all(
+        &rt,
+        rt.alloc(),
+        "words replay,t.ec,a.lines ; theory LAMPS ; reads 1",
+        LENGTHS,
+    );
 }

@@ -1,13 +1,16 @@
-//! Theories that several modules use.
+//! Theories that a table names.
+use ec_layers::tables::bytes_of;
+use std::alloc::Global;
+use std::process::Abort;
 
 /// One lamp that has power or not.
-pub const LAMP: &[u8] = b"initiates plug powered. terminates unplug powered.";
+const LAMP: &[u8] = b"initiates plug powered. terminates unplug powered.";
 
 /// Lamps by name that have power or not.
-pub const LAMPS: &[u8] = b"initiates plug(L) powered(L). terminates unplug(L) powered(L).";
+const LAMPS: &[u8] = b"initiates plug(L) powered(L). terminates unplug(L) powered(L).";
 
 /// Rooms and lamps: what is pushed lights up where there is power, and nobody is at two places.
-pub const ROOMS: &[u8] = b"initiates push(P,L) lit(L) if powered(L), not lit(L).
+const ROOMS: &[u8] = b"initiates push(P,L) lit(L) if powered(L), not lit(L).
 terminates push(P,L) lit(L) if lit(L).
 initiates plug(L) powered(L).
 terminates unplug(L) powered(L).
@@ -15,34 +18,10 @@ terminates unplug(L) lit(L).
 initiates move(P,Y) at(P,Y).
 terminates leave(P,Y) at(P,Y).
 exclusive at(X,Y) at(X,Z).
-";
-
-/// The rooms and lamps, where who moves to a place begins to be there anew.
-pub const STRONG_ROOMS: &[u8] = b"initiates push(P,L) lit(L) if powered(L), not lit(L).
-terminates push(P,L) lit(L) if lit(L).
-initiates plug(L) powered(L).
-terminates unplug(L) powered(L).
-terminates unplug(L) lit(L).
-initiates move(P,Y) at(P,Y).
-terminates leave(P,Y) at(P,Y).
-exclusive at(X,Y) at(X,Z).
-strong at/2.
-";
-
-/// The rooms and lamps, where who is at home answers a call.
-pub const CALLED_ROOMS: &[u8] = b"initiates push(P,L) lit(L) if powered(L), not lit(L).
-terminates push(P,L) lit(L) if lit(L).
-initiates plug(L) powered(L).
-terminates unplug(L) powered(L).
-terminates unplug(L) lit(L).
-initiates move(P,Y) at(P,Y).
-terminates leave(P,Y) at(P,Y).
-exclusive at(X,Y) at(X,Z).
-initiates ring(P) answered(P) if at(P,home).
 ";
 
 /// A lending library: only members borrow, and a book is lent to one of them at a time.
-pub const LIBRARY: &[u8] = b"% a lending library
+const LIBRARY: &[u8] = b"% a lending library
 initiates borrow(M,B) has_book(M,B) if member(M), not lent(B).
 initiates borrow(M,B) lent(B) if member(M), not lent(B).
 terminates return(M,B) has_book(M,B).
@@ -52,3 +31,36 @@ terminates leave(M) member(M).
 initiates shelve(B,S) place(B,S).
 exclusive place(B,X) place(B,Y).
 ";
+
+/// Who sees a place is looked up at it sixteen times, and nobody is at two places.
+const SEEN: &[u8] =
+    b"initiates see(P,Y) seen if at(P,Y), at(P,Y), at(P,Y), at(P,Y), at(P,Y), at(P,Y), at(P,Y), at(P,Y),
+at(P,Y), at(P,Y), at(P,Y), at(P,Y), at(P,Y), at(P,Y), at(P,Y), at(P,Y).
+exclusive at(X,Y) at(X,Z).
+";
+
+/// No theory, since it has a byte that no text of a table can have.
+const ODD_BYTE: &[u8] = b"strong a/1 \x80";
+
+/// The theory that a text begins with the name of, and what stands behind the name. A text that begins with no name is all behind.
+fn named(told: &str) -> (&'static [u8], &str) {
+    let (name, behind) = told.split_once(' ').unwrap_or((told, ""));
+    match name {
+        "LAMP" => (LAMP, behind),
+        "LAMPS" => (LAMPS, behind),
+        "ROOMS" => (ROOMS, behind),
+        "LIBRARY" => (LIBRARY, behind),
+        "SEEN" => (SEEN, behind),
+        "ODD_BYTE" => (ODD_BYTE, behind),
+        _ => (b"", told),
+    }
+}
+
+/// The bytes of a theory as a table tells it: by its name, by its name and more clauses, or by its clauses.
+pub fn theory_of(rt: &impl Abort, alloc: Global, told: &str) -> Vec<u8> {
+    let (theory, clauses) = named(told);
+    let clauses = bytes_of(alloc, clauses).expect(rt, "memory");
+    let mut bytes = Vec::from_slice(alloc, theory).expect(rt, "memory");
+    bytes.extend_from_slice(&clauses).expect(rt, "memory");
+    bytes
+}

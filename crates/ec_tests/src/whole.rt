@@ -1,9 +1,13 @@
-//! A whole run, and what it came to.
+//! A whole run, and whether it comes to what it is to come to.
 //!
-//! The contract of `run` is long, so one function alone calls it, and the others call that one.
+//! The contracts of `run` and `serve` are long, so one function alone calls each.
+use crate::texts::theory_of;
+use ec_layers::tables::bytes_of;
 use ec_outside::{MemFolder, MemSink, MemSource};
-use ec_server::run;
+use ec_server::{run, serve};
 use ec_terms::NoMemory;
+use ec_theory::accept;
+use ec_tokens::MOST_BYTES;
 use std::alloc::Global;
 use std::process::Abort;
 use std::string::String;
@@ -11,25 +15,70 @@ use std::string::String;
 /// More than any reply or line here has.
 const ROOM: usize = 1 << 20;
 
+/// A run: what it begins with, which calls fail, and what it is to come to. In its texts `|` is a line end, as in a table.
+#[derive(Clone, Copy)]
+pub struct Case<'a> {
+    /// The words that the program is called with, parted by commas.
+    pub words: &'a str,
+    /// What the file `t.ec` has: a theory by its name in `texts`, with or without more clauses, or a theory as it is written.
+    pub theory: &'a str,
+    /// What the file `a.lines` has.
+    pub lines: &'a str,
+    pub input: &'a str,
+    /// How many bytes of the input a read gives at most. There is a run for each of these numbers, which are parted by commas.
+    pub reads: &'a str,
+    /// How many bytes a write takes at most.
+    pub writes: usize,
+    pub failing: Failing,
+    /// `serve` alone runs, and takes at most so many bytes.
+    pub limit: Option<u64>,
+    pub status: u8,
+    pub written: &'a str,
+}
+
+/// The number of the call that fails, of those on the folder, the reads, the writes and the flushes. The first is 1; with 0 none
+/// fails.
+#[derive(Clone, Copy)]
+pub struct Failing {
+    pub file: u64,
+    pub read: u64,
+    pub write: u64,
+    pub flush: u64,
+}
+
+/// `serve` under no theory, without lines, where nothing fails.
+pub const SERVED: Case<'static> = Case {
+    words: "serve,t.ec",
+    theory: "",
+    lines: "",
+    input: "",
+    reads: "4096",
+    writes: ROOM,
+    failing: Failing {
+        file: 0,
+        read: 0,
+        write: 0,
+        flush: 0,
+    },
+    limit: None,
+    status: 0,
+    written: "",
+};
+
 /// Words as the program gets them.
-fn words(rt: &impl Abort, alloc: Global, all: &[&str]) -> Vec<String> {
+fn words_of(rt: &impl Abort, alloc: Global, text: &str) -> Vec<String> {
     let mut words = Vec::new(alloc);
-    for word in all {
-        let word = String::from_str(alloc, word).expect(rt, "memory");
-        words.push(word).expect(rt, "memory");
+    if !text.is_empty() {
+        for word in text.split(',') {
+            let word = String::from_str(alloc, word).expect(rt, "memory");
+            words.push(word).expect(rt, "memory");
+        }
     }
     words
 }
 
-/// A folder with one file, named `t.ec`, whose calls of these numbers fail.
-pub fn folder(alloc: Global, theory: &[u8], failing: &[u64]) -> Result<MemFolder, NoMemory> {
-    let mut files = MemFolder::new(alloc, failing)?;
-    files.add("t.ec", theory)?;
-    Ok(files)
-}
-
 /// A folder with a theory, named `t.ec`, and lines, named `a.lines`, whose calls of these numbers fail.
-pub fn folder_with_lines(
+fn folder(
     alloc: Global,
     theory: &[u8],
     lines: &[u8],
@@ -41,113 +90,75 @@ pub fn folder_with_lines(
     Ok(files)
 }
 
-/// An input that comes in pieces of at most `most` bytes, and of one at least, whose reads of these numbers fail.
-pub fn source(
+/// The input of a run, which comes in pieces of at most `most` bytes, and of one at least.
+fn input_of(rt: &impl Abort, alloc: Global, case: &Case<'_>, most: usize) -> MemSource {
+    let lines = bytes_of(alloc, case.input).expect(rt, "memory");
+    MemSource::new(alloc, &lines, most.max(1), &[case.failing.read]).expect(rt, "memory")
+}
+
+/// The output of a run, which takes a byte at least at a write.
+fn output_of(rt: &impl Abort, alloc: Global, case: &Case<'_>) -> MemSink {
+    let failing = &case.failing;
+    MemSink::new(
+        alloc,
+        ROOM,
+        case.writes.max(1),
+        &[failing.write],
+        &[failing.flush],
+    )
+    .expect(rt, "memory")
+}
+
+/// The status of a run with the words of a case.
+fn ran(
+    rt: &impl Abort,
     alloc: Global,
-    lines: &[u8],
-    most: usize,
-    failing: &[u64],
-) -> Result<MemSource, NoMemory> {
-    MemSource::new(alloc, lines, most.max(1), failing)
-}
-
-/// An output that takes at most `most` bytes at a write, and one at least, whose writes and flushes of these numbers fail.
-pub fn sink(
-    alloc: Global,
-    most: usize,
-    writes: &[u64],
-    flushes: &[u64],
-) -> Result<MemSink, NoMemory> {
-    MemSink::new(alloc, ROOM, most.max(1), writes, flushes)
-}
-
-/// An output that takes all at one write, and never fails.
-pub fn wide_sink(alloc: Global) -> Result<MemSink, NoMemory> {
-    sink(alloc, ROOM, &[], &[])
-}
-
-/// What a run came to.
-#[derive(Drop)]
-pub struct Outcome {
-    status: u8,
-    output: MemSink,
-}
-
-impl Outcome {
-    /// Whether the run ended with this status, and wrote exactly these bytes.
-    pub fn is(&self, status: u8, written: &[u8]) -> bool {
-        self.status == status && self.output.bytes() == written
-    }
-}
-
-/// The status of a run.
-fn status_of(
-    alloc: Global,
-    words: &[String],
-    files: &mut MemFolder,
+    case: &Case<'_>,
     input: &mut MemSource,
     output: &mut MemSink,
 ) -> u8 {
-    run(alloc, words, files, input, output)
+    let words = words_of(rt, alloc, case.words);
+    let theory = theory_of(rt, alloc, case.theory);
+    let lines = bytes_of(alloc, case.lines).expect(rt, "memory");
+    let files = folder(alloc, &theory, &lines, &[case.failing.file]);
+    let mut files = files.expect(rt, "memory");
+    run(alloc, &words, &mut files, input, output)
 }
 
-/// A run with these words.
-pub fn ran_over(
+/// The status of serving at most `limit` bytes under the theory of a case.
+fn served(
     rt: &impl Abort,
     alloc: Global,
-    all: &[&str],
-    mut files: MemFolder,
-    mut input: MemSource,
-    mut output: MemSink,
-) -> Outcome {
-    let words = words(rt, alloc, all);
-    let status = status_of(alloc, &words, &mut files, &mut input, &mut output);
-    Outcome { status, output }
+    case: &Case<'_>,
+    limit: u64,
+    input: &mut MemSource,
+    output: &mut MemSink,
+) -> u8 {
+    let theory = theory_of(rt, alloc, case.theory);
+    assert!(rt; theory.len() <= MOST_BYTES);
+    let checked = accept(alloc, &theory).ok().expect(rt, "a theory");
+    serve(alloc, checked, input, output, limit).code()
 }
 
-/// A run over one file named `t.ec` and an input that comes in pieces of at most `most` bytes.
-pub fn ran(
+/// The status of a case.
+fn status_of(
     rt: &impl Abort,
     alloc: Global,
-    all: &[&str],
-    theory: &[u8],
-    lines: &[u8],
-    most: usize,
-) -> Outcome {
-    let files = folder(alloc, theory, &[]).expect(rt, "memory");
-    let input = source(alloc, lines, most, &[]).expect(rt, "memory");
-    let output = wide_sink(alloc).expect(rt, "memory");
-    ran_over(rt, alloc, all, files, input, output)
+    case: &Case<'_>,
+    input: &mut MemSource,
+    output: &mut MemSink,
+) -> u8 {
+    match case.limit {
+        None => ran(rt, alloc, case, input, output),
+        Some(limit) => served(rt, alloc, case, limit, input, output),
+    }
 }
 
-/// Whether `check` of a theory comes to a status and these bytes.
-pub fn checks(rt: &impl Abort, alloc: Global, theory: &[u8], status: u8, written: &[u8]) -> bool {
-    ran(rt, alloc, &["check", "t.ec"], theory, b"", 4_096).is(status, written)
-}
-
-/// Whether a run of `serve` comes to a status and these bytes, with an input in pieces of at most `most` bytes.
-pub fn serves(
-    rt: &impl Abort,
-    alloc: Global,
-    (theory, lines): (&[u8], &[u8]),
-    most: usize,
-    status: u8,
-    written: &[u8],
-) -> bool {
-    ran(rt, alloc, &["serve", "t.ec"], theory, lines, most).is(status, written)
-}
-
-/// Whether a run of `replay` comes to a status and these bytes, with nothing on the input.
-pub fn replays(
-    rt: &impl Abort,
-    alloc: Global,
-    (theory, lines): (&[u8], &[u8]),
-    status: u8,
-    written: &[u8],
-) -> bool {
-    let files = folder_with_lines(alloc, theory, lines, &[]).expect(rt, "memory");
-    let input = source(alloc, b"", 1, &[]).expect(rt, "memory");
-    let output = wide_sink(alloc).expect(rt, "memory");
-    let words = ["replay", "t.ec", "a.lines"];
-    ran_over(rt, alloc, &words, files, input, output).is(status, written)
+/// Whether a run ends with its status and has written exactly its bytes, where the input comes in pieces of at most `most` bytes.
+pub fn comes_out(rt: &impl Abort, alloc: Global, case: &Case<'_>, most: usize) -> bool {
+    let mut input = input_of(rt, alloc, case, most);
+    let mut output = output_of(rt, alloc, case);
+    let status = status_of(rt, alloc, case, &mut input, &mut output);
+    let written = bytes_of(alloc, case.written).expect(rt, "memory");
+    status == case.status && output.bytes() == written.as_slice()
 }

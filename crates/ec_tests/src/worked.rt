@@ -1,8 +1,5 @@
 //! Small histories that each show a rule, and a draft that is full.
-use crate::dialogue::{Script, tell_all};
-use crate::texts::{CALLED_ROOMS, ROOMS, STRONG_ROOMS};
-use std::alloc::Global;
-use std::process::Abort;
+use crate::dialogue::tell_all;
 
 /// Dialogues over the rooms and lamps.
 const DIALOGUES: &str = "\
@@ -114,11 +111,7 @@ holds Lit 3 => refused syntax
 % note =>
 @3 => @3 refused syntax
 last => last seen 0 on 0 off 0 props 1
-";
-
-/// A dialogue where who moves to a place begins to be there anew.
-const STRONG: &str = "\
-# a strong property that is initiated once more begins anew
+# a strong property that is initiated once more begins anew ; theory ROOMS strong at/2.|
 assert m1 10 move(bob,home) => ok
 assert m2 14 move(bob,home) => ok
 assert l1 20 leave(bob,home) => ok
@@ -128,11 +121,7 @@ why at(bob,home) 12 => no broken 10 14 by m2 rule 6
 why at(bob,home) 20 => yes 14 20 by m2 rule 6 until l1 rule 7
 why at(bob,home) 21 => no ended 14 20 by l1 rule 7
 why at(bob,home) 10 => no never
-";
-
-/// A dialogue where who is at home answers a call.
-const CALLED: &str = "\
-# a property that is current and does not hold
+# a property that is current and does not hold ; theory ROOMS initiates ring(P) answered(P) if at(P,home).|
 assert m1 10 move(bob,home) => ok
 assert m2 20 move(bob,work) => ok
 assert g 15 ring(bob) => ok
@@ -142,52 +131,32 @@ intervals answered(bob) => 1 (15,inf)
 
 #[test]
 fn each_rule_shows_in_the_replies(rt: HostRuntime) {
-    tell_all(&rt, rt.alloc(), ROOMS, DIALOGUES);
-    tell_all(&rt, rt.alloc(), STRONG_ROOMS, STRONG);
-    tell_all(&rt, rt.alloc(), CALLED_ROOMS, CALLED);
+    tell_all(&rt, rt.alloc(), "theory ROOMS ; reads 1,4096", DIALOGUES);
 }
 
-/// What comes to a draft of 1,023 updates: the last line that it takes, the commit and its reply, and the counts afterwards.
-const COMMITS: [&str; 2] = [
-    "\
+/// Drafts of 1,023 updates, and what comes to them: the last line that is taken, the commit and its reply, and the counts afterwards.
+const DRAFTS: &str = "\
+# a draft that is committed
+begin => ok
+1..1023: assert d* * plug(a) => drafted *
 assert d1024 1024 plug(a) => drafted 1024
 assert z 1 plug(a) => refused full-draft 1024
 retract d1 => refused full-draft 1024
 retract Z => refused syntax
 commit => ok
 last => last seen 0 on 0 off 0 props 1
-",
-    "\
+# a draft that is refused
+begin => ok
+1..1023: assert d* * plug(a) => drafted *
 retract z => drafted 1024
 assert z 1 plug(a) => refused full-draft 1024
 retract d1 => refused full-draft 1024
 retract Z => refused syntax
 commit => refused commit 1024 unknown z
 last => last seen 0 on 0 off 0 props 0
-",
-];
-
-/// Adds an update of a draft.
-fn add_drafted(rt: &impl Abort, alloc: Global, script: &mut Script, k: u32) {
-    let update = format!(in alloc; "assert d{k} {k} plug(a)").expect(rt, "memory");
-    let reply = format!(in alloc; "drafted {k}").expect(rt, "memory");
-    script.add(rt, update.as_str(), reply.as_str());
-}
-
-/// Whether a draft of 1,023 updates gets these lines with their replies.
-fn is_committed(rt: &impl Abort, alloc: Global, table: &str) -> bool {
-    let mut script = Script::new(alloc);
-    script.add(rt, "begin", "ok");
-    for k in 1..=1_023 {
-        add_drafted(rt, alloc, &mut script, k);
-    }
-    script.add_all(rt, table);
-    script.is_served(rt, alloc, ROOMS)
-}
+";
 
 #[test]
 fn a_full_draft_takes_no_line_and_is_committed_whole(rt: HostRuntime) {
-    for table in COMMITS {
-        assert!(rt; is_committed(&rt, rt.alloc(), table), "{table}");
-    }
+    tell_all(&rt, rt.alloc(), "theory ROOMS ; reads 1,4096", DRAFTS);
 }

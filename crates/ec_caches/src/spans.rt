@@ -2,7 +2,7 @@
 //! row alone, and no other row.
 ghost use Rattle.std.specs.Prelude.{◌≡◌, ◌<◌};
 
-use crate::texts::ROOMS;
+use crate::fixtures::ROOMS;
 use ec_axioms::{Event, Steps, Update};
 use ec_blocks::{BlockMarks, BlockSpans, BlockTimes};
 use ec_check::Checked;

@@ -1,7 +1,7 @@
 -- No events have their own identities, and are within all limits.
 use Rattle.std.specs.List.{IsDistinct}
 use Rattle.ec_engine.proofs.Standings.{IsWithinLimits-none}
-use Rattle.ec_tests.proofs.spans.builds.Goals as goal
+use Rattle.ec_caches.proofs.spans.builds.Goals as goal
 
 pub build-built-requires-clause-own : goal.build-built-requires-clause-own
 unfolding IsDistinct
