@@ -13,26 +13,26 @@ use Rattle.ec_query.specs.Members.{members_text, span_text}
 
 -- ---- what is left
 
--- all of a text but the rest was appended, and the count of faults has not fallen
+-- all of a text but the rest was appended, and no fault was counted
 pub record IsLeft {S : Type 0} (stands : S → List ℕ → Type 0) (faults : S → ℕ) (before now : S) (whole rest : List ℕ) : Type 0 where
   pub done : List ℕ
   pub split : whole ≡ done ++ rest
   pub appended : Appended stands before now done
-  pub counted : faults before ≤ faults now
+  pub quiet : faults now ≡ faults before
 
 module _ {S : Type 0} {stands : S → List ℕ → Type 0} {faults : S → ℕ} where
   -- at first all is
   pub IsLeft-start : (sink : S) (whole rest : List ℕ) → whole ≡ rest → IsLeft stands faults sink sink whole rest
-  IsLeft-start sink whole rest same = record { done = []; split = same; appended = Appended-nil (Kept-refl sink); counted = omega arith }
+  IsLeft-start sink whole rest same = record { done = []; split = same; appended = Appended-nil (Kept-refl sink); quiet = refl }
 
   -- a part was written
   pub IsLeft-next : {before now after : S} {whole rest : List ℕ} (bytes more : List ℕ) → IsLeft stands faults before now whole rest → rest ≡ bytes ++ more
-      → Appended stands now after bytes → faults now ≤ faults after → IsLeft stands faults before after whole more
-  IsLeft-next bytes more left is appended counted = record {
+      → Appended stands now after bytes → faults after ≡ faults now → IsLeft stands faults before after whole more
+  IsLeft-next bytes more left is appended quiet = record {
     done = left.done ++ bytes;
     split = left.split ∙ ap (λ all. left.done ++ all) is ∙ sym (append_assoc left.done bytes more);
     appended = Appended-then left.appended appended;
-    counted = omega (arith, left.counted, counted);
+    quiet = quiet ∙ left.quiet;
   }
 
   -- or a part of that part

@@ -43,6 +43,7 @@ fn write_members<T: Moment, M: MarkRow<T>, K: Sink>(
     ensures written { OnOk result (Appended K.stands out.old out.new (members_text (broken_text T.canon) (broken_spans_of (plain_marks T.rank (M.marks row.now)) strong is_initial))) }
     ensures part { OnErr result (AppendedPart K.stands out.old out.new (members_text (broken_text T.canon) (broken_spans_of (plain_marks T.rank (M.marks row.now)) strong is_initial))) }
     ensures failed { OnErr result (Rose (K.faults out.old) (K.faults out.new)) }
+    ensures quiet { OnOk result (K.faults out.new ≡ K.faults out.old) }
     ensures counted { K.faults out.old ≤ K.faults out.new }
 {
     let _ = row.len();
@@ -66,6 +67,7 @@ fn write_broken<T: Moment, M: MarkRow<T>, K: Sink>(
     ensures written { length (broken_spans_of (plain_marks T.rank (M.marks row.now)) strong is_initial) ≤ 2 ^ 64 - 1 → OnOk result (Appended K.stands out.old out.new (counted_text (map (broken_text T.canon) (broken_spans_of (plain_marks T.rank (M.marks row.now)) strong is_initial)))) }
     ensures part { length (broken_spans_of (plain_marks T.rank (M.marks row.now)) strong is_initial) ≤ 2 ^ 64 - 1 → OnErr result (AppendedPart K.stands out.old out.new (counted_text (map (broken_text T.canon) (broken_spans_of (plain_marks T.rank (M.marks row.now)) strong is_initial)))) }
     ensures failed { OnErr result (Rose (K.faults out.old) (K.faults out.new)) }
+    ensures quiet { OnOk result (K.faults out.new ≡ K.faults out.old) }
     ensures counted { K.faults out.old ≤ K.faults out.new }
 {
     write_count(count_broken(row, strong, is_initial), out)?;
@@ -83,6 +85,7 @@ pub fn broken<T: Moment, M: MarkRow<T>, K: Sink>(
     ensures written { (events : List PlainEvent) → AreMarkedOf T.rank marked.now.theory.now events marked.now.props.now marked.now.points.now → OnOk result (Appended K.stands out.old out.new (broken_reply marked.now.theory.now events T.canon (ground_of p.now))) }
     ensures part { (events : List PlainEvent) → AreMarkedOf T.rank marked.now.theory.now events marked.now.props.now marked.now.points.now → OnErr result (AppendedPart K.stands out.old out.new (broken_reply marked.now.theory.now events T.canon (ground_of p.now))) }
     ensures failed { OnErr result (Rose (K.faults out.old) (K.faults out.new)) }
+    ensures quiet { OnOk result (K.faults out.new ≡ K.faults out.old) }
     ensures counted { K.faults out.old ≤ K.faults out.new }
 {
     let Some(id) = marked.props.lookup(p) else {

@@ -36,6 +36,7 @@ fn write_members<T: Moment, M: MarkRow<T>, K: Sink>(
     ensures written { (times : List ℤ) → AreClashTimes T.rank points.now times → OnOk result (Appended K.stands out.old out.new (members_text T.canon times)) }
     ensures part { (times : List ℤ) → AreClashTimes T.rank points.now times → OnErr result (AppendedPart K.stands out.old out.new (members_text T.canon times)) }
     ensures failed { OnErr result (Rose (K.faults out.old) (K.faults out.new)) }
+    ensures quiet { OnOk result (K.faults out.new ≡ K.faults out.old) }
     ensures counted { K.faults out.old ≤ K.faults out.new }
 {
     let mut text = MemberText::new();
@@ -57,6 +58,7 @@ pub fn clashes<T: Moment, M: MarkRow<T>, K: Sink>(
     ensures written { (events : List PlainEvent) → AreMarkedOf T.rank marked.now.theory.now events marked.now.props.now marked.now.points.now → OnOk result (Appended K.stands out.old out.new (clashes_reply marked.now.theory.now events T.canon)) }
     ensures part { (events : List PlainEvent) → AreMarkedOf T.rank marked.now.theory.now events marked.now.props.now marked.now.points.now → OnErr result (AppendedPart K.stands out.old out.new (clashes_reply marked.now.theory.now events T.canon)) }
     ensures failed { OnErr result (Rose (K.faults out.old) (K.faults out.new)) }
+    ensures quiet { OnOk result (K.faults out.new ≡ K.faults out.old) }
     ensures counted { K.faults out.old ≤ K.faults out.new }
 {
     let _ = marked.props.len();

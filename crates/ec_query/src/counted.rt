@@ -1,5 +1,5 @@
 //! How many members a reply has, which is written before them.
-ghost use Rattle.std.specs.Prelude.{◌≤◌, OnOk, OnErr, decimal};
+ghost use Rattle.std.specs.Prelude.{◌≡◌, ◌≤◌, OnOk, OnErr, decimal};
 ghost use Rattle.ec_outside.specs.Counts.{Rose};
 ghost use Rattle.ec_outside.specs.Streams.{Appended, AppendedPart};
 
@@ -11,6 +11,7 @@ pub(crate) fn write_count<K: Sink>(count: u64, out: &mut K) -> Result<(), Failed
     ensures written { OnOk result (Appended K.stands out.old out.new (decimal count)) }
     ensures part { OnErr result (AppendedPart K.stands out.old out.new (decimal count)) }
     ensures failed { OnErr result (Rose (K.faults out.old) (K.faults out.new)) }
+    ensures quiet { OnOk result (K.faults out.new ≡ K.faults out.old) }
     ensures counted { K.faults out.old ≤ K.faults out.new }
 {
     let mut buffer = Buffer::new();

@@ -1,5 +1,5 @@
 //! The reply that lists the events.
-ghost use Rattle.std.specs.Prelude.{◌+◌, ◌≤◌, List, OnOk, OnErr, length};
+ghost use Rattle.std.specs.Prelude.{◌≡◌, ◌+◌, ◌≤◌, List, OnOk, OnErr, length};
 ghost use Rattle.ec_axioms.specs.Calculus.{PlainEvent};
 ghost use Rattle.ec_axioms.specs.QueryTexts.{events_reply};
 ghost use Rattle.ec_outside.specs.Counts.{Rose};
@@ -26,6 +26,7 @@ pub fn events<T: Moment, X: TimeRow<T>, K: Sink, L: Ledger>(
     ensures written { (events : List PlainEvent) → AreEventsOf T.rank events store.now → OnOk result (Appended K.stands out.old out.new (events_reply events T.canon)) }
     ensures part { (events : List PlainEvent) → AreEventsOf T.rank events store.now → OnErr result (AppendedPart K.stands out.old out.new (events_reply events T.canon)) }
     ensures failed { OnErr result (Rose (K.faults out.old) (K.faults out.new)) }
+    ensures quiet { OnOk result (K.faults out.new ≡ K.faults out.old) }
     ensures counted { K.faults out.old ≤ K.faults out.new }
     ensures steps { steps.new ≤ steps.old + length store.now.events }
 {

@@ -1,5 +1,5 @@
 //! The reply that lists the intervals of a property.
-ghost use Rattle.std.specs.Prelude.{◌≤◌, List, OnOk, OnErr, map};
+ghost use Rattle.std.specs.Prelude.{◌≡◌, ◌≤◌, List, OnOk, OnErr, map};
 ghost use Rattle.ec_terms.specs.declared.theory.Theory.{Theory};
 ghost use Rattle.ec_terms.specs.Term.{ground_of};
 ghost use Rattle.ec_axioms.specs.Calculus.{PlainEvent};
@@ -24,6 +24,7 @@ fn write_run<T: Moment, K: Sink>(run: &[Span<T>], out: &mut K) -> Result<(), Fai
     ensures written { OnOk result (Appended K.stands out.old out.new (members_text (span_text T.rank T.canon) run.now)) }
     ensures part { OnErr result (AppendedPart K.stands out.old out.new (members_text (span_text T.rank T.canon) run.now)) }
     ensures failed { OnErr result (Rose (K.faults out.old) (K.faults out.new)) }
+    ensures quiet { OnOk result (K.faults out.new ≡ K.faults out.old) }
     ensures counted { K.faults out.old ≤ K.faults out.new }
 {
     let mut text = MemberText::new();
@@ -45,6 +46,7 @@ fn write_spans<T: Moment, I: SpanRow<T>, K: Sink>(spans: &I, out: &mut K) -> Res
     ensures written { OnOk result (Appended K.stands out.old out.new (members_text (span_text T.rank T.canon) (I.spans spans.now))) }
     ensures part { OnErr result (AppendedPart K.stands out.old out.new (members_text (span_text T.rank T.canon) (I.spans spans.now))) }
     ensures failed { OnErr result (Rose (K.faults out.old) (K.faults out.new)) }
+    ensures quiet { OnOk result (K.faults out.new ≡ K.faults out.old) }
     ensures counted { K.faults out.old ≤ K.faults out.new }
 {
     let mut i = 0;
@@ -61,6 +63,7 @@ fn write_front<T: Moment, K: Sink>(front: Option<End<T>>, out: &mut K) -> Result
     ensures written { OnOk result (Appended K.stands out.old out.new (members_text (λ interval. interval_text T.canon (plain_interval T.rank interval)) (front_members front))) }
     ensures part { OnErr result (AppendedPart K.stands out.old out.new (members_text (λ interval. interval_text T.canon (plain_interval T.rank interval)) (front_members front))) }
     ensures failed { OnErr result (Rose (K.faults out.old) (K.faults out.new)) }
+    ensures quiet { OnOk result (K.faults out.new ≡ K.faults out.old) }
     ensures counted { K.faults out.old ≤ K.faults out.new }
 {
     let mut text = MemberText::new();
@@ -85,6 +88,7 @@ fn write_begun<T: Moment, I: SpanRow<T>, K: Sink>(
     ensures written { OnOk result (Appended K.stands out.old out.new (members_text (span_text T.rank T.canon) (spans_at id.0 intervals.now))) }
     ensures part { OnErr result (AppendedPart K.stands out.old out.new (members_text (span_text T.rank T.canon) (spans_at id.0 intervals.now))) }
     ensures failed { OnErr result (Rose (K.faults out.old) (K.faults out.new)) }
+    ensures quiet { OnOk result (K.faults out.new ≡ K.faults out.old) }
     ensures counted { K.faults out.old ≤ K.faults out.new }
 {
     match intervals.spans(id) {
@@ -102,6 +106,7 @@ fn write_intervals<T: Moment, I: SpanRow<T>, K: Sink>(
     ensures written { OnOk result (Appended K.stands out.old out.new (counted_text (map (interval_text T.canon) (plain_intervals T.rank (members_at id.0 intervals.now))))) }
     ensures part { OnErr result (AppendedPart K.stands out.old out.new (counted_text (map (interval_text T.canon) (plain_intervals T.rank (members_at id.0 intervals.now))))) }
     ensures failed { OnErr result (Rose (K.faults out.old) (K.faults out.new)) }
+    ensures quiet { OnOk result (K.faults out.new ≡ K.faults out.old) }
     ensures counted { K.faults out.old ≤ K.faults out.new }
 {
     write_count(intervals.len(id) as u64, out)?;
@@ -120,6 +125,7 @@ pub fn intervals<T: Moment, I: SpanRow<T>, K: Sink>(
     ensures written { (theory : Theory) (events : List PlainEvent) → AreHeldOf T.rank theory events held.now.props.now held.now.intervals.now → OnOk result (Appended K.stands out.old out.new (intervals_reply theory events T.canon (ground_of p.now))) }
     ensures part { (theory : Theory) (events : List PlainEvent) → AreHeldOf T.rank theory events held.now.props.now held.now.intervals.now → OnErr result (AppendedPart K.stands out.old out.new (intervals_reply theory events T.canon (ground_of p.now))) }
     ensures failed { OnErr result (Rose (K.faults out.old) (K.faults out.new)) }
+    ensures quiet { OnOk result (K.faults out.new ≡ K.faults out.old) }
     ensures counted { K.faults out.old ≤ K.faults out.new }
 {
     match held.props.lookup(p) {

@@ -33,6 +33,7 @@ fn write_member<K: Sink>(
     ensures written { OnOk result (Appended K.stands out.old out.new (members_text (number_text props.now) (p ∷ []))) }
     ensures part { OnErr result (AppendedPart K.stands out.old out.new (members_text (number_text props.now) (p ∷ []))) }
     ensures failed { OnErr result (Rose (K.faults out.old) (K.faults out.new)) }
+    ensures quiet { OnOk result (K.faults out.new ≡ K.faults out.old) }
     ensures counted { K.faults out.old ≤ K.faults out.new }
 {
     set_term(text, &props.ground(p));
@@ -45,6 +46,7 @@ fn write_members<K: Sink>(props: &PropTable, numbers: &[PropId], out: &mut K) ->
     ensures written { OnOk result (Appended K.stands out.old out.new (members_text (number_text props.now) numbers.now)) }
     ensures part { OnErr result (AppendedPart K.stands out.old out.new (members_text (number_text props.now) numbers.now)) }
     ensures failed { OnErr result (Rose (K.faults out.old) (K.faults out.new)) }
+    ensures quiet { OnOk result (K.faults out.new ≡ K.faults out.old) }
     ensures counted { K.faults out.old ≤ K.faults out.new }
 {
     let mut text = MemberText::new();
@@ -66,6 +68,7 @@ fn write_one<T: Moment, I: SpanRow<T>, K: Sink>(
     ensures written { OnOk result (Appended K.stands out.old out.new (members_text (number_text held.now.props.now) (held_numbers T.rank held.now.intervals.now (T.rank at) (p ∷ [])))) }
     ensures part { OnErr result (AppendedPart K.stands out.old out.new (members_text (number_text held.now.props.now) (held_numbers T.rank held.now.intervals.now (T.rank at) (p ∷ [])))) }
     ensures failed { OnErr result (Rose (K.faults out.old) (K.faults out.new)) }
+    ensures quiet { OnOk result (K.faults out.new ≡ K.faults out.old) }
     ensures counted { K.faults out.old ≤ K.faults out.new }
 {
     if !held.intervals.covers(p, at) {
@@ -85,6 +88,7 @@ fn write_run<T: Moment, I: SpanRow<T>, K: Sink>(
     ensures written { OnOk result (Appended K.stands out.old out.new (members_text (number_text held.now.props.now) (held_numbers T.rank held.now.intervals.now (T.rank at) run.now))) }
     ensures part { OnErr result (AppendedPart K.stands out.old out.new (members_text (number_text held.now.props.now) (held_numbers T.rank held.now.intervals.now (T.rank at) run.now))) }
     ensures failed { OnErr result (Rose (K.faults out.old) (K.faults out.new)) }
+    ensures quiet { OnOk result (K.faults out.new ≡ K.faults out.old) }
     ensures counted { K.faults out.old ≤ K.faults out.new }
 {
     let mut text = MemberText::new();
@@ -103,6 +107,7 @@ fn write_held<T: Moment, I: SpanRow<T>, K: Sink>(
     ensures written { OnOk result (Appended K.stands out.old out.new (members_text (number_text held.now.props.now) (held_numbers T.rank held.now.intervals.now (T.rank at) (map number_of held.now.props.now)))) }
     ensures part { OnErr result (AppendedPart K.stands out.old out.new (members_text (number_text held.now.props.now) (held_numbers T.rank held.now.intervals.now (T.rank at) (map number_of held.now.props.now)))) }
     ensures failed { OnErr result (Rose (K.faults out.old) (K.faults out.new)) }
+    ensures quiet { OnOk result (K.faults out.new ≡ K.faults out.old) }
     ensures counted { K.faults out.old ≤ K.faults out.new }
 {
     let mut i = 0;
@@ -126,6 +131,7 @@ fn write_listed<T: Moment, I: SpanRow<T>, K: Sink>(
     ensures written { OnOk result (Appended K.stands out.old out.new (members_text (number_text held.now.props.now) (held_numbers T.rank held.now.intervals.now (T.rank at) (map number_of held.now.props.now)))) }
     ensures part { OnErr result (AppendedPart K.stands out.old out.new (members_text (number_text held.now.props.now) (held_numbers T.rank held.now.intervals.now (T.rank at) (map number_of held.now.props.now)))) }
     ensures failed { OnErr result (Rose (K.faults out.old) (K.faults out.new)) }
+    ensures quiet { OnOk result (K.faults out.new ≡ K.faults out.old) }
     ensures counted { K.faults out.old ≤ K.faults out.new }
 {
     let _ = held.props.len();
@@ -146,6 +152,7 @@ pub fn at<T: Moment, I: SpanRow<T>, K: Sink>(
     ensures written { (theory : Theory) (events : List PlainEvent) → AreHeldOf T.rank theory events held.now.props.now held.now.intervals.now → ListsInitials theory → OnOk result (Appended K.stands out.old out.new (at_reply theory events (T.rank at))) }
     ensures part { (theory : Theory) (events : List PlainEvent) → AreHeldOf T.rank theory events held.now.props.now held.now.intervals.now → ListsInitials theory → OnErr result (AppendedPart K.stands out.old out.new (at_reply theory events (T.rank at))) }
     ensures failed { OnErr result (Rose (K.faults out.old) (K.faults out.new)) }
+    ensures quiet { OnOk result (K.faults out.new ≡ K.faults out.old) }
     ensures counted { K.faults out.old ≤ K.faults out.new }
 {
     let _ = held.props.len();

@@ -29,6 +29,7 @@ pub fn write_reason<T: Moment, K: Sink>(reason: &Reason<T>, out: &mut K) -> Resu
     ensures written { OnOk result (Appended K.stands out.old out.new (told_reason T.rank T.canon reason.now)) }
     ensures part { OnErr result (AppendedPart K.stands out.old out.new (told_reason T.rank T.canon reason.now)) }
     ensures failed { OnErr result (Rose (K.faults out.old) (K.faults out.new)) }
+    ensures quiet { OnOk result (K.faults out.new ≡ K.faults out.old) }
     ensures counted { K.faults out.old ≤ K.faults out.new }
 {
     let text = text_of(reason);
@@ -48,6 +49,7 @@ pub fn write_why<T: Moment, M: MarkRow<T>, I: SpanRow<T>, X: TimeRow<T>, K: Sink
     ensures written { (events : List PlainEvent) → StandForList T.rank parts.now.checked events (view_of parts.now) → OnOk result (Appended K.stands out.old out.new (why_reply parts.now.checked events T.canon (ground_of p.now) (T.rank at))) }
     ensures part { (events : List PlainEvent) → StandForList T.rank parts.now.checked events (view_of parts.now) → OnErr result (AppendedPart K.stands out.old out.new (why_reply parts.now.checked events T.canon (ground_of p.now) (T.rank at))) }
     ensures failed { OnErr result (Rose (K.faults out.old) (K.faults out.new)) }
+    ensures quiet { OnOk result (K.faults out.new ≡ K.faults out.old) }
     ensures counted { K.faults out.old ≤ K.faults out.new }
     ensures steps { (events : List PlainEvent) → StandForList T.rank parts.now.checked events (view_of parts.now) → steps.new ≤ steps.old + why_steps parts.now.checked events (ground_of p.now) (T.rank at) }
 {

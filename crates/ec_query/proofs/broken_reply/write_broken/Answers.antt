@@ -17,7 +17,7 @@ returns-clause-written g c = λ few.
     (IsLeft-next (decimal c.count_broken.result) (members_text text all)
     (IsLeft-start {faults = g.K.Sink.faults} c.args.out.now (counted_text (map text all)) (decimal c.count_broken.result ++ members_text text all)
     (counted_text-of text all ∙ ap (λ n. decimal n ++ members_text text all) count))
-    refl c.in_ok-write_count.ensures.written c.write_count.ensures.counted)
+    refl c.in_ok-write_count.ensures.written c.in_ok-write_count.ensures.quiet)
     refl c.write_members.ensures.written
 
 pub returns-clause-part : goal.returns-clause-part
@@ -29,5 +29,5 @@ returns-clause-part g c = λ few.
     (IsLeft-next (decimal c.count_broken.result) (members_text text all)
     (IsLeft-start {faults = g.K.Sink.faults} c.args.out.now (counted_text (map text all)) (decimal c.count_broken.result ++ members_text text all)
     (counted_text-of text all ∙ ap (λ n. decimal n ++ members_text text all) count))
-    refl c.in_ok-write_count.ensures.written c.write_count.ensures.counted)
+    refl c.in_ok-write_count.ensures.written c.in_ok-write_count.ensures.quiet)
     refl c.write_members.ensures.part

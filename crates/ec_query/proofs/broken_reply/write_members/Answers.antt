@@ -42,7 +42,7 @@ loop-found-preserved g c =
     IsLeft-next c.as_bytes.result.now more c.loop-found.invariant
     (ap (members_text text) (left_behind-next rank (g.M.MarkRow.marks c.args.row.now) c.len.ensures.row c.args.strong c.args.is_initial (option_map (plain_begin rank) c.loop-found.after) (plain_broken rank c.in-Some.found) c.in-Some.ensures)
     ∙ ap (λ bytes. bytes ++ more) (sym (c.as_bytes.ensures ∙ c.set_broken.ensures)))
-    c.in_ok-write_all.ensures.written c.write_all.ensures.counted
+    c.in_ok-write_all.ensures.written c.in_ok-write_all.ensures.quiet
 
 pub returns-clause-written : goal.returns-clause-written
 returns-clause-written g c =

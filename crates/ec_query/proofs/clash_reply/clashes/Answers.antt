@@ -40,7 +40,7 @@ returns-clause-written g c = λ events marked.
     (IsLeft-next (decimal c.count_clashes.result) (members_text canon times)
     (IsLeft-start {faults = g.K.Sink.faults} c.args.out.now (counted_text (map canon times)) (decimal c.count_clashes.result ++ members_text canon times)
     (counted_text-of canon times ∙ ap (λ n. decimal n ++ members_text canon times) count))
-    refl c.in_ok-write_count.ensures.written c.write_count.ensures.counted)
+    refl c.in_ok-write_count.ensures.written c.in_ok-write_count.ensures.quiet)
     refl (c.write_members.ensures.written times are))
 
 pub returns-clause-part : goal.returns-clause-part
@@ -58,5 +58,5 @@ returns-clause-part g c = λ events marked.
     (IsLeft-next (decimal c.count_clashes.result) (members_text canon times)
     (IsLeft-start {faults = g.K.Sink.faults} c.args.out.now (counted_text (map canon times)) (decimal c.count_clashes.result ++ members_text canon times)
     (counted_text-of canon times ∙ ap (λ n. decimal n ++ members_text canon times) count))
-    refl c.in_ok-write_count.ensures.written c.write_count.ensures.counted)
+    refl c.in_ok-write_count.ensures.written c.in_ok-write_count.ensures.quiet)
     refl (c.write_members.ensures.part times are))

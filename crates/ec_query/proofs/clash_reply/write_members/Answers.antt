@@ -1,5 +1,5 @@
 -- Each clash that is found is the first of those that are left.
-use Rattle.std.proofs.Common.{◌++◌, None, Some, sym, ap, ◌∙◌, arith}
+use Rattle.std.proofs.Common.{◌++◌, None, Some, refl, sym, ap, ◌∙◌}
 use Rattle.ec_query.specs.Members.{members_text}
 use Rattle.ec_query.proofs.ClashSearch.{left_behind, left_behind-all, left_behind-next, left_behind-none, fewer_behind}
 use Rattle.ec_query.proofs.WritingLemmas.{IsLeft-start, IsLeft-next, IsLeft-part, IsLeft-end, OnErr-anyway}
@@ -10,7 +10,7 @@ loop-at-init g c = record {
   left = λ times are.
       IsLeft-start c.args.out.now (members_text g.T.Moment.canon times) (members_text g.T.Moment.canon (left_behind g.T.Moment.rank None times))
       (ap (members_text g.T.Moment.canon) (sym (left_behind-all g.T.Moment.rank times)));
-  counted = omega arith;
+  quiet = refl;
 }
 
 pub returns-in_err-write_all-clause-part : goal.returns-in_err-write_all-clause-part
@@ -34,8 +34,8 @@ loop-at-preserved g c = record {
       (ap (members_text g.T.Moment.canon) (left_behind-next g.T.Moment.rank c.args.points.now times are c.loop-at.after c.in-Some.at
       (record { some = c.in-Some.ensures.some; behind = c.in-Some.ensures.behind; least = c.in-Some.ensures.least }))
       ∙ ap (λ bytes. bytes ++ more) (sym (c.as_bytes.ensures ∙ c.set_time.ensures)))
-      c.in_ok-write_all.ensures.written c.write_all.ensures.counted;
-  counted = omega (arith, c.loop-at.invariant.counted, c.write_all.ensures.counted);
+      c.in_ok-write_all.ensures.written c.in_ok-write_all.ensures.quiet;
+  quiet = c.in_ok-write_all.ensures.quiet ∙ c.loop-at.invariant.quiet;
 }
 
 pub returns-clause-written : goal.returns-clause-written

@@ -32,7 +32,7 @@ loop-found-init g c =
           (IsLeft-start {faults = g.K.Sink.faults} c.args.out.now (counted_text (map (event_text canon) (history_of rank kept))) (decimal c.len.result ++ members_text (kept_text rank canon) (drop c.first-cursor.result kept))
           (counted_text-map (event_text canon) (plain_of rank) kept
           ∙ ap₂ (λ n i. decimal n ++ members_text (kept_text rank canon) (drop i kept)) (sym c.len.ensures.len) (sym c.first-cursor.ensures)))
-          refl c.in_ok-write_count.ensures.written c.write_count.ensures.counted;
+          refl c.in_ok-write_count.ensures.written c.in_ok-write_count.ensures.quiet;
       read = omega (arith, c.first-cursor.ensures);
       within = omega (arith, c.first-cursor.ensures);
     }
@@ -79,7 +79,7 @@ loop-found-preserved g c =
           IsLeft-next c.as_bytes.result.now more c.loop-found.invariant.left
           (members_text-next (kept_text rank canon) kept c.loop-found.cursor (next.slot, c.event.result.now) next.there
           ∙ ap₂ (λ bytes i. bytes ++ members_text (kept_text rank canon) (drop i kept)) (sym (c.as_bytes.ensures ∙ c.set_event.ensures)) (sym next.behind))
-          c.in_ok-write_all.ensures.written c.write_all.ensures.counted;
+          c.in_ok-write_all.ensures.written c.in_ok-write_all.ensures.quiet;
       read = omega (arith, next.behind, c.event.ensures.steps, c.loop-found.invariant.read);
       within = omega (arith, next.behind, next.within);
     }

@@ -21,7 +21,7 @@ returns-in_err-write_front-clause-part g c =
     (IsLeft-start {faults = g.K.Sink.faults} c.args.out.now (counted_text (map (interval_text canon) (plain_intervals rank (members_at c.args.id.0 c.args.intervals.now)))) (decimal c.len.result ++ (first ++ rest))
     (counted_text-intervals rank canon front spans
     ∙ ap₂ (λ n f. decimal n ++ (members_text (λ interval. interval_text canon (plain_interval rank interval)) (front_members f) ++ rest)) (sym c.len.ensures) (sym c.front.ensures)))
-    refl c.in_ok-write_count.ensures.written c.write_count.ensures.counted)
+    refl c.in_ok-write_count.ensures.written c.in_ok-write_count.ensures.quiet)
     refl c.in_err-write_front.ensures.part)
 
 pub returns-clause-written : goal.returns-clause-written
@@ -38,8 +38,8 @@ returns-clause-written g c =
     (IsLeft-start {faults = g.K.Sink.faults} c.args.out.now (counted_text (map (interval_text canon) (plain_intervals rank (members_at c.args.id.0 c.args.intervals.now)))) (decimal c.len.result ++ (first ++ rest))
     (counted_text-intervals rank canon front spans
     ∙ ap₂ (λ n f. decimal n ++ (members_text (λ interval. interval_text canon (plain_interval rank interval)) (front_members f) ++ rest)) (sym c.len.ensures) (sym c.front.ensures)))
-    refl c.in_ok-write_count.ensures.written c.write_count.ensures.counted)
-    refl c.in_ok-write_front.ensures.written c.write_front.ensures.counted)
+    refl c.in_ok-write_count.ensures.written c.in_ok-write_count.ensures.quiet)
+    refl c.in_ok-write_front.ensures.written c.in_ok-write_front.ensures.quiet)
     refl c.write_begun.ensures.written
 
 pub returns-clause-part : goal.returns-clause-part
@@ -56,6 +56,6 @@ returns-clause-part g c =
     (IsLeft-start {faults = g.K.Sink.faults} c.args.out.now (counted_text (map (interval_text canon) (plain_intervals rank (members_at c.args.id.0 c.args.intervals.now)))) (decimal c.len.result ++ (first ++ rest))
     (counted_text-intervals rank canon front spans
     ∙ ap₂ (λ n f. decimal n ++ (members_text (λ interval. interval_text canon (plain_interval rank interval)) (front_members f) ++ rest)) (sym c.len.ensures) (sym c.front.ensures)))
-    refl c.in_ok-write_count.ensures.written c.write_count.ensures.counted)
-    refl c.in_ok-write_front.ensures.written c.write_front.ensures.counted)
+    refl c.in_ok-write_count.ensures.written c.in_ok-write_count.ensures.quiet)
+    refl c.in_ok-write_front.ensures.written c.in_ok-write_front.ensures.quiet)
     refl c.write_begun.ensures.part

@@ -24,4 +24,4 @@ loop-span-preserved g c =
     (members_text-next (span_text rank g.T.Moment.canon) c.args.run.now c.loop-span.span-index c.span-item.result
     (slice_get_read c.args.run.now (length c.args.run.now) c.loop-span.span-index c.span-item.result refl (omega arith) c.span-item.is)
     ∙ ap (λ bytes. bytes ++ more) (sym (c.as_bytes.ensures ∙ c.set_interval.ensures)))
-    c.in_ok-write_all.ensures.written c.write_all.ensures.counted
+    c.in_ok-write_all.ensures.written c.in_ok-write_all.ensures.quiet

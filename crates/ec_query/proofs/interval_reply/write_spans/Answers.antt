@@ -17,4 +17,4 @@ loop-i-preserved g c =
     let text = span_text g.T.Moment.rank g.T.Moment.canon in
     let spans = g.I.SpanRow.spans c.args.spans.now in
     IsLeft-next (members_text text c.run-run.result.now) (members_text text (drop (c.loop-i.i + length c.run-run.result.now) spans)) c.loop-i.invariant
-    (members_text-run text spans c.run-run.result.now c.loop-i.i c.run-run.ensures.run) c.in_ok-write_run.ensures.written c.write_run.ensures.counted
+    (members_text-run text spans c.run-run.result.now c.loop-i.i c.run-run.ensures.run) c.in_ok-write_run.ensures.written c.in_ok-write_run.ensures.quiet

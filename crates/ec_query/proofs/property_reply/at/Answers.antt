@@ -32,7 +32,7 @@ returns-clause-written g c = λ theory events held lists.
     (IsLeft-next (decimal c.count.result) (members_text (number_text table) numbers)
     (IsLeft-start {faults = g.K.Sink.faults} c.args.out.now (decimal (length numbers) ++ members_text (number_text table) numbers) (decimal c.count.result ++ members_text (number_text table) numbers)
     (ap (λ n. decimal n ++ members_text (number_text table) numbers) (sym (c.count.ensures ∙ c.list_held-list.ensures.count))))
-    refl c.in_ok-write_count.ensures.written c.write_count.ensures.counted)
+    refl c.in_ok-write_count.ensures.written c.in_ok-write_count.ensures.quiet)
     refl c.write_listed.ensures.written)
 
 pub returns-clause-part : goal.returns-clause-part
@@ -46,5 +46,5 @@ returns-clause-part g c = λ theory events held lists.
     (IsLeft-next (decimal c.count.result) (members_text (number_text table) numbers)
     (IsLeft-start {faults = g.K.Sink.faults} c.args.out.now (decimal (length numbers) ++ members_text (number_text table) numbers) (decimal c.count.result ++ members_text (number_text table) numbers)
     (ap (λ n. decimal n ++ members_text (number_text table) numbers) (sym (c.count.ensures ∙ c.list_held-list.ensures.count))))
-    refl c.in_ok-write_count.ensures.written c.write_count.ensures.counted)
+    refl c.in_ok-write_count.ensures.written c.in_ok-write_count.ensures.quiet)
     refl c.write_listed.ensures.part)

@@ -36,4 +36,4 @@ loop-i-preserved g c =
     let behind = held_numbers rank intervals t (drop (c.loop-i.i + length run) ns) in
     IsLeft-next (members_text text here) (members_text text behind) c.loop-i.invariant
     (ap (members_text text) (filter-next_run (λ p. is_held_at (plain_intervals rank (members_at p.0 intervals)) t) ns run c.loop-i.i c.run_in_order-run.ensures.run) ∙ members_text-append text here behind)
-    c.in_ok-write_run.ensures.written c.write_run.ensures.counted
+    c.in_ok-write_run.ensures.written c.in_ok-write_run.ensures.quiet

@@ -26,4 +26,4 @@ loop-p-preserved g c =
     IsLeft-next (members_text text (item ∷ [])) (members_text text behind) c.loop-p.invariant
     (members_text-next text c.args.numbers.now c.loop-p.p-index item (slice_get-get_or c.args.numbers.now c.loop-p.p-index (record { 0 = 0 }) (omega arith))
     ∙ ap (λ bytes. bytes ++ members_text text behind) (sym (append-nil (32 ∷ text item))))
-    c.in_ok-write_member.ensures.written c.write_member.ensures.counted
+    c.in_ok-write_member.ensures.written c.in_ok-write_member.ensures.quiet

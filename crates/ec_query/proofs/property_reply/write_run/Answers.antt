@@ -39,4 +39,4 @@ loop-p-preserved g c =
     (ap (members_text text) (filter-next_place (λ p. is_held_at (plain_intervals rank (members_at p.0 intervals)) t) c.args.run.now c.loop-p.p-index item
     (slice_get-get_or c.args.run.now c.loop-p.p-index (record { 0 = 0 }) (omega arith)))
     ∙ members_text-append text here behind)
-    c.in_ok-write_one.ensures.written c.write_one.ensures.counted
+    c.in_ok-write_one.ensures.written c.in_ok-write_one.ensures.quiet
