@@ -1,5 +1,5 @@
 //! Writing the replies to queries that are as long as what they tell.
-ghost use Rattle.std.specs.Prelude.{◌≡◌, ◌≤◌, ◌+◌, false, OnOk, OnErr};
+ghost use Rattle.std.specs.Prelude.{◌≡◌, ◌≤◌, ◌+◌, ◌⊎◌, false, OnOk, OnErr};
 ghost use Rattle.ec_outside.specs.Counts.{Rose};
 ghost use Rattle.ec_outside.specs.Streams.{Appended, AppendedPart};
 ghost use Rattle.ec_replies.specs.Replies.{query_text, reply_line};
@@ -30,6 +30,7 @@ impl<T: Moment, M: MarkRow<T>, I: SpanRow<T>, X: TimeRow<T>> Sessions<T, M, I, X
         ensures written { OnOk result (Appended K.stands out.old out.new (query_text (record { theory = self.now.theory; spelt = T.spelt; canon = T.canon }) self.now.state (plain_listing T.rank listing.now))) }
         ensures part { OnErr result (AppendedPart K.stands out.old out.new (query_text (record { theory = self.now.theory; spelt = T.spelt; canon = T.canon }) self.now.state (plain_listing T.rank listing.now))) }
         ensures failed { OnErr result (Rose (K.faults out.old) (K.faults out.new)) }
+        ensures quiet { OnOk result (K.faults out.new ≡ K.faults out.old) }
         ensures counted { K.faults out.old ≤ K.faults out.new }
         ensures steps { steps.new ≤ steps.old + most_query_steps self.now.theory self.now.state.events (plain_listing T.rank listing.now) }
     {
@@ -54,6 +55,7 @@ impl<T: Moment, M: MarkRow<T>, I: SpanRow<T>, X: TimeRow<T>> Sessions<T, M, I, X
         ensures written { OnOk result (Appended K.stands out.old out.new (reply_line prefix (query_text (record { theory = self.now.theory; spelt = T.spelt; canon = T.canon }) self.now.state (plain_listing T.rank listing.now)))) }
         ensures part { OnErr result (AppendedPart K.stands out.old out.new (reply_line prefix (query_text (record { theory = self.now.theory; spelt = T.spelt; canon = T.canon }) self.now.state (plain_listing T.rank listing.now)))) }
         ensures failed { OnErr result (Rose (K.faults out.old) (K.faults out.new)) }
+        ensures quiet { OnOk result (K.faults out.new ≡ K.faults out.old) }
         ensures counted { K.faults out.old ≤ K.faults out.new }
         ensures steps { steps.new ≤ steps.old + most_query_steps self.now.theory self.now.state.events (plain_listing T.rank listing.now) }
     {
@@ -72,6 +74,7 @@ impl<T: Moment, M: MarkRow<T>, I: SpanRow<T>, X: TimeRow<T>> Sessions<T, M, I, X
     ) -> Handled
         ensures written { IsWritten K.stands result false (reply_line prefix (query_text (record { theory = self.now.theory; spelt = T.spelt; canon = T.canon }) self.now.state (plain_listing T.rank listing.now))) out.old out.new }
         ensures failed { result ≡ Handled.WriteFault → Rose (K.faults out.old) (K.faults out.new) }
+        ensures quiet { (result ≡ Handled.WriteFault) ⊎ (K.faults out.new ≡ K.faults out.old) }
         ensures counted { K.faults out.old ≤ K.faults out.new }
         ensures steps { steps.new ≤ steps.old + most_query_steps self.now.theory self.now.state.events (plain_listing T.rank listing.now) }
     {

@@ -1,5 +1,5 @@
 //! A reply of fixed form, and what follows it.
-ghost use Rattle.std.specs.Prelude.{◌≡◌, ◌≤◌};
+ghost use Rattle.std.specs.Prelude.{◌≡◌, ◌≤◌, ◌⊎◌};
 ghost use Rattle.ec_axioms.specs.Answers.{answer_text};
 ghost use Rattle.ec_lines.specs.ShownAnswer.{plain_answer};
 ghost use Rattle.ec_outside.specs.Counts.{Rose};
@@ -22,6 +22,7 @@ fn is_bye(answer: &Answer) -> bool
 pub(crate) fn reply<K: Sink>(session: Option<u8>, answer: &Answer, out: &mut K) -> Handled
     ensures written { IsWritten K.stands result (is_bye (plain_answer answer.now)) (reply_line session (answer_text (plain_answer answer.now))) out.old out.new }
     ensures failed { result ≡ Handled.WriteFault → Rose (K.faults out.old) (K.faults out.new) }
+    ensures quiet { (result ≡ Handled.WriteFault) ⊎ (K.faults out.new ≡ K.faults out.old) }
     ensures counted { K.faults out.old ≤ K.faults out.new }
 {
     if write_answer(session, answer, out).is_err() {

@@ -1,5 +1,5 @@
 //! The sessions, and how they handle one line.
-ghost use Rattle.std.specs.Prelude.{◌≡◌, ◌≤◌, ◌+◌, ◌<◌, ℕ, List, false, IfOk, IfSome};
+ghost use Rattle.std.specs.Prelude.{◌≡◌, ◌≤◌, ◌+◌, ◌<◌, ◌⊎◌, ℕ, List, false, IfOk, IfSome};
 ghost use Rattle.ec_axioms.specs.Commands.{parsed_of};
 ghost use Rattle.ec_axioms.specs.Lines.{is_long};
 ghost use Rattle.ec_axioms.specs.declared.limits.TheConstants.{SESSIONS};
@@ -82,6 +82,7 @@ impl<T: Moment, M: MarkRow<T>, I: SpanRow<T>, X: TimeRow<T>> Sessions<T, M, I, X
         ensures handled { (shown : List ℕ) → ShowsLine line.entry shown →
             IsHandled K.stands (record { theory = self.old.theory; spelt = T.spelt; canon = T.canon }) result shown self.old.state self.new.state out.old out.new }
         ensures failed { result ≡ Handled.WriteFault → Rose (K.faults out.old) (K.faults out.new) }
+        ensures quiet { (result ≡ Handled.WriteFault) ⊎ (K.faults out.new ≡ K.faults out.old) }
         ensures counted { K.faults out.old ≤ K.faults out.new }
         ensures steps { (shown : List ℕ) → ShowsLine line.entry shown →
             steps.new ≤ steps.old + most_line_steps (record { theory = self.old.theory; spelt = T.spelt; canon = T.canon }) self.old.state shown }
@@ -105,6 +106,7 @@ impl<T: Moment, M: MarkRow<T>, I: SpanRow<T>, X: TimeRow<T>> Sessions<T, M, I, X
         ensures handled { (line : List ℕ) → is_long line ≡ false → plain_parsed T.rank parsed.entry ≡ parsed_of T.spelt line →
             IsHandled K.stands (record { theory = self.old.theory; spelt = T.spelt; canon = T.canon }) result line self.old.state self.new.state out.old out.new }
         ensures failed { result ≡ Handled.WriteFault → Rose (K.faults out.old) (K.faults out.new) }
+        ensures quiet { (result ≡ Handled.WriteFault) ⊎ (K.faults out.new ≡ K.faults out.old) }
         ensures counted { K.faults out.old ≤ K.faults out.new }
         ensures steps { steps.new ≤ steps.old + most_parsed_steps self.old.theory self.old.state (plain_parsed T.rank parsed.entry) }
     {
