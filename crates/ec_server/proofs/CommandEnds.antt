@@ -1,5 +1,5 @@
 -- Which status a command has where nothing fails.
-use Rattle.std.proofs.Common.{◌≡◌, ◌≤◌, ◌⊎◌, ℕ, List, Option, Some, IsSome, refl, sym, subst, inl, inr}
+use Rattle.std.proofs.Common.{◌≡◌, ◌⊎◌, ℕ, List, Option, Some, IsSome, refl, sym, ◌∙◌, subst, inl, inr, arith}
 use Rattle.ec_terms.specs.declared.theory.Theory.{Theory}
 use Rattle.ec_outside.specs.Counts.{Rose}
 use Rattle.ec_outside.proofs.Counts.{Rose-earlier}
@@ -103,13 +103,15 @@ module _ {K : Type 0} (stands : K → List ℕ → Type 0) (faults : K → ℕ) 
   no_line s input_status says = absurd input_status
 
   -- a line that was written is handed on, or the sink fails then
-  pub line_handed_on : (middle : K) (text : List ℕ) (s : Status) → IsLine text → Appended stands old middle text → Kept stands middle new → faults old ≤ faults middle
-      → (s ≡ status.Done) ⊎ ((s ≡ status.WriteFault) × Rose (faults middle) (faults new)) → SaysLine stands faults old new IsLine s
-  line_handed_on middle text s is written kept counted (inl done) =
-      subst (λ (t : Status). SaysLine stands faults old new IsLine t) (sym done) (text, is, Appended-then-Kept written kept)
-  line_handed_on middle text s is written kept counted (inr failed) =
+  pub line_handed_on : (middle : K) (text : List ℕ) (s : Status) → IsLine text → Appended stands old middle text → Kept stands middle new → faults middle ≡ faults old
+      → (s ≡ status.Done) ⊎ ((s ≡ status.WriteFault) × Rose (faults middle) (faults new)) → (s ≡ status.WriteFault) ⊎ (faults new ≡ faults middle)
+      → SaysLine stands faults old new IsLine s
+  line_handed_on middle text s is written kept same (inl done) told =
+      subst (λ (t : Status). SaysLine stands faults old new IsLine t) (sym done)
+      (text, is, Appended-then-Kept written kept, second_of_two told (λ broken. cc) ∙ same)
+  line_handed_on middle text s is written kept same (inr failed) told =
       subst (λ (t : Status). SaysLine stands faults old new IsLine t) (sym failed.0)
-      (Rose-earlier counted failed.1, (text, is, AppendedPart-then-Kept (AppendedPart-all written) kept))
+      (Rose-earlier (omega (arith, same)) failed.1, (text, is, AppendedPart-then-Kept (AppendedPart-all written) kept))
 
   pub same_line : (s : Status) → IsUntouched s → SaysLine stands faults old new IsLine s → new ≡ old
   same_line status.NoMemory untouched says = says

@@ -4,6 +4,7 @@ pub mod PieceSteps
 pub mod InputTurns
 pub mod Endings
 pub mod WholeInput
+pub mod ToldFaults
 pub mod ServedBytes
 pub mod LineFiles
 pub mod ReplyEnds

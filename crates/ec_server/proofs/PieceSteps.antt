@@ -1,5 +1,5 @@
 -- How a piece of the input is served, line by line.
-use Rattle.std.proofs.Common.{◌≡◌, ℕ, ◌-◌, ◌≤◌, Bool, true, false, List, [], ◌∷◌, ◌++◌, length, take, drop, refl, sym, ap, ◌∙◌, subst, append_assoc, append-nil, take-append-drop, arith}
+use Rattle.std.proofs.Common.{◌≡◌, ℕ, ◌-◌, Bool, true, false, List, [], ◌∷◌, ◌++◌, length, take, drop, refl, sym, ap, ◌∙◌, subst, append_assoc, append-nil, take-append-drop, arith}
 use Rattle.std.proofs.lemmas.List.{take_rest}
 use Rattle.ec_axioms.specs.Lines.{cut_of, whole_lines}
 use Rattle.ec_replies.specs.State.{State}
@@ -63,14 +63,14 @@ module _ {K : Type 0} (stands : K → List ℕ → Type 0) (language : Language)
     part = served.part;
   }
 
--- A piece of the input is under way: the bytes before the rest are served.
+-- A piece of the input is under way: the bytes before the rest are served, and no fault was counted.
 pub record IsUnderWay {K : Type 0} (stands : K → List ℕ → Type 0) (faults : K → ℕ) (language : Language) (piece rest : List ℕ)
     (before now : State) (feed_before feed : FeedState) (out_before out : K) : Type 0 where
   pub done : List ℕ
   pub split : piece ≡ done ++ rest
   pub serves : (taken : List ℕ) (start : K) → IsAt stands language taken before feed_before start out_before → IsAt stands language (taken ++ done) now feed start out
   pub ready : feed.is_ready ≡ false
-  pub counted : faults out_before ≤ faults out
+  pub quiet : faults out ≡ faults out_before
 
 -- a list without members
 pub empty_list : (xs : List ℕ) → length xs ≡ 0 → xs ≡ []
@@ -85,7 +85,7 @@ module _ {K : Type 0} (stands : K → List ℕ → Type 0) (faults : K → ℕ) 
     split = refl;
     serves = λ taken start at. subst (λ (t : List ℕ). IsAt stands language t before feed_before start out_before) (sym (append-nil taken)) at;
     ready = ready;
-    counted = omega arith;
+    quiet = refl;
   }
 
   -- the bytes up to the next line end, or all of them, are served
@@ -93,9 +93,9 @@ module _ {K : Type 0} (stands : K → List ℕ → Type 0) (faults : K → ℕ) 
       → IsUnderWay stands faults language piece rest before now feed_before feed out_before out
       → ((stream : List ℕ) → IsPart feed (cut_of stream).rest → Advances fed.is_ready fed stream (stream ++ take count rest))
       → ((taken longer : List ℕ) (start : K) → IsServing stands language taken now start out → Advances fed.is_ready fed taken longer → IsAt stands language longer next next_feed start next_out)
-      → next_feed.is_ready ≡ false → faults out ≤ faults next_out
+      → next_feed.is_ready ≡ false → faults next_out ≡ faults out
       → IsUnderWay stands faults language piece (take (length rest - count) (drop count rest)) before next feed_before next_feed out_before next_out
-  IsUnderWay-next rest count now next feed fed next_feed out next_out under stream served ready counted = record {
+  IsUnderWay-next rest count now next feed fed next_feed out next_out under stream served ready quiet = record {
     done = under.done ++ take count rest;
     split = under.split ∙ ap (λ (r : List ℕ). under.done ++ r) (sym (take-append-drop count rest))
         ∙ sym (append_assoc under.done (take count rest) (drop count rest))
@@ -104,7 +104,7 @@ module _ {K : Type 0} (stands : K → List ℕ → Type 0) (faults : K → ℕ) 
         subst (λ (t : List ℕ). IsAt stands language t next next_feed start next_out) (append_assoc taken under.done (take count rest))
         (served (taken ++ under.done) ((taken ++ under.done) ++ take count rest) start here.serving (stream (taken ++ under.done) here.part));
     ready = ready;
-    counted = omega (arith, under.counted, counted);
+    quiet = quiet ∙ under.quiet;
   }
 
   -- a line ended the serving of the piece

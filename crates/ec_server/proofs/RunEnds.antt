@@ -22,8 +22,9 @@ use Rattle.ec_server.specs.TheoryFiles.{HasTheory, accepted_line, theory_line}
 use Rattle.ec_server.specs.Words.{Shape, check_theory, replay_lines, serve_theory, soak_lines, usage_line}
 use Rattle.ec_server.proofs.PartialReplies.{AnswersPart-longer}
 use Rattle.ec_server.proofs.CommandEnds.{IsInputStatus, IsUntouched, done_if_short, limit_if_long, line_done, never_replayed, no_line, no_refusal, no_replay, only_memory, refuses_with, replay_done, replay_long, same_line, same_refusal, same_replay, same_serve, told_refused}
-use Rattle.ec_server.proofs.StatusCodes.{by_either, either_code, first_of_two, second_of_two, some_of, status_same}
+use Rattle.ec_server.proofs.StatusCodes.{by_either, either_code, first_of_two, second_of_two, some_of, status_same, told_code}
 use Rattle.ec_server.proofs.TheoryTexts.{HasTheory-not_refused}
+use Rattle.ec_server.proofs.ToldFaults.{line_told, read_told, refusal_told, replay_told, write_told}
 use Rattle.ec_server.proofs.WholeInput.{left_at_limit, lines_done, read_done, stops_at_limit, taken_within}
 
 -- whether a line is `quit` is the same with every theory
@@ -89,7 +90,7 @@ module _ {S K : Type 0} {left : S → Option (List ℕ)} {read_faults : S → �
       by_shape (replay_lines name lines) ends tells =
           let with = first_of_two ends.says.0.says (λ none. none.0) in
           let read = first_of_two with.2 (λ unread. unread) in
-          (with.0, read.0, (with.1 tells, read.1 tells), read.2)
+          (with.0, read.0, (with.1 tells, read.1 tells), read.2.0)
       by_shape (soak_lines lines seed) ends tells = absurd tells
 
   pub completes : IsRan left read_faults stands write_faults told before after input_before input output_before output asks code → (shape : Shape) → asks ≡ Some shape → IsReady told (left input_before) shape → ¬ Rose before after
@@ -132,7 +133,7 @@ module _ {S K : Type 0} {left : S → Option (List ℕ)} {read_faults : S → �
 
   pub soaks : IsRan left read_faults stands write_faults told before after input_before input output_before output asks code → code ≡ 0 → (lines seed : ℕ) → asks ≡ Some (soak_lines lines seed) → (text : List ℕ) × IsSoakLine lines seed text × Appended stands output_before output text
   unfolding code_of
-  soaks run is lines seed asked = (ends_at run status.Done is (soak_lines lines seed) asked).says.0
+  soaks run is lines seed asked = let line = (ends_at run status.Done is (soak_lines lines seed) asked).says.0 in (line.0, line.1, line.2)
 
   -- ---- 2
 
@@ -382,3 +383,56 @@ module _ {S K : Type 0} {left : S → Option (List ℕ)} {read_faults : S → �
       by_shape (serve_theory name) ends = (second_of_two ends.says.says (λ with. with.2)).1
       by_shape (replay_lines name lines) ends = ends.says.1
       by_shape (soak_lines lines seed) ends = ends.says.1
+
+  -- ---- failed calls are told
+
+  pub input_told : IsRan left read_faults stands write_faults told before after input_before input output_before output asks code → (code ≡ 4) ⊎ (read_faults input ≡ read_faults input_before)
+  unfolding code_of
+  input_told run = told_code status.ReadFault run.is (by_words asks run.ends)
+    where
+      by_words : (words : Option Shape) → Ends left read_faults stands write_faults told before after input_before input output_before output words run.ended → (run.ended ≡ status.ReadFault) ⊎ (read_faults input ≡ read_faults input_before)
+      by_words None ends = inr (ap read_faults ends.says.2)
+      by_words (Some (check_theory name)) ends = inr (ap read_faults ends.says.1)
+      by_words (Some (serve_theory name)) ends =
+          by_either ends.says.says (λ with. read_told left read_faults stands write_faults (in_ticks with.0) most_input input_before input output_before output run.ended with.2)
+          (λ none. inr (ap read_faults none.1))
+      by_words (Some (replay_lines name lines)) ends = inr (ap read_faults ends.says.1)
+      by_words (Some (soak_lines lines seed)) ends = inr (ap read_faults ends.says.1)
+
+  pub files_told : IsRan left read_faults stands write_faults told before after input_before input output_before output asks code → (code ≡ 7) ⊎ (after ≡ before)
+  unfolding code_of
+  files_told run = told_code status.FolderFault run.is (by_words asks run.ends)
+    where
+      by_words : (words : Option Shape) → Ends left read_faults stands write_faults told before after input_before input output_before output words run.ended → (run.ended ≡ status.FolderFault) ⊎ (after ≡ before)
+      by_words None ends = inr ends.says.3
+      by_words (Some (check_theory name)) ends = ends.says.0.files_told
+      by_words (Some (serve_theory name)) ends = ends.says.files_told
+      by_words (Some (replay_lines name lines)) ends = ends.says.0.files_told
+      by_words (Some (soak_lines lines seed)) ends = inr ends.says.2
+
+  pub output_told : IsRan left read_faults stands write_faults told before after input_before input output_before output asks code → ((code ≡ 5) ⊎ ((code ≡ 2) ⊎ (code ≡ 3))) ⊎ (write_faults output ≡ write_faults output_before)
+  unfolding code_of
+  output_told run = by_words asks run.ends
+    where
+      broken : (run.ended ≡ status.WriteFault) ⊎ (write_faults output ≡ write_faults output_before)
+          → ((code ≡ 5) ⊎ ((code ≡ 2) ⊎ (code ≡ 3))) ⊎ (write_faults output ≡ write_faults output_before)
+      broken either = by_either (told_code status.WriteFault run.is either) (λ five. inl (inl five)) (λ quiet. inr quiet)
+
+      refused_line : (run.ended ≡ status.BadTheory) ⊎ (write_faults output ≡ write_faults output_before)
+          → ((code ≡ 5) ⊎ ((code ≡ 2) ⊎ (code ≡ 3))) ⊎ (write_faults output ≡ write_faults output_before)
+      refused_line either = by_either (told_code status.BadTheory run.is either) (λ three. inl (inr (inr three))) (λ quiet. inr quiet)
+
+      by_words : (words : Option Shape) → Ends left read_faults stands write_faults told before after input_before input output_before output words run.ended
+          → ((code ≡ 5) ⊎ ((code ≡ 2) ⊎ (code ≡ 3))) ⊎ (write_faults output ≡ write_faults output_before)
+      by_words None ends = inl (inr (inl (run.is ∙ ap code_of ends.says.0)))
+      by_words (Some (check_theory name)) ends =
+          by_either ends.says.0.says (λ with. broken (line_told stands write_faults output_before output _ run.ended with.2))
+          (λ none. refused_line (refusal_told stands write_faults output_before output told name before after run.ended none.0))
+      by_words (Some (serve_theory name)) ends =
+          by_either ends.says.says
+          (λ with. broken (write_told left read_faults stands write_faults (in_ticks with.0) most_input input_before input output_before output run.ended with.2))
+          (λ none. refused_line (refusal_told stands write_faults output_before output told name before after run.ended none.0))
+      by_words (Some (replay_lines name lines)) ends =
+          by_either ends.says.0.says (λ with. broken (replay_told stands write_faults output_before output told lines before after with.0 run.ended with.2))
+          (λ none. refused_line (refusal_told stands write_faults output_before output told name before after run.ended none.0))
+      by_words (Some (soak_lines lines seed)) ends = broken (line_told stands write_faults output_before output _ run.ended ends.says.0)

@@ -10,6 +10,8 @@ use Rattle.ec_server.specs.Answered.{AnswersPart}
 use Rattle.ec_server.specs.CommandEnds.{SaysBytes}
 use Rattle.ec_server.specs.Ending.{HasEnded, IsBroken, SaysServed}
 use Rattle.ec_server.proofs.PartialReplies.{AnswersPart-longer}
+use Rattle.ec_server.proofs.StatusCodes.{second_of_two}
+use Rattle.ec_server.proofs.ToldFaults.{write_told}
 use Rattle.ec_server.proofs.WholeInput.{lines_done}
 
 -- a count that stays 0 does not rise
@@ -41,7 +43,10 @@ module _ {S K : Type 0} (left : S → Option (List ℕ)) (read_faults : S → �
   -- so the lines of the bytes are answered, or the sink failed within their replies
   pub SaysBytes-of : length bytes < limit → ¬ Rose (read_faults input_before) (read_faults input) → (s : Status)
       → SaysServed left read_faults stands write_faults language limit input_before input output_before output s → SaysBytes stands write_faults language output_before output bytes s
-  SaysBytes-of below fine status.Done says = lines_done says bytes told
+  SaysBytes-of below fine status.Done says = (
+    lines_done says bytes told,
+    second_of_two (write_told left read_faults stands write_faults language limit input_before input output_before output status.Done says) (λ same. cc),
+  )
   SaysBytes-of below fine status.NoShape says = absurd says
   SaysBytes-of below fine status.BadTheory says = absurd says
   SaysBytes-of below fine status.ReadFault says = absurd (fine (says.read_fault refl))

@@ -48,7 +48,7 @@ IsSoaked-of lines seed limit theory text before left blank tally s counts below 
     subst (λ (t : Theory). AnswersLines stands_for_tally (in_ticks t) (lines_of (generated_load lines seed)) blank tally) same
     (subst (λ (t : Status). SaysBytes stands_for_tally (λ (t : Tally). 0) (in_ticks theory) blank tally (generated_load lines seed) t) done
     (SaysBytes-of (λ (bytes : List ℕ). Some bytes) (λ (bytes : List ℕ). 0) stands_for_tally (λ (t : Tally). 0) (in_ticks theory) limit before left blank tally
-    (generated_load lines seed) (ap (λ (b : List ℕ). Some b) is_load) below zero_stays s served)) in
+    (generated_load lines seed) (ap (λ (b : List ℕ). Some b) is_load) below zero_stays s served)).0 in
     record {
       out = answers.out;
       run = answers.run;

@@ -43,6 +43,11 @@ pub either_code : {code : ℕ} {s : Status} (a b : Status) → code ≡ code_of 
 either_code a b is (inl one) = inl (is ∙ ap code_of one)
 either_code a b is (inr other) = inr (is ∙ ap code_of other)
 
+-- what is told by a status is told by its number
+pub told_code : {Quiet : Type 0} {code : ℕ} {s : Status} (t : Status) → code ≡ code_of s → (s ≡ t) ⊎ Quiet → (code ≡ code_of t) ⊎ Quiet
+told_code t is (inl told) = inl (is ∙ ap code_of told)
+told_code t is (inr quiet) = inr quiet
+
 -- a run with one of these numbers has handed on what it wrote
 pub hands_on-code : {code : ℕ} (s : Status) → code ≡ code_of s → (code ≡ 0) ⊎ ((code ≡ 4) ⊎ (code ≡ 8)) → IsTrue (hands_on s)
 unfolding code_of hands_on
@@ -77,6 +82,11 @@ by_either (inr b) one other = other b
 pub second_of_two : {A B : Type 0} → A ⊎ B → (A → ⊥) → B
 second_of_two (inl a) never = absurd (never a)
 second_of_two (inr b) never = b
+
+-- where no fault was counted at first, and later none that is not told, none was counted that is not told
+pub quiet-then : {Told : Type 0} {before middle after : ℕ} → middle ≡ before → Told ⊎ (after ≡ middle) → Told ⊎ (after ≡ before)
+quiet-then same (inl told) = inl told
+quiet-then same (inr quiet) = inr (quiet ∙ same)
 
 -- an option that has a value
 pub some_of : {A : Type 0} (option : Option A) → IsSome option → (a : A) × (option ≡ Some a)

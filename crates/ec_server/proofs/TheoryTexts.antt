@@ -1,5 +1,5 @@
 -- A text is a theory or has a fault, and never both; a folder has one file of a name.
-use Rattle.std.proofs.Common.{◌≡◌, ◌≤◌, ℕ, Bool, true, false, List, length, Option, Some, None, IsSome, sym, ap, ◌∙◌, subst, arith}
+use Rattle.std.proofs.Common.{◌≡◌, ◌≤◌, ◌⊎◌, ℕ, Bool, true, false, List, length, Option, Some, None, IsSome, Err, IsErrOf, sym, ap, ◌∙◌, subst, inl, inr, arith}
 use Rattle.std.specs.FinMap as map
 use Rattle.ec_terms.specs.declared.theory.Theory.{Theory}
 use Rattle.ec_tokens.specs.declared.fault.TokenFault.TheVariants as token
@@ -16,9 +16,11 @@ use Rattle.ec_outside.specs.Files.{Files, HasFile, IsMissing, IsTooLong}
 use Rattle.ec_server.specs.declared.theory_file.NoTheory.{NoTheory}
 use Rattle.ec_server.specs.declared.theory_file.NoTheory.TheVariants.{FolderFault, NoMemory, Said}
 use Rattle.ec_server.specs.declared.status.Status.{Status}
+use Rattle.ec_server.specs.declared.status.Status.TheVariants as status
 use Rattle.ec_server.specs.CommandEnds.{SaysRefused}
 use Rattle.ec_server.specs.Loading.{IsBytesReason, IsReason, IsRefusal}
 use Rattle.ec_server.specs.TheoryFiles.{HasTheory, IsNoTheory, too_long, faulty, most_theory_bytes, fault_text, token_text, syntax_text}
+use Rattle.ec_server.proofs.StatusCodes.{second_of_two}
 
 -- ---- texts
 
@@ -100,6 +102,13 @@ IsReason-bytes told name bytes before after file fits (Said text) is = (
   (λ long. absurd (HasFile-not_long (file (HasFile-told long.file)) fits long)),
   is.1,
 )
+
+-- that a call on the folder failed is told by the status of a run that has no theory
+pub refused_told : {K T : Type 0} (stands : K → List ℕ → Type 0) (faults : K → ℕ) (before after : ℕ) (old new : K) (reason : NoTheory) (ended : Status)
+    → IsErrOf {T = T} (Err reason) FolderFault ⊎ (after ≡ before) → IsRefusal stands faults reason ended old new → (ended ≡ status.FolderFault) ⊎ (after ≡ before)
+refused_told stands faults before after old new FolderFault ended told is = inl is.0
+refused_told stands faults before after old new NoMemory ended told is = inr (second_of_two told (λ broken. cc))
+refused_told stands faults before after old new (Said text) ended told is = inr (second_of_two told (λ broken. cc))
 
 -- what the status of a run says that has no theory
 pub SaysRefused-of : {K : Type 0} (stands : K → List ℕ → Type 0) (faults : K → ℕ) (told : Option Files) (name : List ℕ) (before after : ℕ) (old new : K)

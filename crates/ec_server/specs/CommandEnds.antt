@@ -20,9 +20,9 @@ module _ {K : Type 0} (stands : K → List ℕ → Type 0) (faults : K → ℕ) 
   abbrev pub Wrote : List ℕ → Type 0
   Wrote text = Appended stands old new text ⊎ (Rose (faults old) (faults new) × AppendedPart stands old new text)
 
-  -- one line was written whole, or the sink failed within it; or memory ran out, and nothing was written; no other status comes
+  -- one line was written whole, and no call failed; or the sink failed within it; or memory ran out, and nothing was written; no other status comes
   abbrev pub SaysLine : (List ℕ → Type 0) → Status → Type 0
-  SaysLine IsLine status.Done = (text : List ℕ) × IsLine text × Appended stands old new text
+  SaysLine IsLine status.Done = (text : List ℕ) × IsLine text × Appended stands old new text × (faults new ≡ faults old)
   SaysLine IsLine status.NoShape = ⊥
   SaysLine IsLine status.BadTheory = ⊥
   SaysLine IsLine status.ReadFault = ⊥
@@ -41,9 +41,9 @@ module _ {K : Type 0} (stands : K → List ℕ → Type 0) (faults : K → ℕ) 
   SaysSoaked lines seed ended = SaysLine (IsSoakLine lines seed) ended
 
 module _ {K : Type 0} (stands : K → List ℕ → Type 0) (faults : K → ℕ) (language : Language) (old new : K) where
-  -- the lines of bytes were answered, or the sink failed within the replies, or memory ran out first; no other status comes
+  -- the lines of bytes were answered, and no call failed; or the sink failed within the replies; or memory ran out first; no other status comes
   abbrev pub SaysBytes : List ℕ → Status → Type 0
-  SaysBytes bytes status.Done = AnswersLines stands language (lines_of bytes) old new
+  SaysBytes bytes status.Done = AnswersLines stands language (lines_of bytes) old new × (faults new ≡ faults old)
   SaysBytes bytes status.NoShape = ⊥
   SaysBytes bytes status.BadTheory = ⊥
   SaysBytes bytes status.ReadFault = ⊥
@@ -90,9 +90,11 @@ module _ {K : Type 0} (stands : K → List ℕ → Type 0) (faults : K → ℕ) 
   SaysRefused status.LimitReached = ⊥
   SaysRefused status.LongLines = ⊥
 
-  -- The status says this with a theory, which is the one in the file, where the folder tells its files. Or there is none.
+  -- The status says this with a theory, which is the one in the file, where the folder tells its files. Or there is none. A call on the
+  -- folder that failed is told.
   pub record WithTheory (Says : Theory → Status → Type 0) (Unchanged : Type 0) (ended : Status) : Type 0 where
     pub says : ((theory : Theory) × (IsSome told → HasTheory told name theory) × Says theory ended) ⊎ (SaysRefused ended × Unchanged)
+    pub files_told : (ended ≡ status.FolderFault) ⊎ (after ≡ before)
 
   -- a theory was checked, and told to be accepted
   abbrev pub HasChecked : Status → Type 0

@@ -42,13 +42,15 @@ module _ {K : Type 0} (stands : K → List ℕ → Type 0) (language : Language)
 
 module _ {S K : Type 0} (left : S → Option (List ℕ)) (read_faults : S → ℕ) (stands : K → List ℕ → Type 0) (write_faults : K → ℕ) (language : Language) (limit : ℕ)
     (input_before input : S) (output_before output : K) where
-  -- bytes were taken from the input, of which the ending says this; where a call failed, its fault was counted
+  -- bytes were taken from the input, of which the ending says this; where a call failed, its fault was counted, and the ending tells it
   pub record HasEnded (ending : Ending) : Type 0 where
     pub taken : List ℕ
     pub took : Took (left input_before) (left input) taken
     pub ended : IsEnding stands language ending limit (left input) taken output_before output
     pub read_fault : ending ≡ ReadFault → Rose (read_faults input_before) (read_faults input)
     pub write_fault : ending ≡ WriteFault → Rose (write_faults output_before) (write_faults output)
+    pub read_told : (ending ≡ ReadFault) ⊎ (read_faults input ≡ read_faults input_before)
+    pub write_told : (ending ≡ WriteFault) ⊎ (write_faults output ≡ write_faults output_before)
 
   -- what the status of a serving says: how it ended, or that nothing was taken and written; no other status comes
   abbrev pub SaysServed : Status → Type 0

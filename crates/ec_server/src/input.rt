@@ -1,5 +1,5 @@
 //! The loop that serves an input: reads and flushes round its pieces, up to its end, a `quit` or a limit.
-ghost use Rattle.std.specs.Prelude.{◌≡◌, ◌≤◌, ◌<◌, ◌+◌, ◌⊎◌, ℕ, List, [], false, length, take, IfOk, OnErr};
+ghost use Rattle.std.specs.Prelude.{◌≡◌, ◌≤◌, ◌<◌, ◌+◌, ◌⊎◌, ℕ, List, [], false, length, take, IfOk, OnOk, OnErr};
 ghost use Rattle.ec_axioms.specs.Lines.{lines_of};
 ghost use Rattle.ec_replies.specs.State.{empty_state};
 ghost use Rattle.ec_server.specs.Answered.{AnswersLines, AnswersPart};
@@ -35,6 +35,7 @@ fn read_piece<S: Source>(
     ensures end { IfOk result (λ count. count ≡ 0 → IsAtEnd (S.left input.new)) }
     ensures unchanged { OnErr result (S.left input.new ≡ S.left input.old) }
     ensures failed { OnErr result (Rose (S.faults input.old) (S.faults input.new)) }
+    ensures quiet { OnOk result (S.faults input.new ≡ S.faults input.old) }
     ensures counted { S.faults input.old ≤ S.faults input.new }
 {
     let most = left.min(PIECE as u64) as usize;
@@ -53,6 +54,7 @@ fn answer_rest<T: Moment, M: MarkRow<T>, I: SpanRow<T>, X: TimeRow<T>, K: Sink, 
         (taken : List ℕ) (start : K) → IsAt K.stands language taken sessions.old.state feed.old start out.old →
         IsLast K.stands language result (lines_of taken) start out.new }
     ensures failed { result ≡ Handled.WriteFault → Rose (K.faults out.old) (K.faults out.new) }
+    ensures quiet { (result ≡ Handled.WriteFault) ⊎ (K.faults out.new ≡ K.faults out.old) }
     ensures counted { K.faults out.old ≤ K.faults out.new }
 {
     feed.end();
@@ -76,6 +78,7 @@ fn finish<T: Moment, M: MarkRow<T>, I: SpanRow<T>, X: TimeRow<T>, K: Sink, L: Le
         ⊎ ((result ≡ Ending.WriteFault) × AnswersPart K.stands language (lines_of taken) start out.new) }
     ensures either { (result ≡ Ending.End) ⊎ (result ≡ Ending.WriteFault) }
     ensures failed { result ≡ Ending.WriteFault → Rose (K.faults out.old) (K.faults out.new) }
+    ensures quiet { (result ≡ Ending.WriteFault) ⊎ (K.faults out.new ≡ K.faults out.old) }
     ensures handed_on { (result ≡ Ending.WriteFault) ⊎ (K.waiting out.new ≡ 0) }
 {
     match answer_rest(sessions, feed, out, steps) {
@@ -88,6 +91,7 @@ fn finish<T: Moment, M: MarkRow<T>, I: SpanRow<T>, X: TimeRow<T>, K: Sink, L: Le
 fn hand_on<K: Sink>(out: &mut K, ending: Ending) -> Ending
     ensures kept { Kept K.stands out.old out.new }
     ensures either { (result ≡ ending) ⊎ ((result ≡ Ending.WriteFault) × Rose (K.faults out.old) (K.faults out.new)) }
+    ensures quiet { (result ≡ Ending.WriteFault) ⊎ (K.faults out.new ≡ K.faults out.old) }
     ensures counted { K.faults out.old ≤ K.faults out.new }
     ensures handed_on { (result ≡ Ending.WriteFault) ⊎ (K.waiting out.new ≡ 0) }
 {
@@ -122,6 +126,8 @@ pub(crate) fn serve_input<
         × IsEnding K.stands (record { theory = sessions.old.theory; spelt = T.spelt; canon = T.canon }) result limit (S.left input.new) taken output.old output.new }
     ensures read_fault { result ≡ Ending.ReadFault → Rose (S.faults input.old) (S.faults input.new) }
     ensures write_fault { result ≡ Ending.WriteFault → Rose (K.faults output.old) (K.faults output.new) }
+    ensures read_told { (result ≡ Ending.ReadFault) ⊎ (S.faults input.new ≡ S.faults input.old) }
+    ensures write_told { (result ≡ Ending.WriteFault) ⊎ (K.faults output.new ≡ K.faults output.old) }
     ensures handed_on { (result ≡ Ending.WriteFault) ⊎ (K.waiting output.new ≡ 0) }
 {
     let mut buffer = [0; PIECE];

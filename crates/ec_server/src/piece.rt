@@ -1,5 +1,5 @@
 //! Serving a piece of an input: bytes in, the replies to their lines out.
-ghost use Rattle.std.specs.Prelude.{◌≡◌, ◌≤◌, ℕ, List, ◌++◌, false};
+ghost use Rattle.std.specs.Prelude.{◌≡◌, ◌≤◌, ℕ, List, ◌++◌, ◌⊎◌, false};
 ghost use Rattle.ec_lines.specs.FeedState.{Advances};
 ghost use Rattle.ec_outside.specs.Counts.{Rose};
 ghost use Rattle.ec_server.specs.Answered.{IsServing};
@@ -28,6 +28,7 @@ fn answer_ready<T: Moment, M: MarkRow<T>, I: SpanRow<T>, X: TimeRow<T>, K: Sink,
         IsPieceHandled K.stands language result longer sessions.new.state feed.new start out.new }
     ensures ready { feed.new.is_ready ≡ false }
     ensures failed { result ≡ Handled.WriteFault → Rose (K.faults out.old) (K.faults out.new) }
+    ensures quiet { (result ≡ Handled.WriteFault) ⊎ (K.faults out.new ≡ K.faults out.old) }
     ensures counted { K.faults out.old ≤ K.faults out.new }
 {
     if !feed.ready() {
@@ -53,6 +54,7 @@ pub fn answer_piece<T: Moment, M: MarkRow<T>, I: SpanRow<T>, X: TimeRow<T>, K: S
         IsPieceHandled K.stands language result (taken ++ piece.now) sessions.new.state feed.new start out.new }
     ensures ready { feed.new.is_ready ≡ false }
     ensures failed { result ≡ Handled.WriteFault → Rose (K.faults out.old) (K.faults out.new) }
+    ensures quiet { (result ≡ Handled.WriteFault) ⊎ (K.faults out.new ≡ K.faults out.old) }
     ensures counted { K.faults out.old ≤ K.faults out.new }
 {
     let mut rest = piece;

@@ -1,5 +1,5 @@
 //! Serving the lines of a file.
-ghost use Rattle.std.specs.Prelude.{◌≡◌, ◌≤◌, IsTrue, length};
+ghost use Rattle.std.specs.Prelude.{◌≡◌, ◌≤◌, ◌⊎◌, IsTrue, length};
 ghost use Rattle.ec_server.specs.Answered.{in_ticks};
 ghost use Rattle.ec_server.specs.CommandEnds.{SaysBytes, SaysReplayed};
 ghost use Rattle.ec_server.specs.ExitStatus.{hands_on};
@@ -34,6 +34,7 @@ pub(crate) fn replay_with<F: Folder, K: Sink>(
     output: &mut K,
 ) -> Status
     ensures says { SaysReplayed K.stands K.faults (F.files files.old) lines.now (F.faults files.old) (F.faults files.new) output.old output.new checked result }
+    ensures files_told { (result ≡ Status.FolderFault) ⊎ (F.faults files.new ≡ F.faults files.old) }
     ensures handed_on { IsTrue (hands_on result) → K.waiting output.new ≡ 0 }
 {
     let mut bytes = Vec::new(alloc);

@@ -65,6 +65,7 @@ fn without_refusals(counts: Counts) -> Result<Counts, NoMemory>
 fn hand_on_line<K: Sink>(output: &mut K) -> Status
     ensures kept { Kept K.stands output.old output.new }
     ensures either { (result ≡ Status.Done) ⊎ ((result ≡ Status.WriteFault) × Rose (K.faults output.old) (K.faults output.new)) }
+    ensures quiet { (result ≡ Status.WriteFault) ⊎ (K.faults output.new ≡ K.faults output.old) }
     ensures handed_on { IsTrue (hands_on result) → K.waiting output.new ≡ 0 }
 {
     match output.flush() {

@@ -1,5 +1,5 @@
 //! The file of a theory.
-ghost use Rattle.std.specs.Prelude.{◌≡◌, ◌≤◌, length, IfOk, IfErr, IsSome};
+ghost use Rattle.std.specs.Prelude.{◌≡◌, ◌≤◌, ◌⊎◌, length, IfOk, IfErr, IsErrOf, IsSome};
 ghost use Rattle.ec_theory.specs.Accepted.{IsAccepted};
 ghost use Rattle.ec_server.specs.TheoryFiles.{HasTheory};
 ghost use Rattle.ec_server.specs.Loading.{IsBytesReason, IsReason};
@@ -43,6 +43,7 @@ pub(crate) fn load<F: Folder>(alloc: Global, name: &str, files: &mut F) -> Resul
     ensures theory { IfOk result (λ theory. IsSome (F.files files.old) → HasTheory (F.files files.old) name.now theory) }
     ensures reason { IfErr result (λ reason. IsReason (F.files files.old) name.now (F.faults files.old) (F.faults files.new) reason) }
     ensures unchanged { F.files files.new ≡ F.files files.old }
+    ensures quiet { IsErrOf result NoTheory.FolderFault ⊎ (F.faults files.new ≡ F.faults files.old) }
     ensures counted { F.faults files.old ≤ F.faults files.new }
 {
     let mut bytes = Vec::new(alloc);

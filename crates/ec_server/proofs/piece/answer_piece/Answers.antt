@@ -6,6 +6,7 @@ use Rattle.ec_server.specs.Answered.{IsServing}
 use Rattle.ec_server.specs.Serving.{IsAt, IsPieceHandled}
 use Rattle.ec_server.proofs.PieceSteps.{IsUnderWay-start, IsUnderWay-next, IsUnderWay-stop, IsUnderWay-end, empty_list}
 use Rattle.ec_outside.proofs.Counts.{Rose-earlier}
+use Rattle.ec_server.proofs.StatusCodes.{quiet-then, second_of_two}
 use Rattle.ec_server.proofs.piece.answer_piece.Goals as goal
 
 pub loop-rest-init : goal.loop-rest-init
@@ -25,7 +26,7 @@ loop-rest-preserved g c = record {
       → Advances c.push-count.new.self.is_ready c.push-count.new.self taken longer
       → IsAt g.K.Sink.stands (record { theory = theory; spelt = g.T.Moment.spelt; canon = g.T.Moment.canon }) longer c.answer_ready.new.sessions.state c.answer_ready.new.feed start c.answer_ready.new.out)
       c.loop-rest.invariant.theory c.in-Go.ensures.served)
-      c.answer_ready.ensures.ready c.answer_ready.ensures.counted;
+      c.answer_ready.ensures.ready (second_of_two c.in-Go.ensures.quiet (λ broken. cc));
 }
 
 pub returns-in_default : goal.returns-in_default
@@ -39,8 +40,9 @@ returns-in_default g c = record {
       → IsPieceHandled g.K.Sink.stands (record { theory = theory; spelt = g.T.Moment.spelt; canon = g.T.Moment.canon }) c.answer_ready.result longer c.answer_ready.new.sessions.state c.answer_ready.new.feed start c.answer_ready.new.out)
       c.loop-rest.invariant.theory c.answer_ready.ensures.served);
   ready = c.answer_ready.ensures.ready;
-  failed = λ fault. Rose-earlier c.loop-rest.invariant.under_way.counted (c.answer_ready.ensures.failed fault);
-  counted = omega (arith, c.loop-rest.invariant.under_way.counted, c.answer_ready.ensures.counted);
+  failed = λ fault. Rose-earlier (omega (arith, c.loop-rest.invariant.under_way.quiet)) (c.answer_ready.ensures.failed fault);
+  quiet = quiet-then c.loop-rest.invariant.under_way.quiet c.answer_ready.ensures.quiet;
+  counted = omega (arith, c.loop-rest.invariant.under_way.quiet, c.answer_ready.ensures.counted);
 }
 
 pub returns-clause-served : goal.returns-clause-served

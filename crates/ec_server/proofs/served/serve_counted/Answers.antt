@@ -22,4 +22,6 @@ returns-clause-served g c =
       ended = subst (λ (theory : Theory). IsEnding g.K.Sink.stands (in_ticks theory) c.serve_input.result c.args.limit (g.S.Source.left c.serve_input.new.input) ending.0 c.args.output.now c.serve_input.new.output) c.in-Ok-made.ensures.theory ending.2;
       read_fault = c.serve_input.ensures.read_fault;
       write_fault = c.serve_input.ensures.write_fault;
+      read_told = c.serve_input.ensures.read_told;
+      write_told = c.serve_input.ensures.write_told;
     }))

@@ -18,7 +18,7 @@ returns-in-Some-Replay-clause-ends g c =
 
 pub returns-in-Some-Soak-clause-ends : goal.returns-in-Some-Soak-clause-ends
 returns-in-Some-Soak-clause-ends g c =
-    Ends-asked (sym c.in-Some-Soak.ensures ∙ ap (λ (s : _). Some (plain_shape s)) c.in-Some-Soak.field-0-is) (record { says = (c.soak_command.ensures.says, refl) })
+    Ends-asked (sym c.in-Some-Soak.ensures ∙ ap (λ (s : _). Some (plain_shape s)) c.in-Some-Soak.field-0-is) (record { says = (c.soak_command.ensures.says, refl, refl) })
 
 pub returns-in-None-clause-ends : goal.returns-in-None-clause-ends
-returns-in-None-clause-ends g c = Ends-asked (sym c.in-None.ensures) (record { says = (c.refuse_words.ensures.status, c.refuse_words.ensures.usage, refl) })
+returns-in-None-clause-ends g c = Ends-asked (sym c.in-None.ensures) (record { says = (c.refuse_words.ensures.status, c.refuse_words.ensures.usage, refl, refl) })

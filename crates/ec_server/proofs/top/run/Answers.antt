@@ -1,5 +1,5 @@
 -- What the status says is what the exit status says.
-use Rattle.ec_server.proofs.RunEnds.{accepted, completes, ended, finds_long, folder_fault, limit, long_lines, long_theory, no_shape, part, read_fault, refused, refuses, replies, rest, serves_alone, soaks, stops, unasked, unread, untouched, usage, whole, within, write_fault}
+use Rattle.ec_server.proofs.RunEnds.{accepted, completes, ended, files_told, finds_long, folder_fault, input_told, limit, long_lines, long_theory, no_shape, output_told, part, read_fault, refused, refuses, replies, rest, serves_alone, soaks, stops, unasked, unread, untouched, usage, whole, within, write_fault}
 use Rattle.ec_server.proofs.StatusCodes.{hands_on-code}
 use Rattle.ec_server.proofs.top.run.Goals as goal
 
@@ -83,3 +83,12 @@ returns-clause-handed_on g c = λ either. c.obey.ensures.handed_on (hands_on-cod
 
 pub returns-clause-no_file : goal.returns-clause-no_file
 returns-clause-no_file g c = λ two. c.obey.ensures.no_words ((no_shape (record { ended = c.obey.result; is = c.code.ensures; ends = c.obey.ensures.ends })).0 two)
+
+pub returns-clause-input_told : goal.returns-clause-input_told
+returns-clause-input_told g c = input_told (record { ended = c.obey.result; is = c.code.ensures; ends = c.obey.ensures.ends })
+
+pub returns-clause-files_told : goal.returns-clause-files_told
+returns-clause-files_told g c = files_told (record { ended = c.obey.result; is = c.code.ensures; ends = c.obey.ensures.ends })
+
+pub returns-clause-output_told : goal.returns-clause-output_told
+returns-clause-output_told g c = output_told (record { ended = c.obey.result; is = c.code.ensures; ends = c.obey.ensures.ends })
