@@ -136,7 +136,7 @@ pub fn run<F: Folder, S: Source, K: Sink>(
     ensures rest { result ≡ 8 → (text : List ℕ) → S.left input.old ≡ Some text → S.left input.new ≡ Some (drop most_input text) }
 
     // Each failure is told: a call on the input that failed gives 4, one on the files 7, and one on the output 5, or it was within the
-    // one line of 2 or 3. So with 0, 6, 8 and 9 nothing failed.
+    // one line of 2 or 3. So with 0, 6, 8 and 9 no failure was counted.
     ensures input_told { (result ≡ 4) ⊎ (S.faults input.new ≡ S.faults input.old) }
     ensures files_told { (result ≡ 7) ⊎ (F.faults files.new ≡ F.faults files.old) }
     ensures output_told { ((result ≡ 5) ⊎ ((result ≡ 2) ⊎ (result ≡ 3))) ⊎ (K.faults output.new ≡ K.faults output.old) }
