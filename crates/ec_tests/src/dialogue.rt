@@ -93,13 +93,22 @@ impl Script {
 }
 
 /// Whether the lines of a dialogue get their replies, in a run that has what is given and these parts.
-fn is_told(rt: &impl Abort, alloc: Global, given: &Case<'_>, parts: &str, rows: &str) -> bool {
+fn is_told<'a>(
+    rt: &impl Abort,
+    alloc: Global,
+    given: &Case<'a>,
+    parts: &'a str,
+    rows: &str,
+) -> bool {
     let mut script = Script::new(alloc);
     script.add_all(rt, alloc, rows);
-    let mut case = *given;
-    set_all(rt, &mut case, parts);
-    case.input = script.lines.as_str();
-    case.written = script.replies.as_str();
+    let mut parted = *given;
+    set_all(rt, &mut parted, parts);
+    let case = Case {
+        input: script.lines.as_str(),
+        written: script.replies.as_str(),
+        ..parted
+    };
     is_met(rt, alloc, &case)
 }
 
