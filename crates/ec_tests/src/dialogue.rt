@@ -82,12 +82,11 @@ impl Script {
         }
     }
 
-    /// Adds all rows of a table.
+    /// Adds all rows of a table. Each line is one: a line without an arrow ends the test, so that none is passed over.
     pub fn add_all(&mut self, rt: &impl Abort, alloc: Global, table: &str) {
         for row in table.lines() {
-            if let Some((told, reply)) = row.split_once(" =>") {
-                self.add_row(rt, alloc, told, reply.trim());
-            }
+            let (told, reply) = row.split_once(" =>").expect(rt, row);
+            self.add_row(rt, alloc, told, reply.trim());
         }
     }
 }
