@@ -1,5 +1,5 @@
 //! The faults of rules.
-ghost use Rattle.std.specs.Prelude.{◌≡◌, ◌&&◌, not, [], nat_le, count_by, option_map, length};
+ghost use Rattle.std.specs.Prelude.{◌≡◌, ◌&&◌, [], nat_le, count_by, option_map, length};
 ghost use Rattle.std.specs.List.{All, list_all};
 ghost use Rattle.ec_terms.specs.declared.theory.Rule.{Rule};
 ghost use Rattle.ec_terms.specs.Binding.{stands_in, is_small_place};
@@ -9,7 +9,7 @@ ghost use Rattle.ec_check.specs.Numbering.{AreWithoutGap};
 
 use crate::fault::{CheckFault, Many};
 use crate::limits::{MOST_EVENT_RULES, MOST_LITERALS, MOST_RULES, MOST_TESTS};
-use ec_terms::{Literal, MOST_ARGS, MOST_VARIABLES, PatArg, Pattern, Rule, Test};
+use ec_terms::{MOST_ARGS, MOST_VARIABLES, PatArg, Pattern, Rule};
 
 /// Whether both hold.
 pub fn both(first: bool, second: bool) -> bool

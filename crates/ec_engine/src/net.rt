@@ -1,5 +1,5 @@
 //! What a batch of updates has put under each identity so far.
-ghost use Rattle.std.specs.Prelude.{◌≡◌, ◌+◌, ◌<◌, ◌≤◌, ℕ, List, Some, is_some, if◌then◌else◌, bytes_eq, OnOk, OnErr};
+ghost use Rattle.std.specs.Prelude.{◌≡◌, ◌+◌, ◌<◌, ◌≤◌, ℕ, List, Some, is_some, if◌then◌else◌, bytes_eq, OnOk};
 ghost use Rattle.indexmap.specs.IndexMap.{spare, index_map_len};
 ghost use Rattle.ec_events.specs.Store.{slot_of};
 ghost use Rattle.ec_engine.specs.Net.{is_present_by, net_in, old_slot_by};

@@ -8,7 +8,7 @@ ghost use Rattle.ec_props.specs.Table.{term_at};
 ghost use Rattle.ec_engine.specs.Limits.{IsWithinLimits};
 ghost use Rattle.ec_engine.specs.Net.{net_in};
 ghost use Rattle.ec_engine.specs.Walk.{HasWalked};
-ghost use Rattle.ec_engine.specs.Undo.{IsHalfway, LeadSomewhere, LeadTo, MayRelease, MayRestore, Releases, Restores, untouched};
+ghost use Rattle.ec_engine.specs.Undo.{IsHalfway, LeadSomewhere, LeadTo, MayRelease, MayRestore, Releases, Restores};
 
 use crate::idle::forget_idle;
 use crate::net::{Net, Nets};

@@ -14,7 +14,6 @@ ghost use Rattle.ec_engine.specs.Walk.{AreLiveOrListed};
 use crate::idle::forget_idle;
 use crate::undo::restore_old;
 use ec_axioms::Steps;
-use ec_context::EntryList;
 use ec_moment::Moment;
 use ec_parts::{Parts, Tally, release_all};
 use ec_revise::{Change, Removal};

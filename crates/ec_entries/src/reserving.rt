@@ -1,7 +1,6 @@
 //! Room for the entries of events that are to be noted.
-ghost use Rattle.std.specs.Prelude.{◌≡◌, ◌≢◌, ◌+◌, ◌≤◌, ◌==◌, ℕ, [], nat_eq, length, if◌then◌else◌, IsOk, OnOk};
-ghost use Rattle.ec_numbered.specs.ByNumber.{kept_at};
-ghost use Rattle.ec_entries.specs.Dependents.{any_on, count_on, count_on_all, dependents_of, room_of};
+ghost use Rattle.std.specs.Prelude.{◌≤◌, ◌==◌, ℕ, if◌then◌else◌, OnOk};
+ghost use Rattle.ec_entries.specs.Dependents.{any_on, count_on, count_on_all, room_of};
 ghost use Rattle.ec_entries.specs.Wanted.{IsWider, wanted_at, WantsMore};
 
 use crate::noting::{Rows, is_any_on};

@@ -1,5 +1,5 @@
 //! The keys of identities. The identities themselves stand in the records alone.
-ghost use Rattle.std.specs.Prelude.{◌≡◌, ◌+◌};
+ghost use Rattle.std.specs.Prelude.{◌≡◌};
 ghost use Rattle.slab.specs.Slab.{get as record_at};
 ghost use Rattle.ec_keyed.specs.Held.{place_to};
 ghost use Rattle.ec_terms.specs.Term.{name_cmp};

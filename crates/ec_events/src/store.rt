@@ -1,4 +1,4 @@
-ghost use Rattle.std.specs.Prelude.{◌≡◌, ◌+◌, ◌<◌, ◌≤◌, [], List, None, Some, IsTrue, IsSome, IfSome, IfOk, OnOk, All, length, slice_get, option_map};
+ghost use Rattle.std.specs.Prelude.{◌≡◌, ◌+◌, ◌<◌, ◌≤◌, [], None, Some, IsTrue, IsSome, IfSome, IfOk, OnOk, All, length, slice_get, option_map};
 ghost use Rattle.ec_terms.specs.declared.ids.Slot.{Slot};
 ghost use Rattle.ec_axioms.specs.Changes.{is_history, with_event, without_event};
 ghost use Rattle.ec_axioms.specs.Events.{event_of};

@@ -1,6 +1,5 @@
 //! The keys of the groups in which a property stands, and of those in which its neighbours stand.
-ghost use Rattle.std.specs.Prelude.{◌≡◌, ◌<◌, ◌++◌, List, ℕ, IsTrue, IfOk, IfSome, OnOk, filter_map, map, option_map};
-ghost use Rattle.std.specs.List.{list_all};
+ghost use Rattle.std.specs.Prelude.{◌≡◌, ◌<◌, ◌++◌, IsTrue, IfOk, IfSome, OnOk, option_map};
 ghost use Rattle.ec_terms.specs.Binding.{is_small_place, stands_at, stands_in, values_of, IsSmall};
 ghost use Rattle.ec_terms.specs.Matchable.{IsMatchable, IsMatchableExclusive};
 ghost use Rattle.ec_terms.specs.Term.{arg_of, ground_of, is_argument, names_are_names};

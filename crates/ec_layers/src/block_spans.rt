@@ -1,5 +1,5 @@
 //! That a row of spans in blocks and one in a `Vec` go the same way.
-ghost use Rattle.std.specs.Prelude.{◌≡◌, ◌++◌, ◌∷◌, [], ◌≤◌, IsTrue, IfOk, length};
+ghost use Rattle.std.specs.Prelude.{◌≡◌, ◌≤◌, IsTrue, IfOk, length};
 ghost use Rattle.std.specs.List.{splice, list_all};
 ghost use Rattle.ec_rows.specs.Spans.{IsSpanRow, is_proper, span_before};
 

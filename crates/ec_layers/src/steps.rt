@@ -1,5 +1,5 @@
 //! What no contract says of the types of events and steps.
-ghost use Rattle.std.specs.Prelude.{◌≡◌, ◌+◌, ◌<◌};
+ghost use Rattle.std.specs.Prelude.{◌≡◌, ◌<◌};
 
 use ec_axioms::Steps;
 use std::marker::Brand;

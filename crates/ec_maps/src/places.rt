@@ -1,5 +1,5 @@
 //! Rows of numbers, each found by the place that is kept for its number.
-ghost use Rattle.std.specs.Prelude.{◌≡◌, ◌==◌, ◌<◌, ◌≤◌, ℕ, None, Some, IfSome, IfNone, OnOk, OnErr, length, nat_eq, if◌then◌else◌};
+ghost use Rattle.std.specs.Prelude.{◌≡◌, ◌==◌, ◌<◌, ℕ, None, Some, IfSome, IfNone, OnOk, OnErr, length, nat_eq, if◌then◌else◌};
 ghost use Rattle.std.specs.Map.{lookup};
 ghost use Rattle.ec_maps.specs.Places.{ArePlaces};
 ghost use Rattle.ec_maps.specs.Rows.{IsFirst};

@@ -1,5 +1,5 @@
 //! Laws of moments, each the contract of a function.
-ghost use Rattle.std.specs.Prelude.{◌≡◌, ℕ, ℤ, pos, negsuc, ◌≤◌, Some, None, All, codes, length};
+ghost use Rattle.std.specs.Prelude.{◌≡◌, ℤ, pos, negsuc, ◌≤◌, Some, None, All, codes, length};
 ghost use Rattle.ec_moment.specs.Moment.{IsWithin};
 ghost use Rattle.ec_moment.specs.Number.{IsNumber, IsNumberByte, number_text, number_value};
 

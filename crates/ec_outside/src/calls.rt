@@ -1,4 +1,4 @@
-ghost use Rattle.std.specs.Prelude.{◌≡◌, ◌<◌, IsTrue, IfOk, length};
+ghost use Rattle.std.specs.Prelude.{◌≡◌, ◌<◌, IsTrue, IfOk};
 ghost use Rattle.ec_outside.specs.Calls.{no_calls, next_fails, one_more};
 ghost use Rattle.ec_outside.specs.Counts.{last_count};
 

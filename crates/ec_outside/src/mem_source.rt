@@ -1,4 +1,4 @@
-ghost use Rattle.std.specs.Prelude.{◌≡◌, ℕ, ◌<◌, ◌≤◌, ◌↔◌, Some, List, length, take, drop, if◌then◌else◌, IsTrue, IsErr, IfOk, OnOk, OnErr};
+ghost use Rattle.std.specs.Prelude.{◌≡◌, ◌<◌, ◌≤◌, ◌↔◌, Some, length, take, drop, if◌then◌else◌, IsTrue, IsErr, IfOk, OnOk, OnErr};
 ghost use Rattle.ec_outside.specs.Calls.{no_calls, next_fails, one_more};
 ghost use Rattle.ec_outside.specs.Counts.{Rose, last_count, next_count};
 ghost use Rattle.ec_outside.specs.SourceState.{given_count};

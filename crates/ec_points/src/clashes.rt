@@ -3,7 +3,7 @@ ghost use Rattle.std.specs.Prelude.{◌≡◌, ◌+◌, ◌≤◌, ◌<◌, ◌&
 ghost use Rattle.std.specs.List.{insert, remove};
 ghost use Rattle.std.specs.List.Sorted.{IsPartitionPoint};
 ghost use Rattle.std.specs.Ordering.{int_eq, is_lt, is_eq};
-ghost use Rattle.ec_points.specs.Clashes.{are_clashes, clash_cmp, has_clash, is_behind, is_clash_of};
+ghost use Rattle.ec_points.specs.Clashes.{are_clashes, clash_cmp, has_clash, is_behind};
 
 use ec_blocks::Blocks;
 use ec_moment::Moment;

@@ -1,4 +1,4 @@
-ghost use Rattle.std.specs.Prelude.{◌≡◌, ◌≢◌, ◌+◌, ◌<◌, ◌≤◌, ℕ, [], true, false, None, Some, IsTrue, IsSome, IfSome, IfOk, OnOk, All, length, slice_get, map, option_map, take, drop, if◌then◌else◌};
+ghost use Rattle.std.specs.Prelude.{◌≡◌, ◌≢◌, ◌<◌, ◌≤◌, ℕ, [], true, false, None, Some, IsTrue, IsSome, IfSome, OnOk, All, length, slice_get, map, option_map, take, drop, if◌then◌else◌};
 ghost use Rattle.std.specs.List.Sorted.{IsPartitionPoint};
 ghost use Rattle.std.specs.Ordering.{is_lt};
 ghost use Rattle.ec_terms.specs.Term.{ground_of, names_are_names, term_cmp, term_eq};

@@ -1,5 +1,5 @@
 //! The first cause of a change at an instant: of the event with the least identity, the least rule.
-ghost use Rattle.std.specs.Prelude.{◌≡◌, ◌+◌, ◌*◌, ◌<◌, ◌≤◌, ◌&&◌, List, Some, find, length, option_map, IsSome, IsTrue};
+ghost use Rattle.std.specs.Prelude.{◌≡◌, ◌+◌, ◌*◌, ◌<◌, ◌≤◌, ◌&&◌, List, Some, find, option_map, IsSome, IsTrue};
 ghost use Rattle.std.specs.Ordering.{int_eq};
 ghost use Rattle.ec_terms.specs.declared.ground.Ground.{Ground};
 ghost use Rattle.ec_terms.specs.Domain.{GroundEntry};

@@ -1,5 +1,5 @@
 //! The text of a reason while it is put together.
-ghost use Rattle.std.specs.Prelude.{◌≡◌, ◌+◌, ◌≤◌, ◌++◌, [], codes, length, decimal};
+ghost use Rattle.std.specs.Prelude.{◌≡◌, ◌+◌, ◌≤◌, ◌++◌, [], codes, length};
 ghost use Rattle.ec_axioms.specs.QueryTexts.{begin_text};
 ghost use Rattle.ec_intervals.specs.Table.{plain_begin};
 ghost use Rattle.ec_reasons.specs.Reasons.{plain_origin};

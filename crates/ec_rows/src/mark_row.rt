@@ -1,4 +1,4 @@
-ghost use Rattle.std.specs.Prelude.{◌≡◌, ◌+◌, ◌-◌, ◌<◌, ◌≤◌, ◌++◌, ◌∷◌, ℕ, ℤ, List, [], IsTrue, Some, IfSome, IfNone, IfOk, OnOk, OnErr, length, take, drop, slice_get, if◌then◌else◌};
+ghost use Rattle.std.specs.Prelude.{◌≡◌, ◌+◌, ◌-◌, ◌<◌, ◌≤◌, ◌++◌, ◌∷◌, ℕ, List, [], IsTrue, Some, IfSome, IfNone, IfOk, OnOk, OnErr, length, take, drop, slice_get, if◌then◌else◌};
 ghost use Rattle.std.specs.List.{remove};
 ghost use Rattle.ec_rows.specs.declared.mark.Mark.{Mark};
 ghost use Rattle.ec_rows.specs.Marks.{IsMarkRow, is_counted, marks_before, marks_after, mark_at, has_mark, with_mark, are_before};

@@ -1,4 +1,4 @@
-ghost use Rattle.std.specs.Prelude.{◌≡◌, ◌++◌, ◌∷◌, [], ◌+◌, ◌-◌, ◌<◌, ◌≤◌, ℕ, List, IsTrue, Some, IfSome, IfNone, IfOk, OnOk, OnErr, length, if◌then◌else◌, vec_len, slice_get};
+ghost use Rattle.std.specs.Prelude.{◌≡◌, ◌++◌, ◌∷◌, [], ◌+◌, ◌-◌, ◌<◌, ◌≤◌, IsTrue, Some, OnOk, OnErr, length, if◌then◌else◌, vec_len, slice_get};
 ghost use Rattle.std.specs.List.{remove};
 ghost use Rattle.std.specs.Vec.{vec_capacity};
 ghost use Rattle.ec_rows.specs.Marks.{IsMarkRow, is_counted, are_before, has_mark, with_mark, marks_before, mark_at};

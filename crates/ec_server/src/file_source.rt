@@ -1,7 +1,5 @@
 //! The bytes of a file as an input.
-ghost use Rattle.std.specs.Prelude.{◌≡◌, ◌<◌, ◌≤◌, Some, [], IfOk, OnErr, length, take, drop};
-ghost use Rattle.ec_outside.specs.Counts.{Rose, last_count};
-ghost use Rattle.ec_outside.specs.Streams.{Took, IsAtEnd};
+ghost use Rattle.std.specs.Prelude.{◌≡◌, ◌<◌, ◌≤◌, Some, drop};
 
 use ec_outside::{Failed, Source};
 use std::marker::Model;

@@ -1,5 +1,5 @@
 //! The loop that serves an input: reads and flushes round its pieces, up to its end, a `quit` or a limit.
-ghost use Rattle.std.specs.Prelude.{◌≡◌, ◌≤◌, ◌<◌, ◌+◌, ◌⊎◌, ℕ, List, [], false, length, take, IfOk, OnOk, OnErr};
+ghost use Rattle.std.specs.Prelude.{◌≡◌, ◌≤◌, ◌<◌, ◌⊎◌, ℕ, List, [], false, take, IfOk, OnOk, OnErr};
 ghost use Rattle.ec_axioms.specs.Lines.{lines_of};
 ghost use Rattle.ec_replies.specs.State.{empty_state};
 ghost use Rattle.ec_server.specs.Answered.{AnswersLines, AnswersPart};

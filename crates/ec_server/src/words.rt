@@ -3,7 +3,7 @@ ghost use Rattle.std.specs.Prelude.{◌≡◌, ◌<◌, ◌≤◌, ◌^◌, ◌&
 ghost use Rattle.std.specs.Char.{is_ascii_digit};
 ghost use Rattle.std.specs.List.{list_all};
 ghost use Rattle.std.specs.Str.Parse.{digits_value};
-ghost use Rattle.ec_server.specs.Words.{line_count, number_within, seed_value, shape_of, shape_by, shape_by_two, soak_by, usage_line};
+ghost use Rattle.ec_server.specs.Words.{line_count, number_within, seed_value, shape_of, shape_by, shape_by_two, soak_by};
 ghost use Rattle.ec_server.specs.ShownShape.{plain_shape};
 
 use std::string::String;

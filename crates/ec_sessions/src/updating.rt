@@ -1,5 +1,5 @@
 //! Asserting and retracting an event: at once, or in the draft of a session.
-ghost use Rattle.std.specs.Prelude.{◌≡◌, false, ◌≤◌, ◌+◌, ◌<◌, List, [], ◌∷◌, Err, IsTrue, IfSome, IfNone, IfOk};
+ghost use Rattle.std.specs.Prelude.{◌≡◌, false, ◌≤◌, ◌+◌, ◌<◌, List, [], ◌∷◌, Err, IsTrue, IfOk};
 ghost use Rattle.ec_terms.specs.declared.theory.Theory.{Theory};
 ghost use Rattle.ec_terms.specs.Term.{ground_of, names_are_names};
 ghost use Rattle.ec_axioms.specs.declared.limits.TheConstants.{SESSIONS};

@@ -1,6 +1,5 @@
 //! The text of a generated line, and of the line that sums up a run, while it is put together.
-ghost use Rattle.std.specs.Prelude.{◌≡◌, ◌+◌, ◌≤◌, ◌∷◌, ◌++◌, length, decimal};
-ghost use Rattle.ec_axioms.specs.Lines.{line_feed};
+ghost use Rattle.std.specs.Prelude.{◌≡◌, ◌+◌, ◌≤◌, ◌++◌, length, decimal};
 ghost use Rattle.ec_soak.specs.Load.{event_text, line_text, ended_text};
 
 use crate::generated_line::{GeneratedEvent, GeneratedLine};

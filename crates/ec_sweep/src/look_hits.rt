@@ -1,5 +1,5 @@
 //! The look at entries of events that stay: which are active in the new list, and what turned.
-ghost use Rattle.std.specs.Prelude.{◌≡◌, ◌+◌, ◌*◌, ◌≤◌, ◌++◌, ◌∷◌, [], ℕ, map, filter, filter_map, not, length, IsTrue, IsSome, IfOk, OnOk, count_by};
+ghost use Rattle.std.specs.Prelude.{◌≡◌, ◌+◌, ◌*◌, ◌≤◌, ◌++◌, ◌∷◌, [], map, filter, filter_map, not, length, IsTrue, IsSome, IfOk, OnOk, count_by};
 ghost use Rattle.std.specs.List.{All};
 ghost use Rattle.std.specs.Option.{option_to_list};
 ghost use Rattle.ec_delta.specs.Looked.{are_apart};

@@ -1,7 +1,5 @@
 //! The next time at which anything bears on a property: it has a mark there, or an entry there reads it.
-ghost use Rattle.std.specs.Prelude.{◌≡◌, ◌⊎◌, ◌<ℤ◌, ◌≤ℤ◌, ℤ, None, IsTrue, IfNone, IfSome, IsSomeAnd};
-ghost use Rattle.ec_points.specs.Table.{marks_at};
-ghost use Rattle.ec_rows.specs.Marks.{has_mark};
+ghost use Rattle.std.specs.Prelude.{◌≡◌, ◌⊎◌, ◌<ℤ◌, ◌≤ℤ◌, ℤ, None, IfNone, IfSome, IsSomeAnd};
 ghost use Rattle.ec_sweep.specs.Settling.{BearsAt, IsNextMark, IsReadAt};
 
 use ec_entries::Entries;

@@ -1,9 +1,6 @@
 //! All the room that making a planned change needs.
-ghost use Rattle.std.specs.Prelude.{◌≡◌, ◌+◌, ◌*◌, ◌<◌, ◌≤◌, ℕ, Some, IfOk, OnOk, length};
-ghost use Rattle.ec_numbered.specs.ByNumber.{kept_at};
-ghost use Rattle.ec_entries.specs.Dependents.{count_on_all, dependents_of, room_of};
+ghost use Rattle.std.specs.Prelude.{◌≡◌, ◌+◌, ◌*◌, ◌<◌, ◌≤◌, Some, IfOk, OnOk, length};
 ghost use Rattle.ec_points.specs.Table.{marks_at, room_at};
-ghost use Rattle.ec_intervals.specs.Table.{members_at};
 ghost use Rattle.ec_parts.specs.StandFor.{view_of};
 ghost use Rattle.ec_delta.specs.Ready.{AreWindows, HasRoomForEvents, HasRoomForIntervals, HasRoomForMarks};
 ghost use Rattle.ec_sweep.specs.Planned.{DifferInRoom};

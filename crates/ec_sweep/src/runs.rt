@@ -1,6 +1,5 @@
 //! What of a change is at an instant.
-ghost use Rattle.std.specs.Prelude.{◌≡◌, ◌≤◌, IsTrue, int_le, drop, filter, length, take, true, false};
-ghost use Rattle.std.specs.List.Sorted.{IsPartitionPoint};
+ghost use Rattle.std.specs.Prelude.{◌≡◌, ◌≤◌, IsTrue, int_le, drop, filter, length, take};
 ghost use Rattle.ec_rows.specs.Ordered.{is_ascending};
 ghost use Rattle.ec_sweep.specs.Runs.{not_after};
 

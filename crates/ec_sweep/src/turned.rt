@@ -1,5 +1,5 @@
 //! What turns at an instant because events are taken out or put in.
-ghost use Rattle.std.specs.Prelude.{◌≡◌, ◌+◌, ◌++◌, ◌≤◌, ℕ, flat_map, map, length, IsSome, IfOk, OnOk};
+ghost use Rattle.std.specs.Prelude.{◌≡◌, ◌+◌, ◌++◌, ◌≤◌, flat_map, length, IsSome, IfOk, OnOk};
 ghost use Rattle.std.specs.List.{All};
 ghost use Rattle.ec_numbered.specs.ByNumber.{kept_at};
 ghost use Rattle.ec_sweep.specs.Acting.{AddsWords, IsWordOf, added_turns, removed_turns, turns_from, up_turns};

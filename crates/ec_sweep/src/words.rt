@@ -1,5 +1,5 @@
 //! Which entries of events are active, as the bits of words.
-ghost use Rattle.std.specs.Prelude.{◌≡◌, ◌≢◌, ◌+◌, ◌<◌, ◌==◌, ℕ, [], ◌++◌, map, length, slice_get, Some, unwrap_or, IsTrue, OnOk, if◌then◌else◌};
+ghost use Rattle.std.specs.Prelude.{◌≡◌, ◌≢◌, ◌<◌, ◌==◌, ℕ, [], map, length, slice_get, Some, unwrap_or, IsTrue, OnOk, if◌then◌else◌};
 ghost use Rattle.ec_parts.specs.Activity.{is_bit_set};
 ghost use Rattle.ec_delta.specs.Looked.{are_apart};
 ghost use Rattle.ec_sweep.specs.Words.{flip_of, word_at};

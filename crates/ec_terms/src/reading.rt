@@ -4,7 +4,7 @@
 
 ghost use Rattle.std.specs.Prelude.{◌≡◌, ◌≤◌, ◌==◌, IsTrue, None, Some, IfSome, MatchOption, length, map};
 ghost use Rattle.std.specs.List.{list_all};
-ghost use Rattle.ec_terms.specs.Spelling.{begins_with, is_name, name_run};
+ghost use Rattle.ec_terms.specs.Spelling.{begins_with, is_name};
 ghost use Rattle.ec_terms.specs.Front.{name_front, digit_run, number_run, number_front, arg_front, args_front};
 ghost use Rattle.ec_terms.specs.Term.{arg_of, ground_of, is_argument, names_are_names, term_front};
 

@@ -1,9 +1,8 @@
 //! The reader of conditions.
-ghost use Rattle.std.specs.Prelude.{◌≡◌, ◌++◌, ◌∷◌, [], true, false, IfOk, IfErr, OnOk, List, MatchBool};
-ghost use Rattle.ec_terms.specs.declared.pattern.Pattern.{Pattern};
+ghost use Rattle.std.specs.Prelude.{◌≡◌, ◌++◌, ◌∷◌, [], true, false, IfOk, OnOk, MatchBool};
 ghost use Rattle.ec_theory.specs.declared.sign.Symbol.TheVariants.{Not};
 ghost use Rattle.ec_theory.specs.Sign.{is_given, signs_of};
-ghost use Rattle.ec_theory.specs.Grammar.{TakesPattern, TakesCondition, TakesConditions, TakesBody, tests_of, literals_of};
+ghost use Rattle.ec_theory.specs.Grammar.{TakesCondition, TakesConditions, TakesBody, tests_of, literals_of};
 ghost use Rattle.ec_theory.specs.Walk.{Beginning, PatternAt, AfterPattern, ConditionAt, Head, Condition as PartCondition};
 ghost use Rattle.ec_theory.specs.Reader.{left_of, next_passes, Goes, BeginsLiteral, BeginsTest, TakesLiteral};
 ghost use Rattle.ec_theory.specs.Body.{Collects};

@@ -1,5 +1,5 @@
 //! The reader of patterns.
-ghost use Rattle.std.specs.Prelude.{◌≡◌, ◌∷◌, IfOk, IfErr, List, ℕ};
+ghost use Rattle.std.specs.Prelude.{◌∷◌, IfOk, IfErr, List, ℕ};
 ghost use Rattle.ec_terms.specs.declared.pattern.Pattern.{Pattern};
 ghost use Rattle.ec_theory.specs.Sign.{Word, is_argument, signs_of};
 ghost use Rattle.ec_theory.specs.Grammar.{TakesArguments, TakesPattern};

@@ -1,5 +1,5 @@
 //! What a token is to the grammar of clauses.
-ghost use Rattle.std.specs.Prelude.{◌≡◌, ◌↔◌, IsTrue, bytes_eq, slice_index};
+ghost use Rattle.std.specs.Prelude.{◌≡◌, IsTrue, bytes_eq};
 ghost use Rattle.ec_theory.specs.Sign.{name_sign, mark_sign, sign_of, keyword_of};
 ghost use Rattle.ec_theory.specs.Reader.{shown};
 ghost use Rattle.ec_tokens.specs.Lexeme.{lexeme_of};

@@ -1,6 +1,6 @@
 //! A text cut into tokens.
-ghost use Rattle.std.specs.Prelude.{◌≡◌, ◌+◌, ◌≤◌, ◌∷◌, length, Ok, IfOk, IfErr};
-ghost use Rattle.ec_tokens.specs.Tokens.{tokens_of, IsTokenFault, place_behind};
+ghost use Rattle.std.specs.Prelude.{◌≡◌, ◌≤◌, length, Ok, IfOk, IfErr};
+ghost use Rattle.ec_tokens.specs.Tokens.{tokens_of, IsTokenFault};
 
 use crate::fault::TokenFault;
 use crate::piece::{Piece, piece_of};
