@@ -1,5 +1,5 @@
 -- A walk goes on: by an event that comes in, by one that goes out, and where nothing comes of an update.
-use Rattle.std.proofs.Common.{◌≡◌, ◌≤◌, ◌+◌, ℕ, ℤ, Bool, true, false, cond, ◌||◌, List, [], ◌++◌, length, Option, Some, None, is_some, IsSome, IfSome, All, IsTrue, IsFalse, refl, sym, ap, ap₂, subst, ◌∙◌, ◌⊎◌, inl, inr, ⊎_elim, arith, length-append}
+use Rattle.std.proofs.Common.{◌≡◌, ◌≤◌, ◌+◌, ℕ, ℤ, Bool, true, false, cond, ◌||◌, List, ◌++◌, length, Option, Some, None, is_some, IsSome, IfSome, All, IsTrue, IsFalse, refl, sym, ap, ap₂, subst, ◌∙◌, ◌⊎◌, inl, inr, ⊎_elim, arith, length-append}
 use Rattle.std.specs.Prelude.{bytes_eq, option_map, find, Ok, Err, nat_le, nat_lt, ◌==◌}
 use Rattle.std.specs.List.{list_any}
 use Rattle.std.specs.Option.{option_map_or}

@@ -1,8 +1,7 @@
 -- Times at which nothing clashes: the first clash that is not earlier is later, or there is none.
 use Rattle.std.proofs.Common.{◌≡◌, ℕ, ℤ, ◌<◌, ◌≤◌, true, false, not, ◌&&◌, List, length, get_or, Some, sym, ap, ◌∙◌, ⊎_elim, arith}
 use Rattle.std.specs.Prelude.{◌==◌, int_le, int_lt, slice_get}
-use Rattle.std.specs.declared.cmp.Ordering.{Ordering}
-use Rattle.std.specs.Ordering.{int_cmp, nat_cmp, int_eq, is_lt, ordering_then}
+use Rattle.std.specs.Ordering.{nat_cmp, int_eq, is_lt}
 use Rattle.std.specs.List.Sorted.{IsPartitionedBy}
 use Rattle.std.proofs.lemmas.Bool.{cases_Bool, cases_lt, false≢true}
 use Rattle.std.proofs.lemmas.Int.{ints}

@@ -1,16 +1,15 @@
 -- What the engine says of a batch is the reply to an update or to a commit.
-use Rattle.std.proofs.Common.{◌≡◌, ℕ, Bool, true, false, List, [], ◌∷◌, Option, Some, None, Result, Ok, Err, IsTrue, refl, sym, ap, ◌∙◌}
-use Rattle.std.specs.Prelude.{slice_set, length, nat_le, nat_lt, if◌then◌else◌}
+use Rattle.std.proofs.Common.{◌≡◌, ℕ, true, false, List, [], ◌∷◌, Option, Some, None, Result, Ok, Err, IsTrue, refl, sym, ap, ◌∙◌}
+use Rattle.std.specs.Prelude.{slice_set}
 use Rattle.ec_terms.specs.declared.theory.Theory.{Theory}
 use Rattle.ec_axioms.specs.declared.event.Cut.{Cut}
-use Rattle.ec_axioms.specs.declared.event.Cut.TheVariants.{Duplicate, Unknown, FullEvents, FullMentions, FullLinks}
+use Rattle.ec_axioms.specs.declared.event.Cut.TheVariants.{Unknown}
 use Rattle.ec_axioms.specs.declared.event.Seen.{Seen}
 use Rattle.ec_axioms.specs.Answers.{answer_ok, refused_commit, refused_update}
 use Rattle.ec_axioms.specs.Calculus.{PlainEvent}
-use Rattle.ec_axioms.specs.Changes.{PlainUpdate, PlacedCut, after_update, has_id, with_event}
-use Rattle.ec_axioms.specs.Links.{most_events, most_links, most_mentions, link_count, mentions_of}
+use Rattle.ec_axioms.specs.Changes.{PlainUpdate, PlacedCut, after_update, has_id}
 use Rattle.ec_replies.specs.State.{State, draft_of}
-use Rattle.ec_replies.specs.Updates.{asserted, retracted, updated, updated_by, updated_from, with_few_mentions}
+use Rattle.ec_replies.specs.Updates.{retracted, updated, updated_by, updated_from}
 use Rattle.ec_replies.specs.Replies.{answering, commit_reply, reply_to_commit, update_reply}
 use Rattle.ec_replies.specs.Runs.{may_want_by}
 use Rattle.ec_replies.proofs.ByDraft.{reply_to_commit-open}

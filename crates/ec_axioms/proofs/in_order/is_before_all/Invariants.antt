@@ -1,5 +1,5 @@
 -- The event comes before each so far.
-use Rattle.std.proofs.Common.{◌≡◌, true, map, take}
+use Rattle.std.proofs.Common.{◌≡◌, true, take}
 use Rattle.std.specs.List.{list_all}
 use Rattle.ec_axioms.specs.Changes.{comes_before}
 use Rattle.ec_axioms.specs.Events.{event_of}

@@ -1,5 +1,5 @@
 -- The block is empty and has room for 128.
-use Rattle.std.proofs.Common.{◌≡◌, ◌++◌, ◌∷◌, [], true, ap, ◌∙◌}
+use Rattle.std.proofs.Common.{ap, ◌∙◌}
 use Rattle.std.specs.List.{list_all}
 use Rattle.std.specs.Vec.{vec_capacity}
 use Rattle.ec_blocks.specs.ChainParts.{is_spare}

@@ -1,5 +1,5 @@
 -- The row that has more room stands in its place.
-use Rattle.std.proofs.Common.{◌≤◌, Some, is_some, refl, sym, ap, subst, ◌∙◌}
+use Rattle.std.proofs.Common.{◌≤◌, Some, is_some, refl, sym, ap, subst}
 use Rattle.std.specs.Prelude.{option_map, slice_set}
 use Rattle.std.proofs.lemmas.Result.{on_ok_weaker}
 use Rattle.ec_numbered.specs.ByNumber.{kept_at}

@@ -1,5 +1,5 @@
 -- The row of the number is set, or a new one is added.
-use Rattle.std.proofs.Common.{subst, sym, ap, ◌∙◌}
+use Rattle.std.proofs.Common.{subst}
 use Rattle.std.specs.Prelude.{nat_eq}
 use Rattle.std.proofs.lemmas.Cmp.{nat_eq_equiv}
 use Rattle.ec_maps.specs.Rows.{IsFirst}

@@ -1,5 +1,5 @@
 -- The entries of the slot were noted in all rows.
-use Rattle.std.proofs.Common.{◌≡◌, ◌+◌, ◌<◌, ◌≤◌, length, None, get_or-set_same, sym, subst, ap, ◌∙◌}
+use Rattle.std.proofs.Common.{◌+◌, ◌<◌, ◌≤◌, length, None, get_or-set_same, sym, subst, ap, ◌∙◌}
 use Rattle.ec_entries.specs.Dependents.{Entered, count_on, dependents_of, room_of}
 use Rattle.ec_entries.specs.Noting.{AreNoted}
 use Rattle.ec_entries.proofs.States.{AreDependents-in, from_place-none, kept_at-set_other}
