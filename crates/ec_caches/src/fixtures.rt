@@ -16,17 +16,6 @@ use std::process::Abort;
 /// Everybody is at one place.
 pub(crate) const ONE_PLACE: &str = "exclusive at(P,X) at(P,Y).";
 
-/// Rooms and lamps: what is pushed lights up where there is power, and nobody is at two places.
-pub(crate) const ROOMS: &[u8] = b"initiates push(P,L) lit(L) if powered(L), not lit(L).
-terminates push(P,L) lit(L) if lit(L).
-initiates plug(L) powered(L).
-terminates unplug(L) powered(L).
-terminates unplug(L) lit(L).
-initiates move(P,Y) at(P,Y).
-terminates leave(P,Y) at(P,Y).
-exclusive at(X,Y) at(X,Z).
-";
-
 /// Properties, and which of them are exclusive to which.
 #[derive(Drop)]
 pub(crate) struct Tables {

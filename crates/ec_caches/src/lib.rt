@@ -1,11 +1,9 @@
-//! The calls of the tables and caches that the engine keeps, each used as the engine uses it; and those of the engine, of queries
-//! and of reasons.
+//! The calls of the tables and caches that the engine keeps, each used as the engine uses it; and what an engine writes of its rows
+//! of spans.
 #![tactic(auto)]
 
 #[cfg(test)]
 mod delta;
-#[cfg(test)]
-mod engine;
 #[cfg(test)]
 mod entries;
 #[cfg(test)]
@@ -18,10 +16,6 @@ mod points;
 mod points_tally;
 #[cfg(test)]
 mod props;
-#[cfg(test)]
-mod queries;
-#[cfg(test)]
-mod reasons;
 #[cfg(test)]
 mod revise;
 #[cfg(test)]

@@ -1,8 +1,10 @@
 //! What no clause shows: that an engine is built where memory is given, and that its updates splice the last spans of a long
 //! row alone, and no other row.
-ghost use Rattle.std.specs.Prelude.{◌≡◌, ◌<◌};
+//!
+//! Few functions name the type of an engine, since each that does takes long to prove: the others are over what is `Watched`.
+ghost use Rattle.std.specs.Prelude.{◌≡◌, ◌<◌, ◌^◌, length};
 
-use crate::fixtures::ROOMS;
+use crate::fixtures::{boxed, term_of};
 use ec_axioms::{Event, Steps, Update};
 use ec_blocks::{BlockMarks, BlockSpans, BlockTimes};
 use ec_check::Checked;
@@ -10,7 +12,7 @@ use ec_engine::Engine;
 use ec_layers::tally::TallySpans;
 use ec_moment::Tick;
 use ec_rows::{MarkRow, SpanRow, TimeRow};
-use ec_terms::{Name, NoMemory, read_ground};
+use ec_terms::{GroundRef, Name, NoMemory};
 use ec_theory::accept;
 use std::alloc::Global;
 use std::marker::Brand;
@@ -18,120 +20,106 @@ use std::process::Abort;
 use std::sync::ledger::{Blank, Ledger};
 use std::test::Fail;
 
+/// Lamps that have power or not.
+const LAMPS: &[u8] = b"initiates plug(L) powered(L). terminates unplug(L) powered(L).";
+
+/// What takes updates, and has a row of spans for each property.
+trait Watched {
+    /// Whether it takes a batch.
+    fn takes(&mut self, batch: &[Update<Tick>]) -> bool
+        requires { length batch.now < 2 ^ 32 };
+
+    /// The row of the spans of a property.
+    fn spans(&self, p: &GroundRef<'_>) -> Option<&TallySpans>;
+}
+
+/// An engine with the count of its steps.
+#[derive(Drop)]
+struct Watch<M: MarkRow<Tick>, X: TimeRow<Tick>, L: Ledger> {
+    engine: Box<Engine<Tick, M, TallySpans, X>>,
+    steps: Steps<L>,
+}
+
+impl<M: MarkRow<Tick>, X: TimeRow<Tick>, L: Ledger> Watched for Watch<M, X, L> {
+    fn takes(&mut self, batch: &[Update<Tick>]) -> bool {
+        self.engine.revise(batch, &mut self.steps).is_ok()
+    }
+
+    fn spans(&self, p: &GroundRef<'_>) -> Option<&TallySpans> {
+        let parts = self.engine.parts();
+        let p = parts.props.lookup(p)?;
+        parts.intervals.spans(p)
+    }
+}
+
 /// The assertion of an event at a time, after which it is named.
-fn assertion(
-    rt: &impl Abort,
-    alloc: Global,
-    at: i64,
-    spelt: &[u8],
-) -> Result<Update<Tick>, NoMemory> {
-    let id = format!(in alloc; "e{at}")?;
-    let (term, _) = read_ground(spelt).expect(rt, "a term");
-    Ok(Update::Assert(Event {
+fn assertion(rt: &impl Abort, alloc: Global, at: i64, spelt: &[u8]) -> Update<Tick> {
+    let id = format!(in alloc; "e{at}").expect(rt, "memory");
+    Update::Assert(Event {
         id: Name::from_bytes(id.as_bytes()).expect(rt, "a name"),
         at: Tick(at),
-        term: term.to_ground(alloc)?,
-    }))
+        term: term_of(rt, spelt).to_ground(alloc).expect(rt, "memory"),
+    })
 }
 
-/// Whether the engine takes an event at a time, in a batch of its own.
-fn takes<M: MarkRow<Tick>, X: TimeRow<Tick>, L: Ledger>(
-    rt: &impl Abort,
-    alloc: Global,
-    engine: &mut Engine<Tick, M, TallySpans, X>,
-    steps: &mut Steps<L>,
-    (at, spelt): (i64, &[u8]),
-) -> Result<bool, NoMemory> {
-    let batch = [assertion(rt, alloc, at, spelt)?];
-    Ok(engine.revise(&batch, steps).is_ok())
+/// Asserts an event at a time, in a batch of its own.
+fn assert_one<W: Watched>(rt: &impl Abort, alloc: Global, watched: &mut W, at: i64, spelt: &[u8]) {
+    let batch = [assertion(rt, alloc, at, spelt)];
+    assert!(rt; watched.takes(&batch), "{at}");
 }
 
-/// Whether a lamp can be plugged in and out a hundred times, told in order of time, and plugged in once more.
-fn takes_all<M: MarkRow<Tick>, X: TimeRow<Tick>, L: Ledger>(
-    rt: &impl Abort,
-    alloc: Global,
-    engine: &mut Engine<Tick, M, TallySpans, X>,
-    steps: &mut Steps<L>,
-) -> Result<bool, NoMemory> {
+/// Plugs a lamp in and out a hundred times, told in order of time, and in once more.
+fn assert_all<W: Watched>(rt: &impl Abort, alloc: Global, watched: &mut W) {
     for k in 1i64..101 {
         let start = k.wrapping_mul(10);
-        let end = start.wrapping_add(5);
-        let is_in = takes(rt, alloc, engine, steps, (start, b"plug(a)"))?;
-        if !is_in || !takes(rt, alloc, engine, steps, (end, b"unplug(a)"))? {
-            return Ok(false);
-        }
+        assert_one(rt, alloc, watched, start, b"plug(a)");
+        assert_one(rt, alloc, watched, start.wrapping_add(5), b"unplug(a)");
     }
-    takes(rt, alloc, engine, steps, (2000, b"plug(a)"))
+    assert_one(rt, alloc, watched, 2000, b"plug(a)");
 }
 
-/// The row of the spans of a property.
-fn spans<'a, M: MarkRow<Tick>, X: TimeRow<Tick>>(
-    rt: &impl Abort,
-    engine: &'a Engine<Tick, M, TallySpans, X>,
-    spelt: &[u8],
-) -> Option<&'a TallySpans> {
-    let (term, _) = read_ground(spelt).expect(rt, "a term");
-    let parts = engine.parts();
-    let p = parts.props.lookup(&term)?;
-    parts.intervals.spans(p)
-}
-
-/// How often the row of the other lamp's power was spliced.
-fn splices_of_other<M: MarkRow<Tick>, X: TimeRow<Tick>>(
-    rt: &impl Abort,
-    engine: &Engine<Tick, M, TallySpans, X>,
-) -> Option<u64> {
-    spans(rt, engine, b"powered(b)").map(|row| row.splices())
-}
-
-/// Whether the spans of the lamp's power were spliced, and since there were a hundred of them the last alone.
-fn is_spliced_at_its_end<M: MarkRow<Tick>, X: TimeRow<Tick>>(
-    rt: &impl Abort,
-    engine: &Engine<Tick, M, TallySpans, X>,
-) -> bool {
-    match spans(rt, engine, b"powered(a)") {
-        Some(row) => row.splices() > 0 && 99 <= row.least(),
-        None => false,
-    }
+/// How often the row of a property was spliced, and the least place at which one of those splices wrote that were made since it
+/// had a hundred spans.
+fn splices<W: Watched>(rt: &impl Abort, watched: &W, spelt: &[u8]) -> (u64, usize) {
+    let row = watched.spans(&term_of(rt, spelt)).expect(rt, "a row");
+    (row.splices(), row.least())
 }
 
 /// Whether the power of one lamp is spliced at its end alone, and that of the other not at all, where the first is plugged in
 /// and out.
-fn touches_the_last_alone<M: MarkRow<Tick>, X: TimeRow<Tick>, L: Ledger>(
-    rt: &impl Abort,
-    alloc: Global,
-    engine: &mut Engine<Tick, M, TallySpans, X>,
-    steps: &mut Steps<L>,
-) -> Result<bool, NoMemory> {
-    if !takes(rt, alloc, engine, steps, (1, b"plug(b)"))? {
-        return Ok(false);
-    }
-    let before = splices_of_other(rt, engine);
-    if before.is_none() || !takes_all(rt, alloc, engine, steps)? {
-        return Ok(false);
-    }
-    Ok(splices_of_other(rt, engine) == before && is_spliced_at_its_end(rt, engine))
+fn touches_the_last_alone<W: Watched>(rt: &impl Abort, alloc: Global, watched: &mut W) -> bool {
+    assert_one(rt, alloc, watched, 1, b"plug(b)");
+    let (before, _) = splices(rt, watched, b"powered(b)");
+    assert_all(rt, alloc, watched);
+    let (after, _) = splices(rt, watched, b"powered(b)");
+    let (count, least) = splices(rt, watched, b"powered(a)");
+    after == before && count > 0 && least == 99
 }
 
 /// Whether it is so in an engine of no event before.
 fn passes<M: MarkRow<Tick>, X: TimeRow<Tick>, L: Ledger>(
     rt: &impl Abort,
     alloc: Global,
+    checked: Checked,
     blank: Blank,
-) -> Result<bool, Fail>
+) -> bool
     requires name { blank.name ≡ L.name }
     requires parts { blank.parts ≡ L.parts }
     requires some { 0 < L.parts }
 {
-    let mut engine: Engine<Tick, M, TallySpans, X> = Engine::new(alloc, accept(alloc, ROOMS)?)?;
-    let mut steps = Steps::<L>::new(blank);
-    Ok(touches_the_last_alone(rt, alloc, &mut engine, &mut steps)?)
+    let engine: Engine<Tick, M, TallySpans, X> = Engine::new(alloc, checked).expect(rt, "memory");
+    let mut watch = Watch {
+        engine: boxed(rt, alloc, engine),
+        steps: Steps::<L>::new(blank),
+    };
+    touches_the_last_alone(rt, alloc, &mut watch)
 }
 
 #[test]
 fn an_update_touches_the_last_spans_of_its_property_alone(rt: HostRuntime) -> Result<(), Fail> {
+    let checked = accept(rt.alloc(), LAMPS)?;
     assert!(rt;
-        passes::<BlockMarks<Tick>, BlockTimes<Tick>, Brand>(&rt, rt.alloc(), Blank::new(1))?
+        passes::<BlockMarks<Tick>, BlockTimes<Tick>, Brand>(&rt, rt.alloc(), checked, Blank::new(1))
     );
     Ok(())
 }
@@ -159,7 +147,7 @@ fn builds<M: MarkRow<Tick>, I: SpanRow<Tick>, X: TimeRow<Tick>, L: Ledger>(
 
 #[test]
 fn an_engine_is_built(rt: HostRuntime) -> Result<(), Fail> {
-    let checked = accept(rt.alloc(), ROOMS)?;
+    let checked = accept(rt.alloc(), LAMPS)?;
     assert!(rt;
         builds::<BlockMarks<Tick>, BlockSpans<Tick>, BlockTimes<Tick>, Brand>(
             rt.alloc(),

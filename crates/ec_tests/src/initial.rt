@@ -45,5 +45,5 @@ why at(bob,home) 5 => no broken -inf 10 by m1 rule 6
 
 #[test]
 fn initial_properties_hold_from_before_all_events(rt: HostRuntime) {
-    tell_all(&rt, rt.alloc(), "reads 1,4096", DIALOGUES);
+    tell_all(&rt, rt.alloc(), "reads 1,4096 ; writes 3", DIALOGUES);
 }

@@ -1,4 +1,4 @@
-//! Small histories that each show a rule, and a draft that is full.
+//! Small histories that each show a rule, and drafts that are committed, refused or full.
 use crate::dialogue::tell_all;
 
 /// Dialogues over the rooms and lamps.
@@ -97,6 +97,55 @@ assert x 1 plug(a) => drafted 1
 @0 assert y 2 plug(b) => @0 drafted 2
 abort => ok
 @0 commit => @0 refused no-draft
+# the updates of a draft are counted together, and a late push and its retraction alone
+begin => ok
+assert p 5 plug(a) => drafted 1
+assert q 10 push(bob,a) => drafted 2
+assert r 20 push(bob,a) => drafted 3
+assert s 30 push(bob,a) => drafted 4
+last => last seen 0 on 0 off 0 props 0
+commit => ok
+last => last seen 0 on 0 off 0 props 2
+assert t 7 push(bob,a) => ok
+last => last seen 6 on 3 off 3 props 1
+retract t => ok
+last => last seen 6 on 3 off 3 props 1
+begin => ok
+assert t 7 push(bob,a) => drafted 1
+commit => ok
+last => last seen 6 on 3 off 3 props 1
+# what is taken out and put in again is no change, and a refused draft leaves all as it was
+assert p 5 plug(a) => ok
+assert q 10 push(bob,a) => ok
+assert r 20 push(bob,a) => ok
+assert s 30 push(bob,a) => ok
+begin => ok
+retract q => drafted 1
+assert q 10 push(bob,a) => drafted 2
+commit => ok
+last => last seen 0 on 0 off 0 props 0
+begin => ok
+assert t 7 push(bob,a) => drafted 1
+assert s 40 push(bob,a) => drafted 2
+commit => refused commit 2 duplicate s
+abort => ok
+last => last seen 0 on 0 off 0 props 0
+events => 4 p 5 plug(a) q 10 push(bob,a) r 20 push(bob,a) s 30 push(bob,a)
+intervals powered(a) => 1 (5,inf)
+intervals lit(a) => 2 (10,20] (30,inf)
+begin => ok
+assert t 7 push(bob,a) => drafted 1
+commit => ok
+last => last seen 6 on 3 off 3 props 1
+begin => ok
+retract r => drafted 1
+assert q 40 push(bob,a) => drafted 2
+commit => refused commit 2 duplicate q
+abort => ok
+last => last seen 6 on 3 off 3 props 1
+events => 5 p 5 plug(a) t 7 push(bob,a) q 10 push(bob,a) r 20 push(bob,a) s 30 push(bob,a)
+intervals powered(a) => 1 (5,inf)
+intervals lit(a) => 2 (7,10] (20,30]
 # small refusals, and lines without a reply
 assert p 5 plug(a) => ok
 through powered(a) 9 8 => refused order
@@ -127,11 +176,44 @@ assert m2 20 move(bob,work) => ok
 assert g 15 ring(bob) => ok
 holds at(bob,home) 15 => no
 intervals answered(bob) => 1 (15,inf)
+# where nothing happened, nothing holds, broke or clashed ; theory
+holds e 7 => no
+through e 7 8 => no
+intervals e => 0
+broken e => 0
+at 7 => 0
+clashes => 0
+events => 0
+# an event that fits no rule is told as others, at a time before 0 too ; theory
+assert e -7 e => ok
+events => 1 e -7 e
+# the reasons of a begin before 0 and of an end
+assert e -5 plug(a) => ok
+why powered(a) -5 => no never
+why powered(a) 7 => yes -5 inf by e rule 3
+assert f 10 unplug(a) => ok
+why powered(a) 10 => yes -5 10 by e rule 3 until f rule 4
+why powered(a) 11 => no ended -5 10 by f rule 4
+# the last two rules of a theory that has as many as may be ; theory \
+{64 initiates a h. initiates b h. initiates c h. initiates d h. initiates e h. initiates f h. \
+initiates g h. initiates h h. initiates i h. initiates j h. initiates k h. initiates l h. \
+initiates m h. initiates n h. initiates o h.|}{62 initiates p h.|}\
+initiates plug powered. terminates unplug powered.
+assert e 5 plug => ok
+why powered 7 => yes 5 inf by e rule 1023
+assert f 10 unplug => ok
+why powered 7 => yes 5 10 by e rule 1023 until f rule 1024
+why powered 11 => no ended 5 10 by f rule 1024
 ";
 
 #[test]
 fn each_rule_shows_in_the_replies(rt: HostRuntime) {
-    tell_all(&rt, rt.alloc(), "theory ROOMS ; reads 1,4096", DIALOGUES);
+    tell_all(
+        &rt,
+        rt.alloc(),
+        "theory ROOMS ; reads 1,4096 ; writes 3",
+        DIALOGUES,
+    );
 }
 
 /// Drafts of 1,023 updates, and what comes to them: the last line that is taken, the commit and its reply, and the counts afterwards.
