@@ -40,6 +40,4 @@ pub mod tally;
 #[cfg(test)]
 mod terms;
 #[cfg(test)]
-mod theory;
-#[cfg(test)]
 mod tokens;
