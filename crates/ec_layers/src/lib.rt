@@ -4,6 +4,8 @@
 #[cfg(test)]
 mod agenda;
 #[cfg(test)]
+mod answers;
+#[cfg(test)]
 mod block_spans;
 #[cfg(test)]
 mod block_times;
@@ -15,8 +17,6 @@ mod context;
 mod events;
 #[cfg(test)]
 mod intervals;
-#[cfg(test)]
-mod lines;
 #[cfg(test)]
 mod maps;
 #[cfg(test)]
