@@ -12,8 +12,6 @@ mod block_times;
 #[cfg(test)]
 mod blocks;
 #[cfg(test)]
-mod context;
-#[cfg(test)]
 mod events;
 #[cfg(test)]
 mod intervals;

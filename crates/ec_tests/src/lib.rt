@@ -20,6 +20,8 @@ mod limits;
 #[cfg(test)]
 mod lines;
 #[cfg(test)]
+mod matching;
+#[cfg(test)]
 mod replayed;
 #[cfg(test)]
 mod soaked;
