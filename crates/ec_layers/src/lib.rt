@@ -26,8 +26,6 @@ mod outside;
 #[cfg(test)]
 mod plain;
 #[cfg(test)]
-mod reading;
-#[cfg(test)]
 mod rows;
 #[cfg(test)]
 mod soak;

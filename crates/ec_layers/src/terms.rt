@@ -1,8 +1,8 @@
-//! Printed forms of terms and what they are made of.
+//! Printed forms of terms and what they are made of, and a term that is copied.
 ghost use Rattle.std.specs.Prelude.{IsTrue};
 ghost use Rattle.ec_terms.specs.Term.{ground_of, names_are_names};
 
-use ec_terms::{GroundRef, Kind, Name, NoMemory, PropId, Slot, read_ground, text};
+use ec_terms::{ArgRef, ArgRefs, GroundRef, Kind, Name, NoMemory, PropId, Slot, read_ground, text};
 use std::alloc::Global;
 use std::fmt::{Debug, Display};
 use std::process::Abort;
@@ -55,4 +55,23 @@ fn each_printed_form(rt: HostRuntime) {
 fn the_printed_form_of_a_term(rt: HostRuntime) {
     let text = text(&term_of(&rt, "lamp(-5)"));
     assert!(rt; is_shown(rt.alloc(), &text, "lamp(-5)", "\"lamp(-5)\""));
+}
+
+/// The term `on(lamp,-3)`.
+fn shown() -> GroundRef<'static> {
+    let mut args = ArgRefs::new();
+    args.push(ArgRef::Word(b"lamp"));
+    args.push(ArgRef::Int(-3));
+    GroundRef { name: b"on", args }
+}
+
+/// Whether a term has this name and these arguments.
+fn has_parts(term: &GroundRef<'_>, name: &[u8], args: &[ArgRef<'_>]) -> bool {
+    term.name == name && term.args.as_slice() == args
+}
+
+#[test]
+fn terms_are_copied(rt: HostRuntime) {
+    let copy = shown().copied();
+    assert!(rt; has_parts(&copy, b"on", &[ArgRef::Word(b"lamp"), ArgRef::Int(-3)]));
 }

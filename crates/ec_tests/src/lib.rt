@@ -26,6 +26,8 @@ mod replayed;
 #[cfg(test)]
 mod soaked;
 #[cfg(test)]
+mod spelling;
+#[cfg(test)]
 mod texts;
 #[cfg(test)]
 mod theories;
