@@ -1,4 +1,4 @@
-//! The calls of the layers below the server, each used as the layers above use it.
+//! Calls of the layers below the server, each used as the layers above use it.
 #![tactic(auto)]
 
 #[cfg(test)]
