@@ -1,8 +1,10 @@
-//! The calls of the layers below the server, each used as the layers above use it.
+//! Calls of the layers below the server, each used as the layers above use it.
 #![tactic(auto)]
 
 #[cfg(test)]
 mod agenda;
+#[cfg(test)]
+mod answers;
 #[cfg(test)]
 mod block_spans;
 #[cfg(test)]
@@ -10,13 +12,9 @@ mod block_times;
 #[cfg(test)]
 mod blocks;
 #[cfg(test)]
-mod context;
-#[cfg(test)]
 mod events;
 #[cfg(test)]
 mod intervals;
-#[cfg(test)]
-mod lines;
 #[cfg(test)]
 mod maps;
 #[cfg(test)]
@@ -28,8 +26,6 @@ mod outside;
 #[cfg(test)]
 mod plain;
 #[cfg(test)]
-mod reading;
-#[cfg(test)]
 mod rows;
 #[cfg(test)]
 mod soak;
@@ -39,7 +35,5 @@ pub mod tables;
 pub mod tally;
 #[cfg(test)]
 mod terms;
-#[cfg(test)]
-mod theory;
 #[cfg(test)]
 mod tokens;

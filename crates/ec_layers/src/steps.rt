@@ -1,7 +1,7 @@
 //! What no contract says of the types of events and steps.
 ghost use Rattle.std.specs.Prelude.{◌≡◌, ◌<◌};
 
-use ec_axioms::Steps;
+use ec_axioms::{Seen, Steps};
 use std::marker::Brand;
 use std::sync::ledger::{Blank, Ledger};
 
@@ -18,4 +18,17 @@ fn two_steps<L: Ledger>(blank: Blank)
 #[test]
 fn a_counter_is_made_and_counts() {
     two_steps::<Brand>(Blank::new(1));
+}
+
+const COUNTS: Seen = Seen {
+    seen: 12,
+    on: u64::MAX,
+    off: 0,
+    props: 13,
+};
+
+#[test]
+fn counts_are_shown_by_their_names(rt: HostRuntime) {
+    let text = format!(in rt.alloc(); "{COUNTS:?}").expect(&rt, "memory");
+    assert!(rt; text.as_str() == "Seen { seen: 12, on: 18446744073709551615, off: 0, props: 13 }");
 }

@@ -55,6 +55,10 @@ assert s4097 1 see(bob,h0) => ok
 begin => ok
 assert s1 1 see(bob,h0) => drafted 1
 commit => refused commit 1 full-links 16777216
+@1 begin => @1 ok
+1..1023: @1 assert i* 1 idle => @1 drafted *
+@1 assert s1 1 see(bob,h0) => @1 drafted 1024
+@1 commit => @1 refused commit 1024 full-links 16777216
 ";
 
 #[test]

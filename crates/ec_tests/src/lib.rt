@@ -4,6 +4,8 @@
 #[cfg(test)]
 mod cases;
 #[cfg(test)]
+mod clauses;
+#[cfg(test)]
 mod dialogue;
 #[cfg(test)]
 mod faults;
@@ -18,9 +20,13 @@ mod limits;
 #[cfg(test)]
 mod lines;
 #[cfg(test)]
+mod matching;
+#[cfg(test)]
 mod replayed;
 #[cfg(test)]
 mod soaked;
+#[cfg(test)]
+mod spelling;
 #[cfg(test)]
 mod texts;
 #[cfg(test)]

@@ -13,7 +13,16 @@ theory {60 initiates a h. initiates b h. initiates c h. initiates d h. initiates
 initiates g h. initiates h h. initiates i h. initiates j h. initiates k h. initiates l h. \
 initiates m h. initiates n h. initiates o h. initiates p h. initiates q h.|}\
 initiates a h. initiates b h. initiates c h. initiates d h.|initiates e h. => 3 theory 1025 many-rules|
-# rules of one event, of both kinds
+# rules of sixteen events, of each as many as there may be
+theory {64 initiates e0 p. initiates e1 p. initiates e2 p. initiates e3 p. initiates e4 p. initiates e5 p. initiates e6 p. initiates e7 p. \
+initiates e8 p. initiates e9 p. initiates e10 p. initiates e11 p. initiates e12 p. initiates e13 p. initiates e14 p. initiates e15 p.|} \
+=> 0 accepted rules 1024 exclusives 0 strongs 0|
+theory {64 initiates e0 p. initiates e1 p. initiates e2 p. initiates e3 p. initiates e4 p. initiates e5 p. initiates e6 p. initiates e7 p. \
+initiates e8 p. initiates e9 p. initiates e10 p. initiates e11 p. initiates e12 p. initiates e13 p. initiates e14 p. initiates e15 p.|}\
+initiates last p. => 3 theory 1025 many-rules|
+# rules of one event, of one kind and of both
+theory {64 initiates e p. } => 0 accepted rules 64 exclusives 0 strongs 0|
+theory {65 initiates e p. } => 3 theory 65 many-event-rules|
 theory {63 initiates e h.|}terminates e h.| => 0 accepted rules 64 exclusives 0 strongs 0|
 theory {63 initiates e h.|}{2 terminates e h.|} => 3 theory 65 many-event-rules|
 # with an argument it is another event
@@ -31,13 +40,19 @@ initiates a h. initiates b h. initiates c h. initiates d h.| => 0 accepted rules
 theory {1024 strong a/0.|}{256 exclusive a b.|}{64 initiates e h.|}initiates e h. => 3 theory 1345 many-event-rules|
 # initial properties, beside others
 theory {1024 initially p.|}{256 exclusive a b.|} => 0 accepted rules 0 exclusives 256 strongs 0 initials 1024|
+theory {1024 initially p. }strong p/0. => 0 accepted rules 0 exclusives 0 strongs 1 initials 1024|
 theory {1024 initially p(a).|} => 0 accepted rules 0 exclusives 0 strongs 0 initials 1024|
 theory {1025 initially p(a).|} => 3 theory 1025 many-initials|
+theory strong p/0.{1025 initially p. } => 3 theory 1026 many-initials|
 # tests and literals of a rule
 theory initiates e h if 1 = 1{15 , 1 = 1}. => 0 accepted rules 1 exclusives 0 strongs 0|
 theory initiates e h if 1 = 1{16 , 1 = 1}. => 3 theory 1 many-tests|
+theory initiates e p if a = a{15 , a < b}. => 0 accepted rules 1 exclusives 0 strongs 0|
+theory initiates e p if a = a{16 , a < b}. => 3 theory 1 many-tests|
 theory initiates e h if c{15 , not c}. => 0 accepted rules 1 exclusives 0 strongs 0|
 theory initiates e h if c{16 , not c}. => 3 theory 1 many-literals|
+theory initiates e p if a{15 , not b}. => 0 accepted rules 1 exclusives 0 strongs 0|
+theory initiates e p if a{16 , not b}. => 3 theory 1 many-literals|
 theory initiates e h if c{15 , c}{16 , 1 = 1}. => 0 accepted rules 1 exclusives 0 strongs 0|
 # variables of a clause; a rule with sixteen has another fault, as no event has so many
 theory exclusive p(A,B,C,D,E,F,G,H) q(I,J,K,L,M,N,O,P). => 0 accepted rules 0 exclusives 1 strongs 0|
@@ -45,6 +60,8 @@ theory initiates e(A,B,C,D,E,F,G,H) h(I,J,K,L,M,N,O,P) if c(A). => 3 theory 1 un
 theory initiates e(A,B,C,D,E,F,G,H) h(I,J,K,L,M,N,O,P) if c(Q). => 3 theory 1 many-variables|
 # arguments of a term
 theory initiates e(A,B,C,D,E,F,G,H) h(A,A,A,A,A,A,A,A). => 0 accepted rules 1 exclusives 0 strongs 0|
+theory initiates e(a{7 ,b}) p. => 0 accepted rules 1 exclusives 0 strongs 0|
+theory initiates e(a{8 ,b}) p. => 3 theory 1 arity|
 theory initiates e(1,2,3,4,5,6,7,8,9) h. => 3 theory 1 arity|
 theory initiates e h(1,2,3,4,5,6,7,8,9). => 3 theory 1 arity|
 theory initiates e h if not c(1,2,3,4,5,6,7,8,9). => 3 theory 1 arity|
@@ -55,6 +72,7 @@ theory initiates {64 a} b. => 0 accepted rules 1 exclusives 0 strongs 0|
 theory initiates {65 a} b. => 3 theory 1 11 long-name|
 theory initiates e({64 V}) b. => 0 accepted rules 1 exclusives 0 strongs 0|
 theory initiates e({65 V}) b. => 3 theory 1 13 long-name|
+theory |initiates e({65 V}) b. => 3 theory 2 13 long-name|
 # digits and values of a number
 theory initiates a(-{19 0}5) b. => 0 accepted rules 1 exclusives 0 strongs 0|
 theory initiates a(-{20 0}5) b. => 3 theory 1 13 number|
@@ -69,11 +87,13 @@ fn the_clauses_of_a_theory_and_their_parts_have_limits(rt: HostRuntime) {
     run_all(&rt, rt.alloc(), "words check,t.ec", THEORIES);
 }
 
-/// Line ends alone: as many bytes as a theory may have, and one more.
+/// Line ends, and blanks behind a clause: as many bytes as a theory may have, and one more.
 const LENGTHS: &str = "\
 words check,t.ec
 theory {1048576 |} => 0 accepted rules 0 exclusives 0 strongs 0|
 theory {1048577 |} => 3 theory too-long|
+theory strong p/8.{1048565  } => 0 accepted rules 0 exclusives 0 strongs 1|
+theory strong p/8.{1048566  } => 3 theory too-long|
 words serve,t.ec ; input quit|
 theory {1048576 |} => 0 bye|
 theory {1048577 |} => 3 theory too-long|

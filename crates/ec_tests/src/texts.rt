@@ -1,4 +1,4 @@
-//! Theories that a table names.
+//! Texts that a table names: theories, and bytes that no text of a table can have.
 use ec_layers::tables::bytes_of;
 use std::alloc::Global;
 use std::process::Abort;
@@ -42,7 +42,10 @@ exclusive at(X,Y) at(X,Z).
 /// No theory, since it has a byte that no text of a table can have.
 const ODD_BYTE: &[u8] = b"strong a/1 \x80";
 
-/// The theory that a text begins with the name of, and what stands behind the name. A text that begins with no name is all behind.
+/// A byte that some take for a blank. It is none.
+const ODD_BLANK: &[u8] = b"\xa0";
+
+/// The text that a text begins with the name of, and what stands behind the name. A text that begins with no name is all behind.
 fn named(told: &str) -> (&'static [u8], &str) {
     let (name, behind) = told.split_once(' ').unwrap_or((told, ""));
     match name {
@@ -52,15 +55,16 @@ fn named(told: &str) -> (&'static [u8], &str) {
         "LIBRARY" => (LIBRARY, behind),
         "SEEN" => (SEEN, behind),
         "ODD_BYTE" => (ODD_BYTE, behind),
+        "ODD_BLANK" => (ODD_BLANK, behind),
         _ => (b"", told),
     }
 }
 
-/// The bytes of a theory as a table tells it: by its name, by its name and more clauses, or by its clauses.
-pub fn theory_of(rt: &impl Abort, alloc: Global, told: &str) -> Vec<u8> {
-    let (theory, clauses) = named(told);
-    let clauses = bytes_of(alloc, clauses).expect(rt, "memory");
-    let mut bytes = Vec::from_slice(alloc, theory).expect(rt, "memory");
-    bytes.extend_from_slice(&clauses).expect(rt, "memory");
+/// The bytes of a theory or of an input as a table tells it: by its name, by its name and what stands behind it, or as it is written.
+pub fn text_of(rt: &impl Abort, alloc: Global, told: &str) -> Vec<u8> {
+    let (text, behind) = named(told);
+    let behind = bytes_of(alloc, behind).expect(rt, "memory");
+    let mut bytes = Vec::from_slice(alloc, text).expect(rt, "memory");
+    bytes.extend_from_slice(&behind).expect(rt, "memory");
     bytes
 }

@@ -51,6 +51,8 @@ theory initiates initially(initially) initially if not initially. strong initial
 theory ROOMS => 0 accepted rules 7 exclusives 1 strongs 0|
 theory ROOMS strong at/2.| => 0 accepted rules 7 exclusives 1 strongs 1|
 theory ROOMS initially powered(a).| => 0 accepted rules 7 exclusives 1 strongs 0 initials 1|
+# the library
+theory LIBRARY => 0 accepted rules 7 exclusives 1 strongs 0|
 # those that are accepted are served, with literals and declarations
 words serve,t.ec ; input quit| ; gives 0 bye|
 theory ROOMS =>

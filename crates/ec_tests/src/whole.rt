@@ -1,7 +1,7 @@
 //! A whole run, and whether it comes to what it is to come to.
 //!
 //! The contracts of `run` and `serve` are long, so one function alone calls each.
-use crate::texts::theory_of;
+use crate::texts::text_of;
 use ec_layers::tables::bytes_of;
 use ec_outside::{MemFolder, MemSink, MemSource};
 use ec_server::{run, serve};
@@ -24,6 +24,7 @@ pub struct Case<'a> {
     pub theory: &'a str,
     /// What the file `a.lines` has.
     pub lines: &'a str,
+    /// The lines that are read, or the name of a text in `texts` and what stands behind it.
     pub input: &'a str,
     /// How many bytes of the input a read gives at most. There is a run for each of these numbers, which are parted by commas.
     pub reads: &'a str,
@@ -92,7 +93,7 @@ fn folder(
 
 /// The input of a run, which comes in pieces of at most `most` bytes, and of one at least.
 fn input_of(rt: &impl Abort, alloc: Global, case: &Case<'_>, most: usize) -> MemSource {
-    let lines = bytes_of(alloc, case.input).expect(rt, "memory");
+    let lines = text_of(rt, alloc, case.input);
     MemSource::new(alloc, &lines, most.max(1), &[case.failing.read]).expect(rt, "memory")
 }
 
@@ -118,7 +119,7 @@ fn ran(
     output: &mut MemSink,
 ) -> u8 {
     let words = words_of(rt, alloc, case.words);
-    let theory = theory_of(rt, alloc, case.theory);
+    let theory = text_of(rt, alloc, case.theory);
     let lines = bytes_of(alloc, case.lines).expect(rt, "memory");
     let files = folder(alloc, &theory, &lines, &[case.failing.file]);
     let mut files = files.expect(rt, "memory");
@@ -134,7 +135,7 @@ fn served(
     input: &mut MemSource,
     output: &mut MemSink,
 ) -> u8 {
-    let theory = theory_of(rt, alloc, case.theory);
+    let theory = text_of(rt, alloc, case.theory);
     assert!(rt; theory.len() <= MOST_BYTES);
     let checked = accept(alloc, &theory).ok().expect(rt, "a theory");
     serve(alloc, checked, input, output, limit).code()
