@@ -1,6 +1,6 @@
 //! What no clause shows: that memory is given.
-use ec_agenda::Agenda;
 use ec_moment::Tick;
+use ec_numbered::Agenda;
 use ec_terms::{NoMemory, PropId};
 use std::alloc::Global;
 

@@ -1,5 +1,5 @@
 //! What no clause shows: that memory is given, for few rows and for many, and by number.
-use ec_maps::{NumberMap, SmallMap};
+use ec_numbered::{NumberMap, SmallMap};
 use ec_terms::NoMemory;
 use std::alloc::Global;
 

@@ -1,2 +1,5 @@
 pub mod Numbers
 pub mod ByNumberLemmas
+mod KeyedRowLemmas
+mod NumberPlaceLemmas
+pub mod DueLemmas

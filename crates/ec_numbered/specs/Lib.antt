@@ -1,3 +1,6 @@
 pub mod ByNumber
+pub mod Due
+pub mod KeyedRows
 pub mod Lends
+pub mod NumberPlaces
 pub mod PropSet

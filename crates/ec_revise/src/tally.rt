@@ -11,7 +11,7 @@ ghost use Rattle.ec_revise.specs.TurnCounts.{CountsEach, CountsTurn, IsTallyAt, 
 use crate::settled::{Counts, Tallied};
 use crate::turn::Turn;
 use ec_exclusive::Neighbours;
-use ec_maps::NumberMap;
+use ec_numbered::NumberMap;
 use ec_terms::{Kind, NoMemory, PropId};
 use std::alloc::Global;
 use std::marker::Model;

@@ -8,7 +8,7 @@ use Rattle.std.proofs.lemmas.Int.{ints}
 use Rattle.std.proofs.lemmas.List.Folds.{list_any-append}
 use Rattle.ec_lists.proofs.Integers.{int_eq-is}
 use Rattle.ec_lists.proofs.Tests.{list_any-filter}
-use Rattle.ec_agenda.specs.Due.{Due, comes_before, has_due, is_due, with_due}
+use Rattle.ec_numbered.specs.Due.{Due, comes_before, has_due, is_due, with_due}
 
 -- of two pairs of whole numbers one comes before the other, or they are the same
 apart-or_same : (a b u : ℤ) (m k n : ℕ) → (int_eq a u && (m == n)) ≡ true

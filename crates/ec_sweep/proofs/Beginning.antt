@@ -37,7 +37,7 @@ use Rattle.ec_revise.specs.Sweep.{Found}
 use Rattle.ec_axioms.specs.Marks.{PlainMark}
 use Rattle.ec_rows.specs.PlainMarks.{plain_mark}
 use Rattle.ec_points.specs.Changes.{change_at}
-use Rattle.ec_agenda.specs.Due.{has_due}
+use Rattle.ec_numbered.specs.Due.{has_due}
 use Rattle.ec_sweep.specs.State.{dirty_at}
 use Rattle.ec_axioms.proofs.Members.{IsMember}
 use Rattle.ec_delta.specs.Looked.{active_of}

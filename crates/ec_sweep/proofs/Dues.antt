@@ -12,7 +12,7 @@ use Rattle.ec_lists.proofs.Tests.{list_any-none, list_all-weaker}
 use Rattle.ec_rows.proofs.OrderedLemmas.{and-left}
 use Rattle.ec_terms.specs.declared.ids.PropId.{PropId}
 use Rattle.ec_numbered.specs.PropSet.{has_number}
-use Rattle.ec_agenda.specs.Due.{Due, are_in_order, comes_before, has_due, is_due}
+use Rattle.ec_numbered.specs.Due.{Due, are_in_order, comes_before, has_due, is_due}
 use Rattle.ec_sweep.proofs.Firsts.{list_all-from_first}
 
 -- one due property comes no later than another that it stands before

@@ -23,7 +23,7 @@ use Rattle.ec_changes.proofs.Activity.{event-effects_of}
 use Rattle.ec_changes.proofs.DistinctLists.{IsDistinct-from_pairwise, IsPairwise-from_distinct}
 use Rattle.ec_changes.proofs.JoinedMembers.{IsMember-flat_map, IsMember-from_flat_map}
 use Rattle.ec_changes.proofs.KeptEvents.{event_eq-is}
-use Rattle.ec_agenda.specs.Due.{Due, has_due}
+use Rattle.ec_numbered.specs.Due.{Due, has_due}
 use Rattle.ec_props.specs.Table.{KeptProp, prop_of, term_at}
 use Rattle.ec_events.specs.Store.{Kept, event_at, history_of, plain_of}
 use Rattle.ec_numbered.specs.PropSet.{has_number}

@@ -25,7 +25,7 @@ use Rattle.ec_parts.specs.declared.tally.Tally.{Tally}
 use Rattle.ec_parts.specs.StandFor.{View}
 use Rattle.ec_parts.proofs.LinksByNumber.{IsOneToOne}
 use Rattle.ec_parts.proofs.Waiting.{All-from_members}
-use Rattle.ec_agenda.specs.Due.{Due}
+use Rattle.ec_numbered.specs.Due.{Due}
 use Rattle.ec_delta.specs.declared.delta.Looked.{Looked}
 use Rattle.ec_delta.specs.declared.delta.Planned.{Planned}
 use Rattle.ec_revise.specs.declared.turn.Turn.{Turn}

@@ -13,7 +13,7 @@ use Rattle.ec_axioms.specs.Calculus.{Effect, PlainEvent, effects_of}
 use Rattle.ec_axioms.specs.Changes.{events_only_in}
 use Rattle.ec_axioms.specs.Events.{event_of}
 use Rattle.ec_axioms.specs.Plain.{events_at}
-use Rattle.ec_agenda.specs.Due.{Due}
+use Rattle.ec_numbered.specs.Due.{Due}
 use Rattle.ec_changes.specs.Differences.{entries_at}
 use Rattle.ec_context.specs.declared.entry.Entry.{Entry}
 use Rattle.ec_context.specs.Entries.{shown_entries}

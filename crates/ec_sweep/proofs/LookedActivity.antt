@@ -11,7 +11,7 @@ use Rattle.ec_axioms.specs.Changes.{event_eq, has_event, events_only_in, kept_ev
 use Rattle.ec_axioms.specs.Events.{event_of}
 use Rattle.ec_axioms.specs.Plain.{events_at}
 use Rattle.ec_axioms.proofs.Members.{Contains-from_member, IsMember, IsMember-append_right, IsMember-from_contains, IsMember-from_filter, list_any-member, member-list_any, IsMember-slice_get, IsMember-append_left}
-use Rattle.ec_agenda.specs.Due.{Due}
+use Rattle.ec_numbered.specs.Due.{Due}
 use Rattle.ec_changes.specs.Differences.{entries_at}
 use Rattle.ec_changes.specs.Turns.{ListsSeen, same_entry}
 use Rattle.ec_changes.proofs.Activity.{event-effects_of, rank-entries_at}

@@ -8,7 +8,7 @@ use Rattle.ec_terms.specs.declared.theory.Theory.{Theory}
 use Rattle.ec_axioms.specs.declared.event.Event.{Event}
 use Rattle.ec_axioms.specs.Calculus.{Effect, PlainEvent}
 use Rattle.ec_axioms.specs.Changes.{change_counts, kept_effects}
-use Rattle.ec_agenda.specs.Due.{Due}
+use Rattle.ec_numbered.specs.Due.{Due}
 use Rattle.ec_changes.specs.Turns.{kept_count, sees}
 use Rattle.ec_changes.proofs.Hits.{SeenInAnyOrder-law}
 use Rattle.ec_changes.proofs.KeptCounts.{KeptCountsGoOn-law}

@@ -21,7 +21,7 @@ use Rattle.ec_axioms.specs.Links.{is_live}
 use Rattle.ec_axioms.specs.Marks.{mark_at}
 use Rattle.ec_axioms.proofs.Members.{Contains-from_member, IsMember, IsMember-append_cases, filter_none, list_all-member, list_any-member, member-list_any}
 use Rattle.ec_changes.specs.QuietLaws.{single_events}
-use Rattle.ec_agenda.specs.Due.{Due, has_due, is_due}
+use Rattle.ec_numbered.specs.Due.{Due, has_due, is_due}
 use Rattle.ec_events.specs.Store.{Kept, event_at, history_of}
 use Rattle.ec_points.specs.Changes.{change_at}
 use Rattle.ec_parts.specs.declared.tally.Tally.{Tally}

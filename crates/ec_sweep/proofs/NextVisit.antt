@@ -16,7 +16,7 @@ use Rattle.ec_rows.specs.Ordered.{is_ascending}
 use Rattle.ec_lists.proofs.Options.{None-from_option_map}
 use Rattle.ec_points.proofs.Lists.{is_ascending-drop}
 use Rattle.ec_axioms.specs.declared.event.Event.{Event}
-use Rattle.ec_agenda.specs.Due.{Due, are_in_order, comes_before}
+use Rattle.ec_numbered.specs.Due.{Due, are_in_order, comes_before}
 use Rattle.ec_revise.specs.declared.change.Change.{Change}
 use Rattle.ec_revise.specs.declared.change.Removal.{Removal}
 use Rattle.ec_revise.specs.Change.{removal_before}

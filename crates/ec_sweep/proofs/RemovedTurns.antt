@@ -18,7 +18,7 @@ use Rattle.ec_axioms.specs.Changes.{comes_before, events_only_in, has_event}
 use Rattle.ec_axioms.specs.Events.{event_of}
 use Rattle.ec_axioms.specs.Plain.{events_at}
 use Rattle.ec_axioms.proofs.Members.{Contains-from_member, IsMember, IsMember-filter, IsMember-from_filter, IsMember-from_map, IsMember-map, IsPairwise, IsPairwise-filter, IsPairwise-weaker, list_any-member, member-list_any}
-use Rattle.ec_agenda.specs.Due.{Due}
+use Rattle.ec_numbered.specs.Due.{Due}
 use Rattle.ec_changes.specs.Differences.{entries_at}
 use Rattle.ec_changes.proofs.KeptEvents.{IsPairwise-from_history, comes_before-itself}
 use Rattle.ec_changes.proofs.Tallies.{length-filter-flat_map}

@@ -6,7 +6,7 @@ use Rattle.std.proofs.lemmas.Bool.{and_parts, cond-false, cond-true, eq-eqb, eqb
 use Rattle.std.proofs.Math.Bool.{and-false, and-true}
 use Rattle.ec_lists.proofs.Integers.{int_eq-is, int_eq-same}
 use Rattle.ec_terms.specs.declared.ids.PropId.{PropId}
-use Rattle.ec_agenda.specs.Due.{Due, has_due, is_due}
+use Rattle.ec_numbered.specs.Due.{Due, has_due, is_due}
 use Rattle.ec_exclusive.specs.Neighbours.{Neighbourhoods}
 use Rattle.ec_points.specs.Table.{PointTable}
 use Rattle.ec_rows.specs.declared.mark.Mark.{Mark}

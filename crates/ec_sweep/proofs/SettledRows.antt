@@ -5,7 +5,7 @@ use Rattle.std.specs.Option.{option_or}
 use Rattle.std.proofs.lemmas.Bool.{cases_Bool, cond-false, cond-true, false≢true}
 use Rattle.std.proofs.lemmas.Option.{none-some}
 use Rattle.ec_terms.specs.declared.ids.PropId.{PropId}
-use Rattle.ec_agenda.specs.Due.{Due}
+use Rattle.ec_numbered.specs.Due.{Due}
 use Rattle.ec_exclusive.specs.Neighbours.{Neighbourhoods}
 use Rattle.ec_numbered.proofs.Numbers.{same_prop}
 use Rattle.ec_points.specs.Table.{PointTable}

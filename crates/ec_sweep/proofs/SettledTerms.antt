@@ -20,7 +20,7 @@ use Rattle.ec_axioms.specs.Marks.{PlainMark, current_after, is_marked, last_mark
 use Rattle.ec_axioms.proofs.HistoryLaws.{CurrencyIsOfTheLastMark-law}
 use Rattle.ec_axioms.proofs.Members.{Contains-from_member, IsMember, IsMember-filter, IsMember-from_contains, IsMember-from_filter, list_any-member, member-list_any}
 use Rattle.ec_changes.proofs.LiveMarks.{mark_same}
-use Rattle.ec_agenda.specs.Due.{Due, has_due, is_due as is_due_at}
+use Rattle.ec_numbered.specs.Due.{Due, has_due, is_due as is_due_at}
 use Rattle.ec_changes.specs.QuietLaws.{current_behind}
 use Rattle.ec_props.specs.Table.{KeptProp, is_in_order, prop_at, prop_of, term_at}
 use Rattle.ec_props.proofs.FoundLemmas.{found_own}

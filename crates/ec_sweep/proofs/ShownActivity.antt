@@ -16,7 +16,7 @@ use Rattle.ec_axioms.specs.Calculus.{Effect, PlainEvent, effects_of}
 use Rattle.ec_axioms.specs.Changes.{has_event}
 use Rattle.ec_axioms.specs.Events.{event_of}
 use Rattle.ec_axioms.proofs.Members.{Contains-from_member, IsMember, find-None, list_any-member, member-list_any, IsMember-slice_get}
-use Rattle.ec_agenda.specs.Due.{Due}
+use Rattle.ec_numbered.specs.Due.{Due}
 use Rattle.ec_changes.specs.Turns.{same_entry}
 use Rattle.ec_changes.proofs.Activity.{event-effects_of}
 use Rattle.ec_changes.proofs.KeptEvents.{has_event-member}

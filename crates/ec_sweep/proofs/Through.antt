@@ -19,7 +19,7 @@ use Rattle.ec_axioms.specs.Events.{event_of}
 use Rattle.ec_axioms.specs.Marks.{PlainMark, mark_at}
 use Rattle.ec_axioms.specs.Plain.{events_at}
 use Rattle.ec_axioms.proofs.Members.{Contains-from_member, IsMember, IsMember-append_cases, IsMember-filter, IsMember-from_filter, IsMember-map, filter_all, filter_none, IsMember-slice_get}
-use Rattle.ec_agenda.specs.Due.{has_due}
+use Rattle.ec_numbered.specs.Due.{has_due}
 use Rattle.ec_changes.specs.Differences.{entries_at}
 use Rattle.ec_changes.specs.QuietLaws.{single_events}
 use Rattle.ec_changes.proofs.JoinedMembers.{IsMember-flat_map}

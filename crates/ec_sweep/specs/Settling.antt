@@ -5,7 +5,7 @@ use Rattle.std.specs.Option.{option_map_or}
 use Rattle.ec_terms.specs.declared.ids.PropId.{PropId}
 use Rattle.ec_terms.specs.declared.ground.Ground.{Ground}
 use Rattle.ec_terms.specs.declared.theory.Theory.{Theory}
-use Rattle.ec_agenda.specs.Due.{Due, has_due}
+use Rattle.ec_numbered.specs.Due.{Due, has_due}
 use Rattle.ec_changes.specs.QuietLaws.{current_behind}
 use Rattle.ec_entries.specs.declared.event_entries.EventEntries.{EventEntries}
 use Rattle.ec_entries.specs.declared.event_entries.Dependent.{Dependent}

@@ -12,7 +12,7 @@ use Rattle.ec_axioms.specs.declared.limits.TheConstants.{MOST_MENTIONS}
 use Rattle.ec_axioms.specs.Calculus.{PlainEvent, Effect, effects_of}
 use Rattle.ec_axioms.specs.Events.{event_of}
 use Rattle.ec_axioms.specs.Links.{mentions_of}
-use Rattle.ec_agenda.specs.Due.{Due, has_due}
+use Rattle.ec_numbered.specs.Due.{Due, has_due}
 use Rattle.ec_props.specs.Table.{KeptProp, prop_at, prop_of, term_at}
 use Rattle.ec_rows.specs.PlainMarks.{plain_mark}
 use Rattle.ec_events.specs.Store.{event_at, history_of}

@@ -5,7 +5,7 @@ use Rattle.std.specs.Ordering.{int_eq}
 use Rattle.ec_terms.specs.declared.theory.Theory.{Theory}
 use Rattle.ec_axioms.specs.declared.event.Event.{Event}
 use Rattle.ec_axioms.specs.Calculus.{PlainEvent, Effect}
-use Rattle.ec_agenda.specs.Due.{Due}
+use Rattle.ec_numbered.specs.Due.{Due}
 use Rattle.ec_events.specs.Store.{Kept, history_of}
 use Rattle.ec_points.specs.Clashes.{is_behind}
 use Rattle.ec_parts.specs.declared.tally.Tally.{Tally}

@@ -1,11 +1,11 @@
 //! Which properties are due at an instant, and which instant comes next.
 ghost use Rattle.std.specs.Prelude.{◌≡◌, ◌≤ℤ◌, ℕ, ℤ, false, IfOk, IsSomeAnd, IsTrue, int_lt, slice_get};
-ghost use Rattle.ec_agenda.specs.Due.{has_due};
+ghost use Rattle.ec_numbered.specs.Due.{has_due};
 ghost use Rattle.ec_sweep.specs.Visiting.{AreDueAt, IsAgendaBehind};
 
 use crate::scratch::Scratch;
-use ec_agenda::Agenda;
 use ec_moment::Moment;
+use ec_numbered::Agenda;
 use ec_terms::{NoMemory, PropId};
 
 /// Whether a time comes before another.

@@ -6,9 +6,9 @@ use crate::dirty::Dirty;
 use crate::progress::Progress;
 use crate::scratch::Scratch;
 use crate::sweep::Sweep;
-use ec_agenda::Agenda;
 use ec_delta::{Looked, Planned};
 use ec_moment::Moment;
+use ec_numbered::Agenda;
 use std::alloc::Global;
 use std::mem;
 

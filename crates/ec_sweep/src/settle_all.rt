@@ -1,7 +1,7 @@
 //! The settling of properties at one instant.
 ghost use Rattle.std.specs.Prelude.{ℤ, Bool, List, OnOk};
 ghost use Rattle.ec_axioms.specs.Calculus.{PlainEvent, Effect};
-ghost use Rattle.ec_agenda.specs.Due.{Due};
+ghost use Rattle.ec_numbered.specs.Due.{Due};
 ghost use Rattle.ec_delta.specs.declared.delta.Looked.{Looked};
 ghost use Rattle.ec_parts.specs.declared.tally.Tally.{Tally as PartsTally};
 ghost use Rattle.ec_revise.specs.declared.change.Change.{Change};
@@ -12,9 +12,9 @@ ghost use Rattle.ec_sweep.specs.Visiting.{CanSettle, CanSettleAt, HasSettled, se
 use crate::dirty::Dirty;
 use crate::scratch::Scratch;
 use crate::settle_rows::{settle_rows, tally_of};
-use ec_agenda::Agenda;
 use ec_delta::Planned;
 use ec_moment::Moment;
+use ec_numbered::Agenda;
 use ec_parts::Parts;
 use ec_revise::Turn;
 use ec_rows::{MarkRow, SpanRow, TimeRow};

@@ -15,10 +15,10 @@ ghost use Rattle.ec_sweep.specs.Settling.{AddsDue, BearsAt, IsDueWithin, IsNextM
 use crate::dirty::Dirty;
 use crate::next_time::next_time;
 use crate::places::Places;
-use ec_agenda::Agenda;
 use ec_delta::{Planned, Touch};
 use ec_exclusive::Neighbours;
 use ec_moment::Moment;
+use ec_numbered::Agenda;
 use ec_parts::Parts;
 use ec_points::Points;
 use ec_revise::{Currencies, Settled, Tallied, settle};

@@ -5,7 +5,7 @@ ghost use Rattle.ec_delta.specs.Looked.{are_apart};
 ghost use Rattle.ec_sweep.specs.Words.{flip_of, word_at};
 
 use ec_delta::Flip;
-use ec_maps::NumberMap;
+use ec_numbered::NumberMap;
 use ec_terms::{NoMemory, Sequence, Slot};
 use std::alloc::Global;
 use std::marker::Model;

@@ -1,7 +1,7 @@
 -- One that is due is taken out more; while something is due first, the agenda is not empty.
 use Rattle.std.proofs.Common.{◌≡◌, ◌||◌, true, refl, ap, sym, subst, ◌∙◌}
 use Rattle.ec_lists.proofs.Integers.{int_eq-same}
-use Rattle.ec_agenda.specs.Due.{has_due}
+use Rattle.ec_numbered.specs.Due.{has_due}
 use Rattle.ec_numbered.specs.PropSet.{has_number}
 use Rattle.ec_sweep.proofs.Dues.{at-first, has_due-elsewhere, has_due-rest, not-empty, taken-more}
 use Rattle.std.specs.Ordering.{int_eq}

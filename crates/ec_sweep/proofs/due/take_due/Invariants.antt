@@ -2,7 +2,7 @@
 use Rattle.std.proofs.Common.{◌≡◌, ◌≤ℤ◌, ℕ, ℤ, IsTrue, ◌||◌, length, false}
 use Rattle.std.specs.Ordering.{int_eq}
 use Rattle.ec_numbered.specs.PropSet.{has_number}
-use Rattle.ec_agenda.specs.Due.{has_due}
+use Rattle.ec_numbered.specs.Due.{has_due}
 use Rattle.ec_sweep.proofs.due.take_due.Given as goal
 
 abbrev pub invariant-loop-at : goal.invariant-loop-at

@@ -1,9 +1,0 @@
--- Nothing is in order.
-use Rattle.std.proofs.Common.{ap}
-use Rattle.ec_rows.specs.Ordered.{is_ascending}
-use Rattle.ec_agenda.specs.Due.{are_in_order}
-use Rattle.ec_agenda.proofs.agenda.Agenda.new.Goals as goal
-
-pub invariant_of-result : goal.invariant_of-result
-unfolding is_ascending
-invariant_of-result g c = ap (are_in_order g.T.Moment.rank) c.new.ensures.items

@@ -1,0 +1,6 @@
+-- The time and the number are those of the property.
+use Rattle.std.proofs.Common.{rules}
+use Rattle.ec_numbered.proofs.due_place.is_same.Goals as goal
+
+pub returns-then-is_eq : goal.returns-then-is_eq
+returns-then-is_eq g c = search rules
