@@ -8,8 +8,7 @@ use ec_check::Checked;
 use ec_exclusive::Neighbours;
 use ec_props::PropTable;
 use ec_terms::{GroundRef, PropId, Theory, read_ground};
-use ec_theory::accept;
-use ec_tokens::MOST_BYTES;
+use ec_theory::{MOST_BYTES, accept};
 use std::alloc::Global;
 use std::process::Abort;
 

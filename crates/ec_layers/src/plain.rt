@@ -8,8 +8,7 @@ use crate::tables::row_of;
 use ec_axioms::{Event, EventList, holds_plain, is_in_order};
 use ec_moment::{Moment, Tick};
 use ec_terms::{Name, Sequence, Theory, read_ground};
-use ec_theory::accept;
-use ec_tokens::MOST_BYTES;
+use ec_theory::{MOST_BYTES, accept};
 use std::alloc::Global;
 use std::process::Abort;
 

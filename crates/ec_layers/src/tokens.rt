@@ -1,6 +1,6 @@
 //! Texts, and their tokens.
 use crate::tables::{bytes_of, row_of};
-use ec_tokens::{MOST_BYTES, Place, TokenFault, TokenKind, tokens};
+use ec_theory::{MOST_BYTES, Place, TokenFault, TokenKind, tokens};
 use std::alloc::{AllocError, Global};
 use std::process::Abort;
 

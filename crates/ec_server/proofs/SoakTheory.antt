@@ -10,9 +10,9 @@ use Rattle.ec_terms.specs.declared.theory.Theory.{Theory}
 use Rattle.ec_terms.specs.Spelling.{is_lower, is_upper, is_name_byte}
 use Rattle.ec_moment.specs.Number.{number_value}
 use Rattle.ec_axioms.specs.Examples.{lamp_rules, lit_second, literal, one_place, pattern, powered_second, push_lamp, rule as plain_rule, theory_b}
-use Rattle.ec_tokens.specs.declared.fault.TokenFault.{TokenFault}
-use Rattle.ec_tokens.specs.Lexeme.{Lexemes}
-use Rattle.ec_tokens.specs.Tokens.{mark_piece, name_piece, number_piece, piece_length, piece_of, place_behind, start, tokens_from, tokens_of, with_end, with_front, with_piece}
+use Rattle.ec_theory.specs.declared.token_fault.TokenFault.{TokenFault}
+use Rattle.ec_theory.specs.Lexeme.{Lexemes}
+use Rattle.ec_theory.specs.Tokens.{mark_piece, name_piece, number_piece, piece_length, piece_of, place_behind, start, tokens_from, tokens_of, with_end, with_front, with_piece}
 use Rattle.ec_check.specs.Faults.{each_open, earlier_fault, exclusive_fault, first_fault, first_from, first_wrong, has_few_variables, initial_fault, is_narrow_rule, is_unbound, least_unbound, rule_fault, rule_places, same_event, strong_fault, variables_in}
 use Rattle.ec_theory.specs.declared.clause.Clause.TheVariants as clause
 use Rattle.ec_theory.specs.declared.condition.Condition.TheVariants as condition

@@ -2,10 +2,10 @@
 use Rattle.std.proofs.Common.{◌≡◌, ◌≤◌, ◌⊎◌, ℕ, Bool, true, false, List, length, Option, Some, None, IsSome, Err, IsErrOf, sym, ap, ◌∙◌, subst, inl, inr, arith}
 use Rattle.std.specs.FinMap as map
 use Rattle.ec_terms.specs.declared.theory.Theory.{Theory}
-use Rattle.ec_tokens.specs.declared.fault.TokenFault.TheVariants as token
-use Rattle.ec_tokens.specs.Lexeme.{Lexemes}
+use Rattle.ec_theory.specs.declared.token_fault.TokenFault.TheVariants as token
+use Rattle.ec_theory.specs.Lexeme.{Lexemes}
 use Rattle.ec_check.specs.Faults.{first_wrong}
-use Rattle.ec_theory.specs.declared.fault.SyntaxFault.TheVariants as syntax_fault
+use Rattle.ec_theory.specs.declared.syntax_fault.SyntaxFault.TheVariants as syntax_fault
 use Rattle.ec_theory.specs.declared.text.Refused.{Refused}
 use Rattle.ec_theory.specs.declared.text.Refused.TheVariants as refused
 use Rattle.ec_theory.specs.Accepted.{IsAccepted, HasFault}

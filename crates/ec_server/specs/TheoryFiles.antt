@@ -1,16 +1,16 @@
 -- The file of a theory: when it is taken, and what is said of it where it is not.
 use Rattle.std.specs.Prelude.{◌≡◌, ◌≤◌, ℕ, ◌==◌, if◌then◌else◌, List, [], ◌∷◌, ◌++◌, length, Option, Some, None, codes, decimal}
 use Rattle.ec_terms.specs.declared.theory.Theory.{Theory}
-use Rattle.ec_tokens.specs.declared.place.Place.{Place}
-use Rattle.ec_tokens.specs.declared.token_list.TheConstants.{MOST_BYTES}
-use Rattle.ec_tokens.specs.declared.fault.TokenFault.{TokenFault}
-use Rattle.ec_tokens.specs.declared.fault.TokenFault.TheVariants as token
+use Rattle.ec_theory.specs.declared.place.Place.{Place}
+use Rattle.ec_theory.specs.declared.token_list.TheConstants.{MOST_BYTES}
+use Rattle.ec_theory.specs.declared.token_fault.TokenFault.{TokenFault}
+use Rattle.ec_theory.specs.declared.token_fault.TokenFault.TheVariants as token
 use Rattle.ec_check.specs.declared.fault.Many.{Many}
 use Rattle.ec_check.specs.declared.fault.Many.TheVariants as many
 use Rattle.ec_check.specs.declared.fault.CheckFault.{CheckFault}
 use Rattle.ec_check.specs.declared.fault.CheckFault.TheVariants as wrong
-use Rattle.ec_theory.specs.declared.fault.SyntaxFault.{SyntaxFault}
-use Rattle.ec_theory.specs.declared.fault.SyntaxFault.TheVariants as syntax_fault
+use Rattle.ec_theory.specs.declared.syntax_fault.SyntaxFault.{SyntaxFault}
+use Rattle.ec_theory.specs.declared.syntax_fault.SyntaxFault.TheVariants as syntax_fault
 use Rattle.ec_theory.specs.declared.text.Refused.{Refused}
 use Rattle.ec_theory.specs.declared.text.Refused.TheVariants as refused
 use Rattle.ec_theory.specs.Accepted.{IsAccepted, HasFault}

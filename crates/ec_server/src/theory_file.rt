@@ -8,8 +8,7 @@ use crate::theory_text::{fault_text, said};
 use ec_check::Checked;
 use ec_lines::ReplyText;
 use ec_outside::{Folder, FolderAnswer};
-use ec_theory::accept;
-use ec_tokens::MOST_BYTES;
+use ec_theory::{MOST_BYTES, accept};
 use std::alloc::Global;
 
 /// Why there is no theory.

@@ -5,8 +5,7 @@ ghost use Rattle.ec_server.specs.TheoryFiles.{accepted_line, at_place, counts_te
 use ec_check::{CheckFault, Many};
 use ec_lines::ReplyText;
 use ec_terms::Theory;
-use ec_theory::{Refused, SyntaxFault};
-use ec_tokens::{Place, TokenFault};
+use ec_theory::{Place, Refused, SyntaxFault, TokenFault};
 
 /// A fault of that name at a place.
 #[tactic(auto, unfolding(crate::specs::TheoryFiles::at_place, crate::specs::TheoryFiles::place_text), using(ec_outside::proofs::Texts::texts))]

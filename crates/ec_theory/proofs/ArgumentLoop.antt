@@ -3,8 +3,8 @@ use Rattle.std.proofs.Common.{◌≡◌, ℕ, false, List, [], ◌∷◌, ◌++�
 use Rattle.ec_terms.specs.declared.pattern.PatArg.{PatArg}
 use Rattle.std.specs.Prelude.{IfOk}
 use Rattle.ec_theory.specs.declared.cursor.Cursor.{Cursor}
-use Rattle.ec_theory.specs.declared.fault.SyntaxFault.{SyntaxFault}
-use Rattle.ec_tokens.specs.Lexeme.{Lexemes}
+use Rattle.ec_theory.specs.declared.syntax_fault.SyntaxFault.{SyntaxFault}
+use Rattle.ec_theory.specs.Lexeme.{Lexemes}
 use Rattle.ec_theory.specs.declared.sign.Symbol.TheVariants.{Open, Comma, Close}
 use Rattle.ec_theory.specs.Sign.{Sign, Word, Given, signs_of, is_given, is_argument}
 use Rattle.ec_theory.specs.Grammar.{TakesArguments, last, more, TakesPattern, alone, applied}

@@ -2,7 +2,7 @@
 use Rattle.std.proofs.Common.{◌≡◌, ℕ, ◌+◌, ◌<◌, ◌≤◌, List, [], ◌∷◌, ◌++◌, length, sym, refl, ap, ◌∙◌, subst, arith, append_assoc, append-nil}
 use Rattle.std.proofs.lemmas.List.{length-map}
 use Rattle.ec_terms.specs.declared.theory.Theory.{Theory}
-use Rattle.ec_tokens.specs.Lexeme.{Lexemes}
+use Rattle.ec_theory.specs.Lexeme.{Lexemes}
 use Rattle.ec_theory.specs.declared.clause.Clause.{Clause}
 use Rattle.ec_theory.specs.declared.clause.Clause.TheVariants as clause
 use Rattle.ec_theory.specs.Sign.{Sign, sign_of, signs_of, variables_of}

@@ -2,8 +2,8 @@
 use Rattle.std.proofs.Common.{◌≡◌, ℕ, false, List, [], ◌∷◌, ◌++◌, Result, Ok, Err, sym, refl, ap, ◌∙◌, subst, append_assoc}
 use Rattle.std.specs.Prelude.{IfOk}
 use Rattle.ec_theory.specs.declared.cursor.Cursor.{Cursor}
-use Rattle.ec_theory.specs.declared.fault.SyntaxFault.{SyntaxFault}
-use Rattle.ec_tokens.specs.Lexeme.{Lexemes}
+use Rattle.ec_theory.specs.declared.syntax_fault.SyntaxFault.{SyntaxFault}
+use Rattle.ec_theory.specs.Lexeme.{Lexemes}
 use Rattle.ec_theory.specs.declared.sign.Symbol.TheVariants.{Comma, Dot, If}
 use Rattle.ec_theory.specs.declared.condition.Condition.{Condition}
 use Rattle.ec_theory.specs.declared.condition.Condition.TheVariants as condition

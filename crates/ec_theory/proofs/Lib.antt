@@ -1,3 +1,7 @@
+pub mod PieceEnds
+pub mod TokenLoop
+pub mod LongestPieces
+pub mod CutLemmas
 pub mod NextTokens
 pub mod WalkSteps
 pub mod VariableSets

@@ -1,11 +1,11 @@
 -- One token taken from the front of a list.
 use Rattle.std.proofs.Common.{◌≡◌, ℕ, Bool, true, false, List, [], ◌∷◌, length, map, get_or, eqb, sym, refl, ap, ◌∙◌}
 use Rattle.std.proofs.lemmas.Bool.{cond_both}
-use Rattle.ec_tokens.specs.declared.token.Token.{Token}
-use Rattle.ec_tokens.specs.declared.place.Place.{Place}
-use Rattle.ec_tokens.specs.declared.token.TokenKind.{TokenKind}
-use Rattle.ec_tokens.specs.declared.token.TokenKind.TheVariants.{Name, Variable, Number, Mark}
-use Rattle.ec_tokens.specs.Lexeme.{Lexeme, Lexemes, lexeme_of, is_spelt, is_spelling}
+use Rattle.ec_theory.specs.declared.token.Token.{Token}
+use Rattle.ec_theory.specs.declared.place.Place.{Place}
+use Rattle.ec_theory.specs.declared.token.TokenKind.{TokenKind}
+use Rattle.ec_theory.specs.declared.token.TokenKind.TheVariants.{Name, Variable, Number, Mark}
+use Rattle.ec_theory.specs.Lexeme.{Lexeme, Lexemes, lexeme_of, is_spelt, is_spelling}
 use Rattle.std.specs.Str.{bytes_eq}
 use Rattle.std.specs.Prelude.{codes}
 use Rattle.std.proofs.Common.{None}

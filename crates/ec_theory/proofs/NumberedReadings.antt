@@ -1,7 +1,7 @@
 -- What a list of tokens reads as is a numbered theory.
 use Rattle.std.proofs.Common.{◌≡◌, ◌+◌, ap, ◌∙◌, arith}
 use Rattle.ec_terms.specs.declared.theory.Theory.{Theory}
-use Rattle.ec_tokens.specs.Lexeme.{Lexemes}
+use Rattle.ec_theory.specs.Lexeme.{Lexemes}
 use Rattle.ec_check.specs.Numbering.{IsNumbered, clauses_numbered}
 use Rattle.ec_theory.specs.Reading.{Reads}
 use Rattle.ec_theory.proofs.NumberedClauses.{one_each, all_rise}

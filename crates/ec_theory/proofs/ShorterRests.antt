@@ -3,8 +3,8 @@ use Rattle.std.proofs.Common.{◌≡◌, ℕ, ◌<◌, List, length, map, arith}
 use Rattle.std.proofs.lemmas.List.{length-map}
 use Rattle.ec_terms.specs.declared.pattern.PatArg.{PatArg}
 use Rattle.ec_terms.specs.declared.pattern.Pattern.{Pattern}
-use Rattle.ec_tokens.specs.declared.token.Token.{Token}
-use Rattle.ec_tokens.specs.Lexeme.{lexeme_of}
+use Rattle.ec_theory.specs.declared.token.Token.{Token}
+use Rattle.ec_theory.specs.Lexeme.{lexeme_of}
 use Rattle.ec_theory.specs.declared.condition.Condition.{Condition}
 use Rattle.ec_theory.specs.Sign.{Sign, sign_of}
 use Rattle.ec_theory.specs.Grammar.{TakesArguments, last, more, TakesPattern, alone, applied, TakesCondition, current, not_current, test}

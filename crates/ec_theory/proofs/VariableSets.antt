@@ -4,8 +4,8 @@ use Rattle.std.specs.Prelude.{unwrap_or, bytes_eq}
 use Rattle.std.specs.List.{position, position_or_len, list_any}
 use Rattle.std.proofs.Common.{Bor, ◌||◌, add-one, drop-cons}
 use Rattle.std.proofs.lemmas.List.{drop_all}
-use Rattle.ec_tokens.specs.declared.token.Token.{Token}
-use Rattle.ec_tokens.specs.Lexeme.{lexeme_of}
+use Rattle.ec_theory.specs.declared.token.Token.{Token}
+use Rattle.ec_theory.specs.Lexeme.{lexeme_of}
 use Rattle.ec_theory.specs.declared.sign.Symbol.TheVariants.{Dot}
 use Rattle.std.proofs.lemmas.Bool.{cases_lt, cond-true, cond-false}
 use Rattle.std.proofs.lemmas.List.Sums.{prefix_len-le-length}

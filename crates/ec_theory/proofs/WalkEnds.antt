@@ -5,8 +5,8 @@ use Rattle.ec_terms.specs.declared.pattern.PatArg.{PatArg}
 use Rattle.ec_terms.specs.declared.pattern.Pattern.{Pattern}
 use Rattle.ec_terms.specs.declared.theory.TestOp.{TestOp}
 use Rattle.ec_terms.specs.declared.theory.Theory.{Theory}
-use Rattle.ec_tokens.specs.declared.place.Place.{Place}
-use Rattle.ec_tokens.specs.Lexeme.{Lexeme}
+use Rattle.ec_theory.specs.declared.place.Place.{Place}
+use Rattle.ec_theory.specs.Lexeme.{Lexeme}
 use Rattle.ec_theory.specs.declared.sign.Symbol.{Symbol}
 use Rattle.ec_theory.specs.declared.sign.Symbol.TheVariants.{If, Not, Anything, Open, Close, Comma, Dot, Slash}
 use Rattle.ec_theory.specs.declared.condition.Condition.{Condition}

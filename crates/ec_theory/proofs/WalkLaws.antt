@@ -4,10 +4,10 @@ use Rattle.std.specs.Prelude.{◌↔◌, option_and_then}
 use Rattle.std.specs.Option.{option_map_or}
 use Rattle.std.proofs.lemmas.Bool.{false≢true}
 use Rattle.std.proofs.lemmas.List.{map-append}
-use Rattle.ec_tokens.specs.declared.place.Place.{Place}
-use Rattle.ec_tokens.specs.Lexeme.{Lexeme, Lexemes}
-use Rattle.ec_theory.specs.declared.fault.SyntaxFault.{SyntaxFault}
-use Rattle.ec_theory.specs.declared.fault.SyntaxFault.TheVariants.{Syntax, Memory}
+use Rattle.ec_theory.specs.declared.place.Place.{Place}
+use Rattle.ec_theory.specs.Lexeme.{Lexeme, Lexemes}
+use Rattle.ec_theory.specs.declared.syntax_fault.SyntaxFault.{SyntaxFault}
+use Rattle.ec_theory.specs.declared.syntax_fault.SyntaxFault.TheVariants.{Syntax, Memory}
 use Rattle.ec_theory.specs.Sign.{Sign, sign_of}
 use Rattle.ec_theory.specs.Walk.{Spot, Beginning, PatternAt, AfterName, ArgumentAt, AfterArgument, AfterPattern, ConditionAt, AfterConditionName, CompareAt, RightSideAt, StrongNameAt, SlashAt, ArityAt, AfterArity, step, walk, first_stop, stop_of, is_beginning}
 use Rattle.ec_theory.specs.Reading.{IsReadable, BeginsReadable, GoesWrongAt, at_token, at_end, IsSyntaxFault, HasNoReading}

@@ -1,13 +1,13 @@
 -- One step of the walk, and where it stops.
 use Rattle.std.proofs.Common.{◌≡◌, ℕ, Bool, true, false, cond, List, [], ◌∷◌, map, Option, Some, None, Result, Ok, Err, sym, refl, ap, ◌∙◌}
 use Rattle.std.specs.Option.{option_map_or}
-use Rattle.ec_tokens.specs.declared.place.Place.{Place}
-use Rattle.ec_tokens.specs.Lexeme.{Lexeme, Lexemes}
+use Rattle.ec_theory.specs.declared.place.Place.{Place}
+use Rattle.ec_theory.specs.Lexeme.{Lexeme, Lexemes}
 use Rattle.ec_terms.specs.declared.pattern.PatArg.{PatArg}
 use Rattle.ec_terms.specs.declared.pattern.PatArg.TheVariants.{Any}
 use Rattle.ec_theory.specs.declared.cursor.Cursor.{Cursor}
-use Rattle.ec_theory.specs.declared.fault.SyntaxFault.{SyntaxFault}
-use Rattle.ec_theory.specs.declared.fault.SyntaxFault.TheVariants.{Syntax, Memory}
+use Rattle.ec_theory.specs.declared.syntax_fault.SyntaxFault.{SyntaxFault}
+use Rattle.ec_theory.specs.declared.syntax_fault.SyntaxFault.TheVariants.{Syntax, Memory}
 use Rattle.ec_theory.specs.declared.sign.Symbol.TheVariants.{Anything}
 use Rattle.ec_theory.specs.Sign.{Sign, Word, Variable, Number, Given, Compare, sign_of, signs_of, argument_of, is_argument, is_given}
 use Rattle.ec_theory.specs.Walk.{Part, Spot, ArgumentAt, AfterArgument, step, moves, first_move, first_stop, stop_of, is_beginning}

@@ -3,9 +3,9 @@ use Rattle.std.proofs.Common.{ℕ, List, [], ◌∷◌, refl}
 use Rattle.std.specs.Prelude.{codes}
 use Rattle.ec_moment.specs.Number.{number_value}
 use Rattle.ec_terms.specs.Spelling.{is_lower, is_name_byte, begins_with, is_name}
-use Rattle.ec_tokens.specs.declared.token.TokenKind.{TokenKind}
-use Rattle.ec_tokens.specs.declared.token.TokenKind.TheVariants as kind
-use Rattle.ec_tokens.specs.Lexeme.{Lexeme, is_spelt, is_spelling}
+use Rattle.ec_theory.specs.declared.token.TokenKind.{TokenKind}
+use Rattle.ec_theory.specs.declared.token.TokenKind.TheVariants as kind
+use Rattle.ec_theory.specs.Lexeme.{Lexeme, is_spelt, is_spelling}
 use Rattle.ec_theory.specs.Sign.{sign_of, name_sign, mark_sign}
 use Rattle.ec_theory.specs.Walk.{Part, Event, Head, Left, Right, Condition, Initial, Spot, Beginning, PatternAt, AfterName, ArgumentAt, AfterArgument, AfterPattern, ConditionAt, AfterConditionName, CompareAt, RightSideAt, StrongNameAt, SlashAt, ArityAt, AfterArity, LeadsBack, walk, moves, moves_behind, first_move}
 

@@ -1,12 +1,12 @@
 -- When the bytes of a text are a theory, and what is said of them where they are none.
 use Rattle.std.specs.Prelude.{◌≡◌, ℕ, List, Ok, Some}
 use Rattle.ec_terms.specs.declared.theory.Theory.{Theory}
-use Rattle.ec_tokens.specs.Lexeme.{Lexemes}
-use Rattle.ec_tokens.specs.Tokens.{tokens_of, IsTokenFault}
+use Rattle.ec_theory.specs.Lexeme.{Lexemes}
+use Rattle.ec_theory.specs.Tokens.{tokens_of, IsTokenFault}
 use Rattle.ec_check.specs.Faults.{first_wrong}
 use Rattle.ec_check.specs.WellFormed.{IsWellFormed}
 use Rattle.ec_check.specs.declared.fault.CheckFault.{CheckFault}
-use Rattle.ec_theory.specs.declared.fault.SyntaxFault.{SyntaxFault}
+use Rattle.ec_theory.specs.declared.syntax_fault.SyntaxFault.{SyntaxFault}
 use Rattle.ec_theory.specs.declared.text.Refused.{Refused}
 use Rattle.ec_theory.specs.declared.text.Refused.TheVariants as refused
 use Rattle.ec_theory.specs.Reading.{Reads, IsSyntaxFault}

@@ -1,3 +1,6 @@
+pub mod Lexeme
+pub mod Tokens
+pub mod CutText
 pub mod Sign
 pub mod Grammar
 pub mod Walk

@@ -1,7 +1,7 @@
 -- What the parts of the reader give: where a part that reads from one place in a clause to another leaves the walk.
 use Rattle.std.specs.Prelude.{◌≡◌, ℕ, Bool, true, false, Option, Some, List, [], map, ◌∷◌, ◌++◌, Result, Ok, Err, IsTrue}
-use Rattle.ec_tokens.specs.declared.place.Place.{Place}
-use Rattle.ec_tokens.specs.Lexeme.{Lexeme, Lexemes, lexeme_of}
+use Rattle.ec_theory.specs.declared.place.Place.{Place}
+use Rattle.ec_theory.specs.Lexeme.{Lexeme, Lexemes, lexeme_of}
 use Rattle.ec_terms.specs.declared.pattern.PatArg.{PatArg}
 use Rattle.ec_terms.specs.declared.pattern.Pattern.{Pattern}
 use Rattle.ec_theory.specs.declared.condition.Condition.{Condition}
@@ -12,11 +12,11 @@ use Rattle.ec_theory.specs.declared.clause.Clause.{Clause}
 use Rattle.ec_theory.specs.declared.clause.Clause.TheVariants as clause
 use Rattle.ec_theory.specs.declared.sign.Keyword.{Keyword}
 use Rattle.ec_theory.specs.declared.cursor.Cursor.{Cursor}
-use Rattle.ec_theory.specs.declared.fault.SyntaxFault.{SyntaxFault}
+use Rattle.ec_theory.specs.declared.syntax_fault.SyntaxFault.{SyntaxFault}
 use Rattle.ec_theory.specs.Sign.{Sign, Word, Variable, Number, Given, Compare, sign_of, signs_of, keyword_of, argument_of, is_word, is_compare}
 use Rattle.ec_theory.specs.declared.sign.Sign.{Sign as SignAt}
 use Rattle.ec_theory.specs.declared.sign.Sign.TheVariants as at
-use Rattle.ec_theory.specs.declared.fault.SyntaxFault.TheVariants.{Syntax, Memory}
+use Rattle.ec_theory.specs.declared.syntax_fault.SyntaxFault.TheVariants.{Syntax, Memory}
 use Rattle.ec_terms.specs.Spelling.{is_name}
 use Rattle.ec_theory.specs.Walk.{Spot, stop_of}
 

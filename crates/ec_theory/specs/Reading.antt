@@ -1,10 +1,10 @@
 -- Reading a list of tokens as a theory, and where a list that is none goes wrong.
 use Rattle.std.specs.Prelude.{◌≡◌, List, [], ◌∷◌, ◌++◌, map}
 use Rattle.ec_terms.specs.declared.theory.Theory.{Theory}
-use Rattle.ec_tokens.specs.declared.place.Place.{Place}
-use Rattle.ec_tokens.specs.Lexeme.{Lexeme, Lexemes}
-use Rattle.ec_theory.specs.declared.fault.SyntaxFault.{SyntaxFault}
-use Rattle.ec_theory.specs.declared.fault.SyntaxFault.TheVariants.{Syntax, Memory}
+use Rattle.ec_theory.specs.declared.place.Place.{Place}
+use Rattle.ec_theory.specs.Lexeme.{Lexeme, Lexemes}
+use Rattle.ec_theory.specs.declared.syntax_fault.SyntaxFault.{SyntaxFault}
+use Rattle.ec_theory.specs.declared.syntax_fault.SyntaxFault.TheVariants.{Syntax, Memory}
 use Rattle.ec_theory.specs.Sign.{sign_of, signs_of}
 use Rattle.ec_theory.specs.Grammar.{ReadsFrom}
 

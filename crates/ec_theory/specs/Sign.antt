@@ -9,8 +9,8 @@ use Rattle.ec_terms.specs.declared.pattern.PatArg.TheVariants.{Var, Any, Fixed}
 use Rattle.ec_terms.specs.declared.theory.TestOp.{TestOp}
 use Rattle.ec_terms.specs.declared.theory.TestOp.TheVariants.{Same, Differ, Less, AtMost}
 use Rattle.ec_terms.specs.declared.theory.Kind.TheVariants.{Initiates, Terminates}
-use Rattle.ec_tokens.specs.Lexeme.{Lexeme, Lexemes}
-use Rattle.ec_tokens.specs.declared.token.TokenKind.TheVariants as kind
+use Rattle.ec_theory.specs.Lexeme.{Lexeme, Lexemes}
+use Rattle.ec_theory.specs.declared.token.TokenKind.TheVariants as kind
 use Rattle.ec_theory.specs.declared.sign.Symbol.{Symbol}
 use Rattle.ec_theory.specs.declared.sign.Symbol.TheVariants.{If, Not, Anything, Open, Close, Comma, Dot, Slash}
 use Rattle.ec_theory.specs.declared.sign.Keyword.{Keyword}

@@ -8,9 +8,9 @@ ghost use Rattle.ec_theory.specs.Reader.{left_of, Goes, clause_added};
 
 use crate::condition::read_body;
 use crate::cursor::Cursor;
-use crate::fault::SyntaxFault;
 use crate::pattern::read_pattern;
 use crate::sign::{Keyword, Symbol, name_of};
+use crate::syntax_fault::SyntaxFault;
 use crate::variables::Variables;
 use ec_terms::{Exclusive, Initial, Kind, NoMemory, Rule, Strong, Theory};
 use std::alloc::Global;

@@ -8,9 +8,9 @@ ghost use Rattle.ec_theory.specs.Reader.{left_of, next_passes, Goes, BeginsLiter
 ghost use Rattle.ec_theory.specs.Body.{Collects};
 
 use crate::cursor::Cursor;
-use crate::fault::SyntaxFault;
 use crate::pattern::{read_argument, read_pattern};
 use crate::sign::Symbol;
+use crate::syntax_fault::SyntaxFault;
 use crate::variables::Variables;
 use ec_terms::{Literal, Literals, NoMemory, Sequence, Test, Tests};
 use std::alloc::Global;

@@ -1,13 +1,15 @@
 //! A place in a list of tokens.
 ghost use Rattle.std.specs.Prelude.{map, ◌≤◌, length, IsTrue};
 ghost use Rattle.std.specs.List.{list_all};
-ghost use Rattle.ec_tokens.specs.Lexeme.{lexeme_of, is_spelt};
-ghost use Rattle.ec_tokens.specs.declared.token_list.TheConstants.{MOST_BYTES};
+ghost use Rattle.ec_theory.specs.Lexeme.{lexeme_of, is_spelt};
+ghost use Rattle.ec_theory.specs.declared.token_list.TheConstants.{MOST_BYTES};
 
-use crate::fault::SyntaxFault;
+use crate::place::Place;
 use crate::sign::{Keyword, Sign, Symbol, keyword_of, sign_of};
+use crate::syntax_fault::SyntaxFault;
+use crate::token::Token;
+use crate::token_list::TokenList;
 use ec_terms::TestOp;
-use ec_tokens::{Place, Token, TokenList};
 
 /// The tokens that are left, and the place behind the last.
 #[derive(Clone, Copy)]
@@ -24,7 +26,7 @@ impl<'t, 'a> Cursor<'t, 'a> {
     ghost use Rattle.ec_theory.specs.Sign.{Word, Number, Given, Compare, is_word, is_number, is_compare, is_given, is_keyword};
     ghost use Rattle.ec_theory.specs.Reader.{shown, left_of, next_place, next_passes, Refuses, Steps, HasKeyword, IsNamed};
     ghost use Rattle.ec_theory.specs.declared.sign.Keyword.{Keyword};
-    ghost use Rattle.ec_theory.specs.declared.fault.SyntaxFault.TheVariants.{Syntax};
+    ghost use Rattle.ec_theory.specs.declared.syntax_fault.SyntaxFault.TheVariants.{Syntax};
 
     /// All tokens of a list.
     pub fn new(tokens: &'t TokenList<'a>) -> Cursor<'t, 'a>

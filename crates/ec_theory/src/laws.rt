@@ -1,12 +1,21 @@
-//! Laws of the grammar and of the walk, each the contract of a function.
-ghost use Rattle.std.specs.Prelude.{◌≡◌, ◌↔◌, List, Some, None, map};
+//! Laws of the tokens, of the grammar and of the walk, each the contract of a function.
+ghost use Rattle.std.specs.Prelude.{◌≡◌, ◌↔◌, ℕ, List, Some, None, Ok, map};
 ghost use Rattle.ec_check.specs.Numbering.{IsNumbered};
 ghost use Rattle.ec_terms.specs.declared.theory.Theory.{Theory};
-ghost use Rattle.ec_tokens.specs.declared.place.Place.{Place};
-ghost use Rattle.ec_tokens.specs.Lexeme.{Lexeme, Lexemes};
+ghost use Rattle.ec_theory.specs.declared.place.Place.{Place};
+ghost use Rattle.ec_theory.specs.Lexeme.{Lexeme, Lexemes};
+ghost use Rattle.ec_theory.specs.Tokens.{start, place_behind, tokens_of};
+ghost use Rattle.ec_theory.specs.CutText.{IsCut};
 ghost use Rattle.ec_theory.specs.Sign.{sign_of};
 ghost use Rattle.ec_theory.specs.Walk.{Spot, Beginning, LeadsBack, walk, stop_of};
 ghost use Rattle.ec_theory.specs.Reading.{Reads, IsReadable, GoesWrongAt};
+
+/// A text that has tokens is blanks, comments and its tokens, joined in order: each token stands at its
+/// place, and no token could be longer there.
+pub fn cut_law()
+    ensures text { (bytes : List ℕ) (list : Lexemes) → tokens_of bytes ≡ Ok list → IsCut start bytes list.tokens }
+    ensures end { (bytes : List ℕ) (list : Lexemes) → tokens_of bytes ≡ Ok list → list.end ≡ place_behind start bytes }
+{}
 
 /// A list of tokens has at most one reading.
 #[tactic(auto, using(crate::proofs::OneReading::reading_same))]

@@ -7,8 +7,8 @@ ghost use Rattle.ec_theory.specs.Walk.{Part, PatternAt, AfterName, ArgumentAt, A
 ghost use Rattle.ec_theory.specs.Reader.{left_of, Refuses, Goes, TakesArgument};
 
 use crate::cursor::Cursor;
-use crate::fault::SyntaxFault;
 use crate::sign::{Symbol, name_of};
+use crate::syntax_fault::SyntaxFault;
 use crate::variables::Variables;
 use ec_terms::{PatArg, PatArgs, Pattern, Sequence};
 use std::alloc::Global;

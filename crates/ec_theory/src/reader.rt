@@ -7,9 +7,9 @@ ghost use Rattle.ec_check.specs.Numbering.{IsNumbered};
 
 use crate::clause::{push_clause, read_clause};
 use crate::cursor::Cursor;
-use crate::fault::SyntaxFault;
+use crate::syntax_fault::SyntaxFault;
+use crate::token_list::TokenList;
 use ec_terms::{Sequence, Theory};
-use ec_tokens::TokenList;
 use std::alloc::Global;
 
 /// Reads a list of tokens as a theory by the grammar of clauses. Clauses are numbered from 1, and the

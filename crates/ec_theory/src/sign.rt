@@ -2,13 +2,13 @@
 ghost use Rattle.std.specs.Prelude.{◌≡◌, IsTrue, bytes_eq};
 ghost use Rattle.ec_theory.specs.Sign.{name_sign, mark_sign, sign_of, keyword_of};
 ghost use Rattle.ec_theory.specs.Reader.{shown};
-ghost use Rattle.ec_tokens.specs.Lexeme.{lexeme_of};
+ghost use Rattle.ec_theory.specs.Lexeme.{lexeme_of};
 ghost use Rattle.ec_terms.specs.Spelling.{is_name};
 
+use crate::token::{Token, TokenKind};
 use crate::variables::Variables;
 use ec_moment::read_number;
 use ec_terms::{Arg, Kind, Name, PatArg, TestOp};
-use ec_tokens::{Token, TokenKind};
 
 /// A word or mark that is always the same.
 #[derive(Clone, Copy)]

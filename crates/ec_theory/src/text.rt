@@ -2,10 +2,12 @@
 ghost use Rattle.std.specs.Prelude.{◌≤◌, length, IfOk, IfErr};
 ghost use Rattle.ec_theory.specs.Accepted.{IsAccepted, HasFault};
 
-use crate::fault::SyntaxFault;
+use crate::lexer::tokens;
 use crate::reader::read_theory;
+use crate::syntax_fault::SyntaxFault;
+use crate::token_fault::TokenFault;
+use crate::token_list::MOST_BYTES;
 use ec_check::{CheckFault, Checked, check};
-use ec_tokens::{MOST_BYTES, TokenFault, tokens};
 use std::alloc::Global;
 
 /// Why bytes are no theory: the first fault of their tokens, then of their syntax, then of a clause.

@@ -2,12 +2,12 @@
 ghost use Rattle.std.specs.Prelude.{◌≡◌, ◌<◌, ◌≤◌, ◌+◌, IfOk, IfErr, OnOk, length};
 ghost use Rattle.ec_theory.specs.Sign.{variables_of, number_of, signs_of, with_sign};
 ghost use Rattle.ec_theory.specs.Reader.{left_of, shown};
-ghost use Rattle.ec_theory.specs.declared.fault.SyntaxFault.TheVariants.{Memory};
+ghost use Rattle.ec_theory.specs.declared.syntax_fault.SyntaxFault.TheVariants.{Memory};
 
 use crate::cursor::Cursor;
-use crate::fault::SyntaxFault;
 use crate::sign::{Sign, Symbol, sign_of};
-use ec_tokens::MOST_BYTES;
+use crate::syntax_fault::SyntaxFault;
+use crate::token_list::MOST_BYTES;
 use indexmap::IndexSet;
 use std::alloc::Global;
 use std::marker::Model;
@@ -21,7 +21,7 @@ pub struct Variables<'a> {
 
 impl<'a> Model for Variables<'a> {
     ghost use Rattle.std.specs.Prelude.{ℕ, List, map, length, ◌≤◌};
-    ghost use Rattle.ec_tokens.specs.declared.token_list.TheConstants.{MOST_BYTES};
+    ghost use Rattle.ec_theory.specs.declared.token_list.TheConstants.{MOST_BYTES};
 
     ghost Value = { List (List ℕ) };
 

@@ -1,5 +1,5 @@
 use Rattle.std.proofs.Common.{map, ap, subst, arith}
-use Rattle.ec_tokens.specs.Lexeme.{Lexemes, lexeme_of}
+use Rattle.ec_theory.specs.Lexeme.{Lexemes, lexeme_of}
 use Rattle.ec_theory.specs.Sign.{sign_of, signs_of}
 use Rattle.ec_theory.specs.Grammar.{ReadsFrom}
 use Rattle.ec_theory.proofs.ShorterRests.{signs_length}

@@ -1,5 +1,5 @@
 use Rattle.std.proofs.Common.{sym, ◌∙◌, subst, arith, length, ◌<◌, false-eqb}
-use Rattle.ec_tokens.specs.Lexeme.{lexeme_of, is_spelt}
+use Rattle.ec_theory.specs.Lexeme.{lexeme_of, is_spelt}
 use Rattle.ec_lists.proofs.Tests.{list_all-map_get_or}
 use Rattle.ec_theory.specs.Reader.{IsNamed}
 use Rattle.ec_theory.proofs.NextTokens.{spelt_named}

@@ -1,4 +1,0 @@
-pub mod PieceEnds
-pub mod TokenLoop
-pub mod LongestPieces
-pub mod CutLemmas

@@ -1,3 +1,0 @@
-pub mod Lexeme
-pub mod Tokens
-pub mod CutText
