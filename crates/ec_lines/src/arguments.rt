@@ -32,10 +32,9 @@ fn read_assert<'a, T: Moment>(id: &'a [u8], words: &mut Words<'a>) -> Option<Com
     ensures command { plain_or_bad T.rank result ≡ command_by T.spelt word_assert (id.now ∷ words.old) }
     ensures names { AreNamed (plain_or_bad T.rank result) }
 {
-    let at = words.next()?;
+    let at = T::read(words.next()?)?;
     let event = words.last()?;
     let id = Name::from_bytes(id)?;
-    let at = T::read(at)?;
     let event = read_term(event)?;
     Some(Command::Assert { id, at, event })
 }
@@ -57,9 +56,8 @@ fn read_holds<'a, T: Moment>(prop: &'a [u8], words: &mut Words<'a>) -> Option<Co
     ensures command { plain_or_bad T.rank result ≡ command_by T.spelt word_holds (prop.now ∷ words.old) }
     ensures names { AreNamed (plain_or_bad T.rank result) }
 {
-    let at = words.last()?;
+    let at = T::read(words.last()?)?;
     let prop = read_term(prop)?;
-    let at = T::read(at)?;
     Some(Command::Holds { prop, at })
 }
 
@@ -69,11 +67,9 @@ fn read_through<'a, T: Moment>(prop: &'a [u8], words: &mut Words<'a>) -> Option<
     ensures command { plain_or_bad T.rank result ≡ command_by T.spelt word_through (prop.now ∷ words.old) }
     ensures names { AreNamed (plain_or_bad T.rank result) }
 {
-    let from = words.next()?;
-    let until = words.last()?;
+    let from = T::read(words.next()?)?;
+    let until = T::read(words.last()?)?;
     let prop = read_term(prop)?;
-    let from = T::read(from)?;
-    let until = T::read(until)?;
     Some(Command::Through { prop, from, until })
 }
 
@@ -116,9 +112,8 @@ fn read_why<'a, T: Moment>(prop: &'a [u8], words: &mut Words<'a>) -> Option<Comm
     ensures command { plain_or_bad T.rank result ≡ command_by T.spelt word_why (prop.now ∷ words.old) }
     ensures names { AreNamed (plain_or_bad T.rank result) }
 {
-    let at = words.last()?;
+    let at = T::read(words.last()?)?;
     let prop = read_term(prop)?;
-    let at = T::read(at)?;
     Some(Command::Why { prop, at })
 }
 

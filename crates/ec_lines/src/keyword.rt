@@ -3,7 +3,7 @@ ghost use Rattle.ec_axioms.specs.Commands.{keyword_of};
 ghost use Rattle.ec_lines.specs.ShownKeyword.{plain_keyword};
 
 /// The first word of a command.
-#[derive(Clone, Copy)]
+#[derive(Drop)]
 pub enum Keyword {
     Assert,
     Retract,
@@ -34,37 +34,38 @@ fn is(word: &[u8], spelling: &[u8]) -> bool
 pub fn read_keyword(word: &[u8]) -> Option<Keyword>
     ensures { option_map plain_keyword result ≡ keyword_of word.now }
 {
-    if is(word, b"assert") {
-        Some(Keyword::Assert)
+    let keyword = if is(word, b"assert") {
+        Keyword::Assert
     } else if is(word, b"retract") {
-        Some(Keyword::Retract)
+        Keyword::Retract
     } else if is(word, b"begin") {
-        Some(Keyword::Begin)
+        Keyword::Begin
     } else if is(word, b"commit") {
-        Some(Keyword::Commit)
+        Keyword::Commit
     } else if is(word, b"abort") {
-        Some(Keyword::Abort)
+        Keyword::Abort
     } else if is(word, b"holds") {
-        Some(Keyword::Holds)
+        Keyword::Holds
     } else if is(word, b"through") {
-        Some(Keyword::Through)
+        Keyword::Through
     } else if is(word, b"intervals") {
-        Some(Keyword::Intervals)
+        Keyword::Intervals
     } else if is(word, b"broken") {
-        Some(Keyword::Broken)
+        Keyword::Broken
     } else if is(word, b"at") {
-        Some(Keyword::At)
+        Keyword::At
     } else if is(word, b"clashes") {
-        Some(Keyword::Clashes)
+        Keyword::Clashes
     } else if is(word, b"events") {
-        Some(Keyword::Events)
+        Keyword::Events
     } else if is(word, b"why") {
-        Some(Keyword::Why)
+        Keyword::Why
     } else if is(word, b"last") {
-        Some(Keyword::Last)
+        Keyword::Last
     } else if is(word, b"quit") {
-        Some(Keyword::Quit)
+        Keyword::Quit
     } else {
-        None
-    }
+        return None;
+    };
+    Some(keyword)
 }

@@ -1,5 +1,5 @@
 //! Reading a line.
-ghost use Rattle.std.specs.Prelude.{◌≡◌, ◌<◌, ◌∷◌, nat_lt, IfSome};
+ghost use Rattle.std.specs.Prelude.{◌≡◌, ◌<◌, ◌∷◌, nat_lt, IfSome, None};
 ghost use Rattle.ec_axioms.specs.Commands.{parsed_of, prefixed_line, command_of_words, session_of_digits, digit_value_of};
 ghost use Rattle.ec_lines.specs.ShownCommand.{plain_command, plain_parsed, AreNamed};
 
@@ -74,6 +74,17 @@ fn read_words<'a, T: Moment>(words: &mut Words<'a>) -> Command<'a, T>
     }
 }
 
+/// A line that has no prefix, or none that is well formed.
+fn without_session<T>(command: Command<'_, T>) -> Parsed<'_, T>
+    ensures session { result.session ≡ None }
+    ensures command { result.command ≡ command.entry }
+{
+    Parsed {
+        session: None,
+        command,
+    }
+}
+
 /// Reads a line whose first word is `@` and `digits`. Its other words are still to come.
 #[tactic(auto, unfolding(ec_axioms::specs::Commands::prefixed_line))]
 fn read_prefixed<'a, T: Moment>(digits: &[u8], words: &mut Words<'a>) -> Parsed<'a, T>
@@ -86,10 +97,7 @@ fn read_prefixed<'a, T: Moment>(digits: &[u8], words: &mut Words<'a>) -> Parsed<
             session: Some(session),
             command: read_words(words),
         },
-        None => Parsed {
-            session: None,
-            command: Command::Bad,
-        },
+        None => without_session(Command::Bad),
     }
 }
 
@@ -104,14 +112,8 @@ pub fn read_command<'a, T: Moment>(line: &'a [u8]) -> Parsed<'a, T>
 {
     let mut words = Words::new(line);
     match words.next() {
-        None | Some([b'%', ..]) => Parsed {
-            session: None,
-            command: Command::Silent,
-        },
+        None | Some([b'%', ..]) => without_session(Command::Silent),
         Some([b'@', digits @ ..]) => read_prefixed(digits, &mut words),
-        Some(word) => Parsed {
-            session: None,
-            command: read_from(word, &mut words),
-        },
+        Some(word) => without_session(read_from(word, &mut words)),
     }
 }

@@ -38,6 +38,7 @@ impl<K> Model for Buffered<K> {
 fn gather(buffer: &mut Vec<u8>, bytes: &[u8]) -> bool
     ensures added { OnTrue result (buffer.new.items ≡ buffer.old.items ++ bytes.now) }
     ensures full { OnFalse result (buffer.new.items ≡ buffer.old.items) }
+    ensures grown { length buffer.old.items ≤ length buffer.new.items }
 {
     if buffer.capacity() - buffer.len() < bytes.len() {
         return false;

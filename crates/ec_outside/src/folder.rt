@@ -3,7 +3,7 @@ ghost use Rattle.ec_outside.specs.Counts.{Rose, last_count};
 ghost use Rattle.ec_outside.specs.Files.{Files, HasFile, IsMissing, IsTooLong};
 
 /// Why a file was not read.
-#[derive(Clone, Copy, Debug, PartialEq, Eq)]
+#[derive(Clone, Copy, PartialEq, Eq)]
 pub enum FolderAnswer {
     /// The folder failed, or there is no file of that name.
     Failed,

@@ -1,16 +1,16 @@
 //! The real outside: a reader, a writer and the system's files. It tells no content, so what
 //! was read or written is not known here; only the failures are counted.
-ghost use Rattle.std.specs.Prelude.{◌≡◌, ℕ, ◌≤◌, None};
+ghost use Rattle.std.specs.Prelude.{◌≡◌, ℕ, ◌≤◌, None, OnOk, length};
 ghost use Rattle.ec_outside.specs.Counts.{last_count};
 ghost use Rattle.ec_outside.specs.Streams.{stands_for_every};
 
 use crate::folder::{Folder, FolderAnswer};
 use crate::sink::Sink;
 use crate::source::{Failed, Source};
-use std::fs;
 use std::io::{ErrorKind, Read, Write};
 use std::marker::Model;
 use std::rt::Files;
+use std::{fs, io};
 
 /// A source over a reader, as standard input. It is seen as the count of its failed reads.
 #[derive(Drop)]
@@ -140,19 +140,38 @@ impl<F: Files> Folder for RealFolder<F> {
         into: &mut Vec<u8>,
         most: usize,
     ) -> Result<(), FolderAnswer> {
-        let limit = (most as u64).saturating_add(1);
-        let read = match fs::open(&self.files, name) {
-            Ok(file) => file.take(limit).read_to_end(into),
-            Err(error) => Err(error),
-        };
-        match read {
-            Ok(_) if into.len() > most => Err(FolderAnswer::Long),
-            Ok(_) => Ok(()),
-            Err(error) if error.kind() == ErrorKind::OutOfMemory => Err(FolderAnswer::Memory),
-            Err(_) => {
-                self.faults = self.faults.saturating_add(1);
-                Err(FolderAnswer::Failed)
-            }
+        let answer = read_file(&self.files, name, into, most);
+        if matches!(answer, Err(FolderAnswer::Failed)) {
+            self.faults = self.faults.saturating_add(1);
         }
+        answer
+    }
+}
+
+/// Reads up to so many bytes of a file.
+fn read_up_to<F: Files>(
+    files: &F,
+    name: &str,
+    into: &mut Vec<u8>,
+    limit: u64,
+) -> io::Result<usize> {
+    fs::open(files, name)?.take(limit).read_to_end(into)
+}
+
+/// Reads a file, if it has no more than `most` bytes.
+fn read_file<F: Files>(
+    files: &F,
+    name: &str,
+    into: &mut Vec<u8>,
+    most: usize,
+) -> Result<(), FolderAnswer>
+    ensures { OnOk result (length into.new.items ≤ most) }
+{
+    let limit = (most as u64).saturating_add(1);
+    match read_up_to(files, name, into, limit) {
+        Ok(_) if into.len() > most => Err(FolderAnswer::Long),
+        Ok(_) => Ok(()),
+        Err(error) if error.kind() == ErrorKind::OutOfMemory => Err(FolderAnswer::Memory),
+        Err(_) => Err(FolderAnswer::Failed),
     }
 }

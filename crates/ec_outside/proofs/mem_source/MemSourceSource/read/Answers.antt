@@ -1,5 +1,6 @@
 use Rattle.std.proofs.Common.{◌≡◌, ◌∙◌, ◌≤◌, sym, ap, take, drop, length, arith}
 use Rattle.std.proofs.lemmas.List.{take_rest}
+use Rattle.std.proofs.lemmas.Grind.{common_steps}
 use Rattle.ec_outside.specs.SourceState.{SourceState}
 use Rattle.ec_outside.proofs.Streams.{Took-some, read_split}
 use Rattle.ec_outside.proofs.mem_source.MemSourceSource.read.Goals as goal
@@ -12,3 +13,9 @@ returns-clause-took c =
     c.copy_from_slice.ensures.after ∙ ap (λ all. take c.min-count.result all) (take_rest c.deref.result.now c.self.inside.at ∙ known) in
     let size : c.min-count.result ≤ length c.args.self.now.left = omega (arith, ap length (take_rest c.deref.result.now c.self.inside.at ∙ known)) in
     Took-some (read_split c.self.inside.bytes.items c.args.self.now.left c.copy_from_slice.new.self _ c.self.inside.at c.min-count.result is_left copied size)
+
+pub returns-clause-end : goal.returns-clause-end
+returns-clause-end c = grind (arith, common_steps)
+
+pub returns-clause-count : goal.returns-clause-count
+returns-clause-count c = grind (arith, common_steps)
