@@ -1,5 +1,6 @@
 -- One entry more is noted.
-use Rattle.std.proofs.Common.{subst}
+use Rattle.std.proofs.Common.{subst, arith}
+use Rattle.std.proofs.lemmas.Grind.{common_steps}
 use Rattle.ec_entries.specs.declared.event_entries.Dependent.{Dependent}
 use Rattle.ec_entries.specs.Dependents.{any_on}
 use Rattle.ec_entries.specs.Noting.{IsNoted}
@@ -13,3 +14,9 @@ loop-place-preserved g c =
     (subst (λ ls. IsNoted g.T.Moment.rank c.args.at c.args.slot.0 c.loop-place.place (λ q. any_on q ls) c.loop-place.rows c.note_entry.new.rows) c.as_slice.ensures.items
     (subst (λ (d : Dependent g.row.T.Denot). IsNoted g.T.Moment.rank d.at d.slot.0 d.place (λ q. any_on q c.as_slice.result.now) c.loop-place.rows c.note_entry.new.rows)
     c.dependent_at.ensures c.note_entry.ensures))
+
+pub returns : goal.returns
+returns c = grind (arith, common_steps)
+
+pub loop-place-init : goal.loop-place-init
+loop-place-init c = grind (arith, common_steps)

@@ -1,5 +1,6 @@
 -- A literal wants room where no earlier one is on its property.
-use Rattle.std.proofs.Common.{sym, ◌∙◌}
+use Rattle.std.proofs.Common.{sym, ◌∙◌, arith}
+use Rattle.std.proofs.lemmas.Grind.{common_steps}
 use Rattle.ec_entries.proofs.Wanting.{IsWider-then, WantsMore-again, WantsMore-first}
 use Rattle.ec_entries.proofs.reserving.want_entry.Goals as goal
 use Rattle.ec_entries.proofs.reserving.want_entry.Goals.{then-not-is_any_on+in_ok-want, else-not-is_any_on}
@@ -20,3 +21,15 @@ loop-k-preserved g c =
                 c.loop-k.invariant.wants (sym c.is_any_on.ensures ∙ w.if-not-is_any_on.false);
           })
     ]
+
+pub returns-in_err-want-clause-wider : goal.returns-in_err-want-clause-wider
+returns-in_err-want-clause-wider c = grind (arith, common_steps)
+
+pub loop-k-init : goal.loop-k-init
+loop-k-init c = grind (arith, common_steps)
+
+pub returns-clause-ok : goal.returns-clause-ok
+returns-clause-ok c = grind (arith, common_steps)
+
+pub want-requires : goal.want-requires
+want-requires c = grind (arith, common_steps)

@@ -1,5 +1,6 @@
 -- The entries of the slot were noted in all rows.
-use Rattle.std.proofs.Common.{◌+◌, ◌<◌, ◌≤◌, length, None, get_or-set_same, sym, subst, ap, ◌∙◌}
+use Rattle.std.proofs.Common.{◌+◌, ◌<◌, ◌≤◌, length, None, get_or-set_same, sym, subst, ap, ◌∙◌, arith}
+use Rattle.std.proofs.lemmas.Grind.{common_steps}
 use Rattle.ec_entries.specs.Dependents.{Entered, count_on, dependents_of, room_of}
 use Rattle.ec_entries.specs.Noting.{AreNoted}
 use Rattle.ec_entries.proofs.States.{AreDependents-in, from_place-none, kept_at-set_other}
@@ -37,3 +38,12 @@ pub returns-clause-kept_room : goal.returns-clause-kept_room
 returns-clause-kept_room g c = λ q.
     subst (λ (e : Entered g.row.T.Denot). room_of q e.rows ≤ room_of q c.note_all.new.rows + count_on q c.args.list) c.self.view_is
     (subst (λ ls. room_of q c.self.inside.rows ≤ room_of q c.note_all.new.rows + count_on q ls) c.as_slice.ensures.items (c.note_all.ensures.room q))
+
+pub index_mut-requires : goal.index_mut-requires
+index_mut-requires c = grind (arith, common_steps)
+
+pub note_all-requires-clause-few : goal.note_all-requires-clause-few
+note_all-requires-clause-few c = grind (arith, common_steps)
+
+pub returns-clause-places : goal.returns-clause-places
+returns-clause-places c = grind (arith, common_steps)

@@ -1,5 +1,6 @@
 -- The entries of the slot were taken out of all rows.
-use Rattle.std.proofs.Common.{◌≡◌, length, set, IsSome, Some, sym, subst, ◌∙◌}
+use Rattle.std.proofs.Common.{◌≡◌, length, set, IsSome, Some, sym, subst, ◌∙◌, arith}
+use Rattle.std.proofs.lemmas.Grind.{common_steps}
 use Rattle.ec_entries.specs.Dependents.{AreDependents, Entered, dependents_of}
 use Rattle.ec_entries.specs.Noting.{AreTakenOut}
 use Rattle.ec_entries.proofs.States.{AreDependents-out, kept_at-read}
@@ -15,3 +16,27 @@ invariant_of-self g c =
     subst (λ ls. AreTakenOut g.T.Moment.rank c.args.slot.0 (length ls) c.self.inside.rows c.drop_all.new.rows) c.as_slice.ensures.items c.drop_all.ensures in
     λ q. subst (λ x. AreDependents g.T.Moment.rank q (set slots c.args.slot.0 x) (dependents_of q c.drop_all.new.rows)) (sym c.take.ensures.after)
     (AreDependents-out g.T.Moment.rank slots c.args.slot.0 c.in-Some.kept there c.self.inside.rows c.drop_all.new.rows c.self.invariant out q)
+
+pub drop_all-requires-clause-present : goal.drop_all-requires-clause-present
+drop_all-requires-clause-present c = grind (arith, common_steps)
+
+pub returns-clause-absent : goal.returns-clause-absent
+returns-clause-absent c = grind (arith, common_steps)
+
+pub unreachable-requires : goal.unreachable-requires
+unreachable-requires c = grind (arith, common_steps)
+
+pub returns-clause-list : goal.returns-clause-list
+returns-clause-list c = grind (arith, common_steps)
+
+pub returns-clause-others : goal.returns-clause-others
+returns-clause-others c = grind (arith, common_steps)
+
+pub drop_all-requires-clause-few : goal.drop_all-requires-clause-few
+drop_all-requires-clause-few c = grind (arith, common_steps)
+
+pub index_mut-requires : goal.index_mut-requires
+index_mut-requires c = grind (arith, common_steps)
+
+pub returns-clause-places : goal.returns-clause-places
+returns-clause-places c = grind (arith, common_steps)
