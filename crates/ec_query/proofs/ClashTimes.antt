@@ -1,5 +1,5 @@
 -- The times of clashes: those that marks tell are those of the calculus, and they are searched from one to the next.
-use Rattle.std.proofs.Common.{◌≡◌, ℕ, zero, suc, ℤ, Bool, true, false, ◌&&◌, ◌||◌, List, [], ◌∷◌, length, map, filter, find, get_or, Option, Some, None, is_some, option_map, All, IsTrue, refl, sym, ap, subst, ◌∙◌, inl, inr, arith}
+use Rattle.std.proofs.Common.{◌≡◌, ℕ, zero, suc, ℤ, Bool, true, false, ◌&&◌, ◌||◌, List, [], ◌∷◌, length, map, filter, find, get_or, Option, Some, None, is_some, option_map, All, IsTrue, refl, sym, ap, subst, ◌∙◌, arith}
 use Rattle.std.specs.Prelude.{int_lt, nat_lt}
 use Rattle.std.specs.List.{list_any, list_all}
 use Rattle.std.specs.Ordering.{int_eq}
@@ -19,7 +19,6 @@ use Rattle.ec_axioms.specs.Links.{is_live}
 use Rattle.ec_axioms.specs.QueryTexts.{Canon, clashes_reply, counted_text}
 use Rattle.ec_axioms.proofs.Instants.{IsPairwise-from_ascending, is_ascending-filter, is_ascending-instants_of}
 use Rattle.std.specs.Prelude.{◌≤◌, ◌^◌, ◌-◌}
-use Rattle.std.proofs.lemmas.List.Elements.{All-head, All-tail}
 use Rattle.ec_changes.specs.Differences.{entries_at}
 use Rattle.ec_changes.proofs.LiveMarks.{NotLiveIsUnknown-law}
 use Rattle.ec_changes.proofs.Past.{IsMember-marks_of}
@@ -31,6 +30,7 @@ use Rattle.ec_points.specs.Table.{PointRow, PointTable, marks_at, marks_in}
 use Rattle.ec_points.specs.Clashes.{clashes_at, clashes_in, is_some_clash, some_clash_at}
 use Rattle.ec_query.specs.Marked.{AreClashTimes, AreMarkedOf}
 use Rattle.ec_query.proofs.BrokenLemmas.{instants_of-few}
+use Rattle.ec_query.proofs.HoldingLemmas.{All-member}
 
 -- ---- what takes effect, by two tests
 
@@ -136,11 +136,6 @@ any-at test (row ∷ rows) some = by_case (test row) refl some (any-at test rows
         → (n : ℕ) × (test (get_or (row ∷ rows) n None) ≡ true)
     by_case true here some rest = (zero, here)
     by_case false here some rest = let found = rest some in (suc found.0, found.1)
-
-All-member : {X : Type 0} (P : X → Type 0) (xs : List X) (x : X) → All P xs → IsMember xs x → P x
-All-member P [] x all member = absurd member
-All-member P (y ∷ ys) x all (inl same) = subst P same (All-head P y ys all)
-All-member P (y ∷ ys) x all (inr later) = All-member P ys x (All-tail P y ys all) later
 
 is_ascending-from_instants : (ts : List ℤ) → IsPairwise (λ s t. IsTrue (int_lt s t)) ts → IsTrue (is_ascending int_lt ts)
 unfolding is_ascending

@@ -14,12 +14,14 @@ use Rattle.ec_props.specs.Table.{KeptProp, prop_of, term_at}
 use Rattle.ec_intervals.specs.Table.{IntervalTable, members_at, plain_intervals}
 use Rattle.ec_query.specs.Held.{AreHeldOf, KeepsLive}
 
--- nothing is known of a property that is not kept
-pub IsUnknown-unkept : (theory : Theory) (events : List PlainEvent) (table : List KeptProp) (p : Ground) → KeepsLive theory events table
-    → prop_of p table ≡ None → IsUnknown theory events p
-IsUnknown-unkept theory events table p live absent =
-    NotLiveIsUnknown-law theory events p
-    (false_from_ne_true (is_live theory events p) (λ lives. false≢true (sym (ap is_some absent) ∙ live p lives)))
+module _ (theory : Theory) (events : List PlainEvent) (table : List KeptProp) (p : Ground) (live : KeepsLive theory events table) (absent : prop_of p table ≡ None) where
+  -- a property that is not kept is not live
+  pub is_live-unkept : is_live theory events p ≡ false
+  is_live-unkept = false_from_ne_true (is_live theory events p) (λ lives. false≢true (sym (ap is_some absent) ∙ live p lives))
+
+  -- and nothing is known of it
+  pub IsUnknown-unkept : IsUnknown theory events p
+  IsUnknown-unkept = NotLiveIsUnknown-law theory events p is_live-unkept
 
 module _ {T : Type 0} (rank : T → ℤ) (theory : Theory) (events : List PlainEvent) (table : List KeptProp) (intervals : IntervalTable T) (held : AreHeldOf rank theory events table intervals) where
   -- the intervals of a kept property are those under its number

@@ -70,8 +70,8 @@ IsPairwise-from_order (k ∷ table) order =
 IsBelow-other_way : (p q : Ground) → IsBelow p q → IsBelow q p → ⊥
 IsBelow-other_way p q below above = IsBelow-itself p (term_cmp-total.trans p q p below above)
 
--- a kept property is found under its number
-All-member : {X : Type 0} (P : X → Type 0) (xs : List X) (x : X) → All P xs → IsMember xs x → P x
+-- what all members are, each is
+pub All-member : {X : Type 0} (P : X → Type 0) (xs : List X) (x : X) → All P xs → IsMember xs x → P x
 All-member P [] x all member = absurd member
 All-member P (y ∷ ys) x all (inl same) = subst P same (All-head P y ys all)
 All-member P (y ∷ ys) x all (inr later) = All-member P ys x (All-tail P y ys all) later

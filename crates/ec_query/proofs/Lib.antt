@@ -9,3 +9,16 @@ mod NextOfOrder
 mod SpanLemmas
 mod WritingLemmas
 mod StretchLemmas
+mod Lasts
+mod LastBegins
+mod NextBreaks
+mod FirstCauses
+mod EventWalks
+mod ReasonCases
+mod BreakSearch
+mod OnMarks
+mod ShownEffects
+mod OnParts
+mod SoughtEntries
+mod KeptWalks
+mod ToldReasons

@@ -4,3 +4,8 @@ pub mod Listed
 pub mod Marked
 pub mod Members
 pub mod Stretches
+pub mod Standing
+pub mod Sought
+pub mod Reasons
+pub mod ReasonSteps
+pub mod ReasonTexts

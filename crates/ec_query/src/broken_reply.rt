@@ -12,7 +12,7 @@ ghost use Rattle.ec_query.specs.Members.{members_text};
 
 use crate::counted::write_count;
 use crate::marked::Marked;
-use crate::text::{MemberText, set_broken};
+use crate::member_text::{MemberText, set_broken};
 use ec_intervals::broken_after;
 use ec_moment::Moment;
 use ec_outside::{Failed, Sink, write_all};

@@ -9,7 +9,7 @@ ghost use Rattle.ec_query.specs.Members.{members_text};
 
 use crate::counted::write_count;
 use crate::marked::Marked;
-use crate::text::{MemberText, set_time};
+use crate::member_text::{MemberText, set_time};
 use ec_moment::Moment;
 use ec_outside::{Failed, Sink, write_all};
 use ec_points::Points;

@@ -7,7 +7,7 @@ ghost use Rattle.ec_outside.specs.Streams.{Appended, AppendedPart};
 ghost use Rattle.ec_parts.specs.Caches.{AreEventsOf};
 
 use crate::counted::write_count;
-use crate::text::{MemberText, set_event};
+use crate::member_text::{MemberText, set_event};
 use ec_axioms::Steps;
 use ec_events::EventStore;
 use ec_moment::Moment;

@@ -12,7 +12,7 @@ ghost use Rattle.ec_query.specs.Members.{members_text, span_text};
 
 use crate::counted::write_count;
 use crate::held::Held;
-use crate::text::{MemberText, set_interval};
+use crate::member_text::{MemberText, set_interval};
 use ec_intervals::{Begin, Interval, Intervals};
 use ec_moment::Moment;
 use ec_outside::{Failed, Sink, write_all};

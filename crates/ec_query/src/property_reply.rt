@@ -15,7 +15,7 @@ ghost use Rattle.ec_query.specs.Members.{members_text};
 use crate::counted::write_count;
 use crate::held::Held;
 use crate::held_list::{HeldList, list_held};
-use crate::text::{MemberText, set_term};
+use crate::member_text::{MemberText, set_term};
 use ec_moment::Moment;
 use ec_outside::{Failed, Sink, write_all};
 use ec_props::PropTable;

@@ -5,7 +5,7 @@ use Rattle.ec_terms.specs.declared.theory.Theory.{Theory}
 use Rattle.ec_axioms.specs.Calculus.{PlainEvent}
 use Rattle.ec_parts.specs.StandFor.{View}
 use Rattle.ec_engine.specs.Standing.{IsStanding}
-use Rattle.ec_reasons.specs.Standing.{StandForList}
+use Rattle.ec_query.specs.Standing.{StandForList}
 
 -- also under the theory that they have themselves
 pub StandForList-standing : {T : Type 0} (rank : T → ℤ) (theory own : Theory) (events : List PlainEvent) (view : View T) → own ≡ theory → IsStanding rank theory events view

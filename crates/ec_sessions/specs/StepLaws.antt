@@ -5,7 +5,7 @@ use Rattle.ec_axioms.specs.Changes.{PlainUpdate}
 use Rattle.ec_axioms.specs.Commands.{PlainCommand, assert_event, retract_event, commit_draft, ask_events, ask_why, parsed_of}
 use Rattle.ec_axioms.specs.Lines.{is_long}
 use Rattle.ec_engine.specs.Revise.{most_steps}
-use Rattle.ec_reasons.specs.ReadEvents.{why_steps}
+use Rattle.ec_query.specs.ReasonSteps.{why_steps}
 use Rattle.ec_replies.specs.State.{State, draft_of}
 use Rattle.ec_replies.specs.Replies.{Language, session_of}
 use Rattle.ec_replies.specs.Laws.{IsOpen, asked_update, line_command}

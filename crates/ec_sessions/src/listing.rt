@@ -14,8 +14,7 @@ use ec_axioms::Steps;
 use ec_lines::write_front;
 use ec_moment::Moment;
 use ec_outside::{Failed, Sink, write_all};
-use ec_query::{at, broken, clashes, events, intervals};
-use ec_reasons::write_why;
+use ec_query::{at, broken, clashes, events, intervals, write_why};
 use ec_rows::{MarkRow, SpanRow, TimeRow};
 use std::sync::ledger::Ledger;
 

@@ -3,9 +3,10 @@ use Rattle.std.proofs.Common.{◌+◌, ◌++◌, drop, map, refl, sym, ap, ap₂
 use Rattle.std.specs.Prelude.{decimal}
 use Rattle.ec_outside.specs.Streams.{Appended}
 use Rattle.ec_axioms.specs.QueryTexts.{counted_text, event_text}
-use Rattle.ec_events.specs.Store.{history_of, plain_of, event_at}
+use Rattle.ec_events.specs.Store.{history_of, plain_of}
 use Rattle.ec_query.specs.Members.{members_text, kept_text}
-use Rattle.ec_query.proofs.EventLemmas.{IsNext, IsNext-found, end-found, events_reply-of}
+use Rattle.ec_query.proofs.EventLemmas.{events_reply-of}
+use Rattle.ec_query.proofs.KeptWalks.{IsNext, next-found, next-none, next-read}
 use Rattle.ec_query.proofs.WritingLemmas.{IsLeft-start, IsLeft-next, IsLeft-part, IsLeft-end, OnErr-anyway, OnErr-renamed, counted_text-map, members_text-next, members_text-end}
 use Rattle.ec_query.proofs.event_reply.events.Goals as goal
 
@@ -43,27 +44,28 @@ returns-in_err-write_all-clause-part g c = λ events are.
     let canon = g.T.Moment.canon in
     let kept = c.args.store.now.events in
     let more = members_text (kept_text rank canon) (drop (c.loop-found.cursor + 1) kept) in
-    let next : IsNext kept c.loop-found.cursor c.event.result.now c.in-Some.found.1 =
-    IsNext-found kept c.loop-found.cursor c.in-Some.found.0 c.in-Some.found.1 (event_at c.in-Some.found.0 kept) c.event.result.now c.in-Some.ensures.next c.in-Some.ensures.event c.event.ensures.event in
+    let next : IsNext kept c.loop-found.cursor c.in-Some.found.0 c.in-Some.found.1 =
+    next-found kept c.loop-found.cursor c.in-Some.found.0 c.in-Some.found.1 c.in-Some.ensures.next c.in-Some.ensures.event in
     OnErr-renamed g.K.Sink.stands c.args.out.now c.write_all.new.out c.from_residual-in_err-write_all.result (events_reply-of rank canon kept events are)
     (OnErr-anyway c.from_residual-in_err-write_all.result
     (IsLeft-part c.as_bytes.result.now more c.loop-found.invariant.left
-    (members_text-next (kept_text rank canon) kept c.loop-found.cursor (next.slot, c.event.result.now) next.there
+    (members_text-next (kept_text rank canon) kept c.loop-found.cursor (c.in-Some.found.0, c.event.result.now)
+    (next-read kept c.loop-found.cursor c.in-Some.found.0 c.in-Some.found.1 next c.event.result.now c.event.ensures.event)
     ∙ ap (λ bytes. bytes ++ more) (sym (c.as_bytes.ensures ∙ c.set_event.ensures)))
     c.in_err-write_all.ensures.part))
 
 pub returns-in_err-write_all-clause-steps : goal.returns-in_err-write_all-clause-steps
 returns-in_err-write_all-clause-steps g c =
     let kept = c.args.store.now.events in
-    let next : IsNext kept c.loop-found.cursor c.event.result.now c.in-Some.found.1 =
-    IsNext-found kept c.loop-found.cursor c.in-Some.found.0 c.in-Some.found.1 (event_at c.in-Some.found.0 kept) c.event.result.now c.in-Some.ensures.next c.in-Some.ensures.event c.event.ensures.event in
+    let next : IsNext kept c.loop-found.cursor c.in-Some.found.0 c.in-Some.found.1 =
+    next-found kept c.loop-found.cursor c.in-Some.found.0 c.in-Some.found.1 c.in-Some.ensures.next c.in-Some.ensures.event in
     omega (arith, next.within, c.event.ensures.steps, c.loop-found.invariant.read)
 
 pub loop-found-smaller : goal.loop-found-smaller
 loop-found-smaller g c =
     let kept = c.args.store.now.events in
-    let next : IsNext kept c.loop-found.cursor c.event.result.now c.in-Some.found.1 =
-    IsNext-found kept c.loop-found.cursor c.in-Some.found.0 c.in-Some.found.1 (event_at c.in-Some.found.0 kept) c.event.result.now c.in-Some.ensures.next c.in-Some.ensures.event c.event.ensures.event in
+    let next : IsNext kept c.loop-found.cursor c.in-Some.found.0 c.in-Some.found.1 =
+    next-found kept c.loop-found.cursor c.in-Some.found.0 c.in-Some.found.1 c.in-Some.ensures.next c.in-Some.ensures.event in
     omega (arith, next.within, next.behind)
 
 pub loop-found-preserved : goal.loop-found-preserved
@@ -71,13 +73,14 @@ loop-found-preserved g c =
     let rank = g.T.Moment.rank in
     let canon = g.T.Moment.canon in
     let kept = c.args.store.now.events in
-    let next : IsNext kept c.loop-found.cursor c.event.result.now c.in-Some.found.1 =
-    IsNext-found kept c.loop-found.cursor c.in-Some.found.0 c.in-Some.found.1 (event_at c.in-Some.found.0 kept) c.event.result.now c.in-Some.ensures.next c.in-Some.ensures.event c.event.ensures.event in
+    let next : IsNext kept c.loop-found.cursor c.in-Some.found.0 c.in-Some.found.1 =
+    next-found kept c.loop-found.cursor c.in-Some.found.0 c.in-Some.found.1 c.in-Some.ensures.next c.in-Some.ensures.event in
     let more = members_text (kept_text rank canon) (drop c.in-Some.found.1 kept) in
     record {
       left =
           IsLeft-next c.as_bytes.result.now more c.loop-found.invariant.left
-          (members_text-next (kept_text rank canon) kept c.loop-found.cursor (next.slot, c.event.result.now) next.there
+          (members_text-next (kept_text rank canon) kept c.loop-found.cursor (c.in-Some.found.0, c.event.result.now)
+          (next-read kept c.loop-found.cursor c.in-Some.found.0 c.in-Some.found.1 next c.event.result.now c.event.ensures.event)
           ∙ ap₂ (λ bytes i. bytes ++ members_text (kept_text rank canon) (drop i kept)) (sym (c.as_bytes.ensures ∙ c.set_event.ensures)) (sym next.behind))
           c.in_ok-write_all.ensures.written c.in_ok-write_all.ensures.quiet;
       read = omega (arith, next.behind, c.event.ensures.steps, c.loop-found.invariant.read);
@@ -91,4 +94,4 @@ returns-clause-written g c = λ events are.
     let kept = c.args.store.now.events in
     subst (λ text. Appended g.K.Sink.stands c.args.out.now c.loop-found.out text) (events_reply-of rank canon kept events are)
     (IsLeft-end c.loop-found.invariant.left (members_text-end (kept_text rank canon) kept c.loop-found.cursor
-    (end-found kept c.loop-found.cursor c.next.result c.in_default.is c.next.ensures.next)))
+    (next-none kept c.loop-found.cursor c.next.result c.in_default.is c.next.ensures.next)))

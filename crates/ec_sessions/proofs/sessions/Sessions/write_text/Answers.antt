@@ -8,7 +8,7 @@ use Rattle.ec_events.specs.Store.{plain_of}
 use Rattle.ec_parts.specs.StandFor.{view_of}
 use Rattle.ec_query.specs.Marked.{AreMarkedOf}
 use Rattle.ec_sessions.specs.LineSteps.{most_query_steps}
-use Rattle.ec_reasons.specs.ReadEvents.{why_steps}
+use Rattle.ec_query.specs.ReasonSteps.{why_steps}
 use Rattle.ec_sessions.proofs.Standings.{StandForList-standing}
 use Rattle.ec_axioms.specs.QueryTexts.{intervals_reply, broken_reply, at_reply, clashes_reply, events_reply, why_reply}
 use Rattle.ec_outside.specs.Streams.{Appended, AppendedPart}
