@@ -12,7 +12,7 @@ use std::alloc::Global;
 use std::process::Abort;
 
 /// The spans of a row.
-fn spans_of<S: SpanRow<Tick>>(alloc: Global, row: &S) -> Result<Vec<Span<Tick>>, NoMemory>
+pub fn spans_of<S: SpanRow<Tick>>(alloc: Global, row: &S) -> Result<Vec<Span<Tick>>, NoMemory>
     ensures { IfOk result (λ spans. spans.items ≡ S.spans row.now) }
 {
     let mut spans = Vec::new(alloc);
@@ -90,7 +90,7 @@ fn is_row(spans: &[Span<Tick>]) -> bool
 
 /// Puts spans in place of those of a row from one place up to another, if what comes of it is a row of spans, and tells
 /// whether it is.
-fn splice_row<S: SpanRow<Tick>>(
+pub fn splice_row<S: SpanRow<Tick>>(
     rt: &impl Abort,
     alloc: Global,
     row: &mut S,
@@ -149,17 +149,27 @@ fn are_same<A: SpanRow<Tick>, B: SpanRow<Tick>>(a: &A, b: &B) -> bool {
     true
 }
 
-/// Whether two rows are the same after each of 500 calls.
-fn go_the_same_way<A: SpanRow<Tick>, B: SpanRow<Tick>>(rt: &impl Abort, alloc: Global) -> bool {
-    let mut draws = Draws::new();
-    let mut a = A::new(alloc).expect(rt, "memory");
-    let mut b = B::new(alloc).expect(rt, "memory");
+/// Whether two rows are the same after each of 500 calls, and fill more than one block.
+fn stay_the_same<A: SpanRow<Tick>, B: SpanRow<Tick>>(
+    rt: &impl Abort,
+    alloc: Global,
+    draws: &mut Draws,
+    a: &mut A,
+    b: &mut B,
+) -> bool {
     for _ in 0..500 {
-        if !splice_both(rt, alloc, &mut draws, &mut a, &mut b) || !are_same(&a, &b) {
+        if !splice_both(rt, alloc, draws, a, b) || !are_same(a, b) {
             return false;
         }
     }
-    128 < a.len() // more than one block
+    128 < a.len()
+}
+
+/// Whether two rows that are made go the same way.
+fn go_the_same_way<A: SpanRow<Tick>, B: SpanRow<Tick>>(rt: &impl Abort, alloc: Global) -> bool {
+    let mut a = A::new(alloc).expect(rt, "memory");
+    let mut b = B::new(alloc).expect(rt, "memory");
+    stay_the_same(rt, alloc, &mut Draws::new(), &mut a, &mut b)
 }
 
 #[test]

@@ -30,7 +30,13 @@ fn has_entry<X: TimeRow<Tick>>(row: &X, at: Tick, id: &Name) -> bool
 }
 
 /// Takes the entry of a time and an identity out of a row, or puts it in, if it is not there.
-fn turn<X: TimeRow<Tick>>(rt: &impl Abort, row: &mut X, at: Tick, id: &Name, slot: Slot) -> Slot {
+pub fn turn<X: TimeRow<Tick>>(
+    rt: &impl Abort,
+    row: &mut X,
+    at: Tick,
+    id: &Name,
+    slot: Slot,
+) -> Slot {
     if has_entry(row, at, id) {
         return row.take_out(at, id);
     }
@@ -57,7 +63,7 @@ fn pick<X: TimeRow<Tick>>(rt: &impl Abort, draws: &mut Draws, row: &X) -> (Tick,
 }
 
 /// Whether two entries are the same.
-fn is_same(a: &(Tick, Name, Slot), b: &(Tick, Name, Slot)) -> bool {
+pub fn is_same(a: &(Tick, Name, Slot), b: &(Tick, Name, Slot)) -> bool {
     a.0 == b.0 && a.1 == b.1 && a.2 == b.2
 }
 
@@ -79,25 +85,34 @@ fn turn_both<A: TimeRow<Tick>, B: TimeRow<Tick>>(
     rt: &impl Abort,
     a: &mut A,
     b: &mut B,
-    entry: (Tick, Name),
+    entry: &(Tick, Name),
     slot: Slot,
 ) -> bool {
     let (at, id) = entry;
-    turn(rt, &mut *a, at, &id, slot) == turn(rt, &mut *b, at, &id, slot) && are_same(a, b)
+    turn(rt, a, *at, id, slot) == turn(rt, b, *at, id, slot) && are_same(a, b)
 }
 
-/// Whether two rows are the same after each of 500 calls.
-fn go_the_same_way<A: TimeRow<Tick>, B: TimeRow<Tick>>(rt: &impl Abort, alloc: Global) -> bool {
-    let mut draws = Draws::new();
-    let mut a = A::new(alloc).expect(rt, "memory");
-    let mut b = B::new(alloc).expect(rt, "memory");
+/// Whether two rows are the same after each of 500 calls, and fill more than one block.
+fn stay_the_same<A: TimeRow<Tick>, B: TimeRow<Tick>>(
+    rt: &impl Abort,
+    draws: &mut Draws,
+    a: &mut A,
+    b: &mut B,
+) -> bool {
     for number in 0..500 {
-        let entry = pick(rt, &mut draws, &a);
-        if !turn_both(rt, &mut a, &mut b, entry, Slot(number)) {
+        let entry = pick(rt, draws, a);
+        if !turn_both(rt, a, b, &entry, Slot(number)) {
             return false;
         }
     }
-    128 < a.len() // more than one block
+    128 < a.len()
+}
+
+/// Whether two rows that are made go the same way.
+fn go_the_same_way<A: TimeRow<Tick>, B: TimeRow<Tick>>(rt: &impl Abort, alloc: Global) -> bool {
+    let mut a = A::new(alloc).expect(rt, "memory");
+    let mut b = B::new(alloc).expect(rt, "memory");
+    stay_the_same(rt, &mut Draws::new(), &mut a, &mut b)
 }
 
 #[test]

@@ -84,18 +84,27 @@ fn change<A: MarkRow<Tick>, B: MarkRow<Tick>>(
     take(b, place);
 }
 
-/// Whether two rows are the same after each of 500 changes.
-fn go_the_same_way<A: MarkRow<Tick>, B: MarkRow<Tick>>(rt: &impl Abort, alloc: Global) -> bool {
-    let mut draws = Draws::new();
-    let mut a = A::new(alloc).expect(rt, "memory");
-    let mut b = B::new(alloc).expect(rt, "memory");
+/// Whether two rows are the same after each of 500 changes, and fill more than one block.
+fn stay_the_same<A: MarkRow<Tick>, B: MarkRow<Tick>>(
+    rt: &impl Abort,
+    draws: &mut Draws,
+    a: &mut A,
+    b: &mut B,
+) -> bool {
     for _ in 0..500 {
-        change(rt, &mut draws, &mut a, &mut b);
-        if !are_same(&a, &b) {
+        change(rt, draws, a, b);
+        if !are_same(a, b) {
             return false;
         }
     }
-    128 < a.len() // more than one block
+    128 < a.len()
+}
+
+/// Whether two rows that are made go the same way.
+fn go_the_same_way<A: MarkRow<Tick>, B: MarkRow<Tick>>(rt: &impl Abort, alloc: Global) -> bool {
+    let mut a = A::new(alloc).expect(rt, "memory");
+    let mut b = B::new(alloc).expect(rt, "memory");
+    stay_the_same(rt, &mut Draws::new(), &mut a, &mut b)
 }
 
 /// How many members fill several groups of blocks.
@@ -134,10 +143,14 @@ fn has_others(list: &Blocks<PropId>) -> bool {
     list.partition_point(|p| p.0 < 2000) == 1000
 }
 
+/// Whether a list that has no members keeps those that it is given in order.
+fn keeps_order(rt: &impl Abort, list: &mut Blocks<PropId>) -> bool {
+    fill_from_behind(rt, list);
+    list.push(PropId(MANY)).expect(rt, "memory");
+    takes_each_second(list) && has_others(list)
+}
+
 #[test]
 fn a_list_in_blocks_keeps_its_order(rt: HostRuntime) {
-    let mut list = Blocks::new(rt.alloc());
-    fill_from_behind(&rt, &mut list);
-    list.push(PropId(MANY)).expect(&rt, "memory");
-    assert!(rt; takes_each_second(&mut list) && has_others(&list));
+    assert!(rt; keeps_order(&rt, &mut Blocks::new(rt.alloc())));
 }

@@ -130,7 +130,7 @@ fn mend<T: Moment, I: SpanRow<T>, M: MarkRow<T>>(
 }
 
 /// A begin or an end that is spelt: `inf` is none.
-fn time_of(spelt: &str) -> Option<i64> {
+pub fn time_of(spelt: &str) -> Option<i64> {
     spelt.parse::<i64>().ok()
 }
 
@@ -153,7 +153,7 @@ fn mark_of(rt: &impl Abort, spelt: &str) -> Mark<Tick> {
 }
 
 /// The row of the marks that are spelt as `10:1,0,0 20:0,1,0`.
-fn row_of_marks<M: MarkRow<Tick>>(rt: &impl Abort, alloc: Global, spelt: &str) -> M {
+pub fn row_of_marks<M: MarkRow<Tick>>(rt: &impl Abort, alloc: Global, spelt: &str) -> M {
     let mut row = M::new(alloc).expect(rt, "memory");
     for mark in spelt.split_whitespace() {
         put_counted(rt, &mut row, mark_of(rt, mark));
@@ -170,7 +170,7 @@ fn begin(at: Option<i64>) -> Begin<Tick> {
 }
 
 /// An end: at a time, or none.
-fn end(at: Option<i64>) -> End<Tick> {
+pub fn end(at: Option<i64>) -> End<Tick> {
     match at {
         Some(at) => End::At(Tick(at)),
         None => End::Unended,
@@ -189,6 +189,23 @@ fn interval_of(rt: &impl Abort, spelt: &str) -> Interval<Tick> {
 /// No intervals, in a box. What holds a box is proved at less cost than what holds its value.
 fn no_intervals<I: SpanRow<Tick>>(rt: &impl Abort, alloc: Global) -> Box<Intervals<Tick, I>> {
     Box::new(alloc, Intervals::new(alloc)).expect(rt, "memory")
+}
+
+/// The intervals that are spelt as `5..10 20..inf`.
+fn intervals_of(rt: &impl Abort, alloc: Global, spelt: &str) -> Vec<Interval<Tick>> {
+    let mut intervals = Vec::new(alloc);
+    for spelt in spelt.split_whitespace() {
+        intervals.push(interval_of(rt, spelt)).expect(rt, "memory");
+    }
+    intervals
+}
+
+/// The begin in front of a place, if there is one.
+fn begin_before(wanted: &[Interval<Tick>], i: usize) -> Option<Begin<Tick>> {
+    if i == 0 || wanted.len() < i {
+        return None;
+    }
+    Some(wanted[i - 1].from)
 }
 
 /// Whether a begin is before all events, or the last begin of a property before it is this one.
@@ -215,24 +232,19 @@ fn stands_at<I: SpanRow<Tick>>(
         && is_behind(intervals, wanted.from, last)
 }
 
-/// Whether a property has the intervals that are spelt as `5..10 20..inf`, and whether the last begin before each of them, and
-/// before a later time, is the one in front of it.
+/// Whether a property has these intervals, and whether the last begin before each of them, and before a later time, is the one in
+/// front of it.
 fn has_members<I: SpanRow<Tick>>(
-    rt: &impl Abort,
     intervals: &Intervals<Tick, I>,
-    wanted: &str,
+    wanted: &[Interval<Tick>],
 ) -> bool {
-    let mut count = 0usize;
-    let mut last = None;
-    for spelt in wanted.split_whitespace() {
-        let interval = interval_of(rt, spelt);
-        if !stands_at(intervals, count, interval, last) {
+    for i in 0..wanted.len() {
+        if !stands_at(intervals, i, wanted[i], begin_before(wanted, i)) {
             return false;
         }
-        count = count.wrapping_add(1);
-        last = Some(interval.from);
     }
-    count == intervals.len(P) && intervals.last_begin_before(P, Tick(100)) == last
+    wanted.len() == intervals.len(P)
+        && intervals.last_begin_before(P, Tick(100)) == begin_before(wanted, wanted.len())
 }
 
 /// A broken begin, with its break as its end.
@@ -258,16 +270,13 @@ fn is_next_broken<M: MarkRow<Tick>>(
 }
 
 /// Whether the broken begins of a row are these, one after the other.
-fn has_broken<M: MarkRow<Tick>>(rt: &impl Abort, row: &M, kind: &str, wanted: &str) -> bool {
-    let mut after = None;
-    for spelt in wanted.split_whitespace() {
-        let interval = interval_of(rt, spelt);
-        if !is_next_broken(row, kind, after, Some(interval)) {
+fn has_broken<M: MarkRow<Tick>>(row: &M, kind: &str, wanted: &[Interval<Tick>]) -> bool {
+    for i in 0..wanted.len() {
+        if !is_next_broken(row, kind, begin_before(wanted, i), Some(wanted[i])) {
             return false;
         }
-        after = Some(interval.from);
     }
-    is_next_broken(row, kind, after, None)
+    is_next_broken(row, kind, begin_before(wanted, wanted.len()), None)
 }
 
 /// Whether a row of marks, rebuilt over the intervals of the other kind of property, spells these intervals.
@@ -276,12 +285,12 @@ fn has_intervals<I: SpanRow<Tick>, M: MarkRow<Tick>>(
     intervals: &mut Intervals<Tick, I>,
     row: &M,
     kind: &str,
-    wanted: &str,
+    wanted: &[Interval<Tick>],
 ) -> bool {
     let strong = kind == "strong";
     rebuild(rt, &mut *intervals, P, row, !strong, true);
     rebuild(rt, &mut *intervals, P, row, strong, kind == "initial");
-    has_members(rt, intervals, wanted)
+    has_members(intervals, wanted)
 }
 
 /// The kind of a property and its marks, each with its time and its counts of starts, ends and clashes; the intervals and, behind
@@ -301,7 +310,7 @@ initial 7:0,0,1 => broken inf..7
 ";
 
 /// Whether a row of marks spells these intervals and these broken begins.
-fn row_spells<M: MarkRow<Tick>>(
+fn row_spells<I: SpanRow<Tick>, M: MarkRow<Tick>>(
     rt: &impl Abort,
     alloc: Global,
     row: &M,
@@ -309,27 +318,36 @@ fn row_spells<M: MarkRow<Tick>>(
     wanted: &str,
 ) -> bool {
     let (members, broken) = wanted.split_once("broken").expect(rt, wanted);
-    let mut intervals = no_intervals::<VecSpans<Tick>>(rt, alloc);
-    has_intervals(rt, &mut *intervals, row, kind, members) && has_broken(rt, row, kind, broken)
+    let members = intervals_of(rt, alloc, members);
+    let mut intervals = no_intervals::<I>(rt, alloc);
+    has_intervals(rt, &mut *intervals, row, kind, &members)
+        && has_broken(row, kind, &intervals_of(rt, alloc, broken))
 }
 
 /// Whether the marks of a property of a kind spell these intervals and these broken begins.
-fn spells<M: MarkRow<Tick>>(rt: &impl Abort, alloc: Global, given: &str, wanted: &str) -> bool {
+fn spells<I: SpanRow<Tick>, M: MarkRow<Tick>>(
+    rt: &impl Abort,
+    alloc: Global,
+    given: &str,
+    wanted: &str,
+) -> bool {
     let (kind, marks) = given.split_once(' ').unwrap_or((given, ""));
     let row: M = row_of_marks(rt, alloc, marks);
-    row_spells(rt, alloc, &row, kind, wanted)
+    row_spells::<I, M>(rt, alloc, &row, kind, wanted)
+}
+
+/// Sees that each row of the table spells its intervals and its broken begins.
+fn check_rows<I: SpanRow<Tick>, M: MarkRow<Tick>>(rt: &impl Abort, alloc: Global) {
+    for line in ROWS.lines() {
+        if let Some((given, wanted)) = row_of(line) {
+            assert!(rt; spells::<I, M>(rt, alloc, given, wanted), "{line}");
+        }
+    }
 }
 
 #[test]
 fn marks_spell_intervals_and_broken_begins(rt: HostRuntime) {
-    for line in ROWS.lines() {
-        if let Some((given, wanted)) = row_of(line) {
-            assert!(rt;
-                spells::<VecMarks<Tick>>(&rt, rt.alloc(), given, wanted),
-                "{line}"
-            );
-        }
-    }
+    check_rows::<VecSpans<Tick>, VecMarks<Tick>>(&rt, rt.alloc());
 }
 
 /// Whether two tables have the same intervals of the property.
@@ -404,22 +422,32 @@ fn is_mended<I: SpanRow<Tick>, M: MarkRow<Tick>>(
 }
 
 /// The same for a property of each kind.
-fn is_mended_for_each(rt: &impl Abort, alloc: Global, kinds: usize, mark: Mark<Tick>) -> bool {
-    is_mended::<VecSpans<Tick>, VecMarks<Tick>>(rt, alloc, kinds, mark, false, false)
-        && is_mended::<VecSpans<Tick>, VecMarks<Tick>>(rt, alloc, kinds, mark, true, false)
-        && is_mended::<VecSpans<Tick>, VecMarks<Tick>>(rt, alloc, kinds, mark, false, true)
+fn is_mended_for_each<I: SpanRow<Tick>, M: MarkRow<Tick>>(
+    rt: &impl Abort,
+    alloc: Global,
+    kinds: usize,
+    mark: Mark<Tick>,
+) -> bool {
+    is_mended::<I, M>(rt, alloc, kinds, mark, false, false)
+        && is_mended::<I, M>(rt, alloc, kinds, mark, true, false)
+        && is_mended::<I, M>(rt, alloc, kinds, mark, false, true)
 }
 
-#[test]
-fn mended_rows_are_those_rebuilt(rt: HostRuntime) {
+/// Sees that each row of three marks is mended by one more mark, of each kind and at each time up to the last one's and behind it.
+fn check_mended<I: SpanRow<Tick>, M: MarkRow<Tick>>(rt: &impl Abort, alloc: Global) {
     for kinds in 0..216 {
         for at in 0..7 {
             for kind in 0..6 {
                 let mark = mark_of_kind(at, kind);
-                assert!(rt; is_mended_for_each(&rt, rt.alloc(), kinds, mark));
+                assert!(rt; is_mended_for_each::<I, M>(rt, alloc, kinds, mark));
             }
         }
     }
+}
+
+#[test]
+fn mended_rows_are_those_rebuilt(rt: HostRuntime) {
+    check_mended::<VecSpans<Tick>, VecMarks<Tick>>(&rt, rt.alloc());
 }
 
 /// The mark of a change: each even one starts the property, and each odd one ends it.

@@ -1,5 +1,7 @@
 use crate::tables::row_of;
+use crate::terms::displays;
 use ec_moment::{Moment, MomentText, Tick, read_back, read_number};
+use std::alloc::Global;
 use std::cmp::Ordering;
 
 /// Spellings and the number that each spells, if it spells one.
@@ -24,15 +26,26 @@ const SPELLINGS: &str = "
 42 => 42
 ";
 
+/// Whether a spelling is read as this number, also as a time.
+fn reads(spelt: &[u8], number: Option<i64>) -> bool {
+    let tick = match Tick::read(spelt) {
+        Some(tick) => Some(tick.0),
+        None => None,
+    };
+    read_number(spelt) == number && tick == number
+}
+
+/// Whether a spelling is read as the number that is told, or as none.
+fn is_read(spelt: &str, told: &str) -> bool {
+    reads(spelt.as_bytes(), told.parse::<i64>().ok())
+}
+
 #[test]
 fn reads_each_spelling(rt: HostRuntime) {
     for line in SPELLINGS.lines() {
-        let Some((spelt, number)) = row_of(line) else {
-            continue;
-        };
-        let number = number.parse::<i64>().ok();
-        assert!(rt; read_number(spelt.as_bytes()) == number, "{line}");
-        assert!(rt; Tick::read(spelt.as_bytes()) == number.map(Tick), "{line}");
+        if let Some((spelt, number)) = row_of(line) {
+            assert!(rt; is_read(spelt, number), "{line}");
+        }
     }
 }
 
@@ -48,27 +61,33 @@ fn agrees<T: Moment>(earlier: &[u8], later: &[u8], text: &[u8]) -> bool {
         && read_back(later).is_some()
 }
 
-#[test]
-fn generic_code_reads_orders_and_writes(rt: HostRuntime) {
-    assert!(rt; agrees::<Tick>(b"-9223372036854775808", b"-1", b"-9223372036854775808"));
-    assert!(rt; agrees::<Tick>(b"-010", b"-9", b"-10"));
-    assert!(rt; agrees::<Tick>(b"-0", b"007", b"0"));
-    assert!(rt;
-        agrees::<Tick>(
+/// Whether the least and the largest times, and times that are spelt in several ways, agree.
+fn all_agree<T: Moment>() -> bool {
+    agrees::<T>(b"-9223372036854775808", b"-1", b"-9223372036854775808")
+        && agrees::<T>(b"-010", b"-9", b"-10")
+        && agrees::<T>(b"-0", b"007", b"0")
+        && agrees::<T>(
             b"9223372036854775806",
             b"9223372036854775807",
-            b"9223372036854775806"
+            b"9223372036854775806",
         )
-    );
-    assert!(rt; !agrees::<Tick>(b"10", b"9", b"10"));
+        && !agrees::<T>(b"10", b"9", b"10")
+}
+
+#[test]
+fn generic_code_reads_orders_and_writes(rt: HostRuntime) {
+    assert!(rt; all_agree::<Tick>());
+}
+
+/// Whether a text is as long as this one, not empty, and shown so.
+fn shows(alloc: Global, text: &MomentText, wanted: &str) -> bool {
+    text.len() == wanted.len() && !text.is_empty() && displays(alloc, text, wanted)
 }
 
 #[test]
 fn shows_a_text(rt: HostRuntime) {
     let mut text = MomentText::default();
-    assert!(rt; text.is_empty());
+    let empty = text.is_empty();
     text.push_str(Tick(-12).text().as_str());
-    assert!(rt; text.len() == 3 && !text.is_empty());
-    let shown = format!(in rt.alloc(); "{text}");
-    assert!(rt; shown.is_ok_and(|shown| shown.as_str() == "-12"));
+    assert!(rt; empty && shows(rt.alloc(), &text, "-12"));
 }

@@ -7,10 +7,13 @@ use ec_terms::NoMemory;
 use std::alloc::Global;
 use std::io;
 use std::io::{ErrorKind, Read, Write};
-use std::test::Fail;
+use std::process::Abort;
 
-/// The room of each read in turn, its answer, and what the buffer then holds.
-const READS: [(usize, Result<usize, Failed>, &[u8]); 5] = [
+/// The room of a read, its answer, and what the buffer then holds.
+type ReadRow = (usize, Result<usize, Failed>, &'static [u8]);
+
+/// Reads in turn.
+const READS: [ReadRow; 5] = [
     (4, Ok(2), b"ab\0\0"),
     (4, Err(Failed), b"ab\0\0"),
     (4, Ok(2), b"cd\0\0"),
@@ -24,38 +27,42 @@ fn read_into(source: &mut impl Source, buffer: &mut [u8], room: usize) -> Result
     source.read(&mut buffer[..room])
 }
 
+/// Whether a read answers as its row tells.
+fn is_read(source: &mut impl Source, buffer: &mut [u8], row: &ReadRow) -> bool {
+    read_into(source, &mut *buffer, row.0) == row.1 && *buffer == *row.2
+}
+
+/// Whether all reads answer as they are told.
+fn are_read(source: &mut impl Source, buffer: &mut [u8]) -> bool {
+    for row in READS.iter() {
+        if !is_read(source, &mut *buffer, row) {
+            return false;
+        }
+    }
+    true
+}
+
 #[test]
-fn a_source_in_memory_gives_pieces_and_fails_by_number(rt: HostRuntime) -> Result<(), Fail> {
-    let mut source = MemSource::new(rt.alloc(), b"abcde", 2, &[2])?;
-    let mut buffer = [0; 4];
-    for (row, (room, answer, held)) in READS.iter().enumerate() {
-        let given = read_into(&mut source, &mut buffer, *room);
+fn a_source_in_memory_gives_pieces_and_fails_by_number(rt: HostRuntime) {
+    let mut source = MemSource::new(rt.alloc(), b"abcde", 2, &[2]).expect(&rt, "memory");
+    assert!(rt; are_read(&mut source, &mut [0; 4]));
+}
+
+/// Whether three bytes are written up to the write of this number, which fails, or all of them.
+fn fails_at(rt: &impl Abort, alloc: Global, number: u64, written: &[u8]) -> bool {
+    let mut sink = MemSink::new(alloc, 10, 1, &[number], &[]).expect(rt, "memory");
+    write_all(&mut sink, b"ok\n").is_ok() == (number == 4) && sink.bytes() == written
+}
+
+#[test]
+fn a_write_that_fails_leaves_the_bytes_before_it(rt: HostRuntime) {
+    let writes: [&[u8]; 4] = [b"", b"o", b"ok", b"ok\n"];
+    for (at, written) in writes.iter().enumerate() {
         assert!(rt;
-            given == *answer && buffer.as_slice() == *held,
-            "read {row}"
+            fails_at(&rt, rt.alloc(), at as u64 + 1, written),
+            "write {at}"
         );
     }
-    Ok(())
-}
-
-/// Whether three bytes are written up to the write of that number, which fails, or all of them.
-fn fails_at(alloc: Global, number: u64) -> Result<bool, NoMemory> {
-    let mut sink = MemSink::new(alloc, 10, 1, &[number], &[])?;
-    let result = write_all(&mut sink, b"ok\n");
-    let written = sink.bytes();
-    Ok(
-        result.is_ok() == (number == 4)
-            && u64::try_from(written.len()) == Ok(number.saturating_sub(1))
-            && b"ok\n".starts_with(written),
-    )
-}
-
-#[test]
-fn a_write_that_fails_leaves_the_bytes_before_it(rt: HostRuntime) -> Result<(), Fail> {
-    for number in 1..=4u64 {
-        assert!(rt; fails_at(rt.alloc(), number)?, "write {number}");
-    }
-    Ok(())
 }
 
 /// A call on a sink, and its answer.
@@ -72,6 +79,16 @@ fn has_answer(sink: &mut impl Sink, call: &Call) -> bool {
     }
 }
 
+/// Whether all calls have their answers.
+fn has_answers(sink: &mut impl Sink, calls: &[Call]) -> bool {
+    for call in calls {
+        if !has_answer(sink, call) {
+            return false;
+        }
+    }
+    true
+}
+
 /// The calls on a sink with room for four bytes, which takes three at most at once and fails at its second flush.
 const SMALL_SINK: [Call; 6] = [
     Call::Write(b"abcdef", Ok(3)),
@@ -83,17 +100,16 @@ const SMALL_SINK: [Call; 6] = [
 ];
 
 #[test]
-fn a_sink_in_memory_has_room_and_fails_by_number(rt: HostRuntime) -> Result<(), Fail> {
-    let mut sink = MemSink::new(rt.alloc(), 4, 3, &[], &[2])?;
-    for (row, call) in SMALL_SINK.iter().enumerate() {
-        assert!(rt; has_answer(&mut sink, call), "call {row}");
-    }
-    assert!(rt; sink.bytes() == b"abcd".as_slice());
-    Ok(())
+fn a_sink_in_memory_has_room_and_fails_by_number(rt: HostRuntime) {
+    let mut sink = MemSink::new(rt.alloc(), 4, 3, &[], &[2]).expect(&rt, "memory");
+    assert!(rt; has_answers(&mut sink, &SMALL_SINK) && sink.bytes() == b"abcd".as_slice());
 }
 
+/// A call on a sink that gathers bytes, and what the sink behind it then holds.
+type GatherRow = (Call, &'static [u8]);
+
 /// The calls on a sink that gathers four bytes, and what the sink behind it then holds, whose third write fails.
-const BUFFERED_SINK: [(Call, &[u8]); 6] = [
+const BUFFERED_SINK: [GatherRow; 6] = [
     (Call::Write(b"abc", Ok(3)), b""),
     (Call::Write(b"de", Ok(2)), b"abc"),
     (Call::Flush(Ok(())), b"abcde"),
@@ -107,15 +123,21 @@ fn bytes_behind(sink: &Buffered<MemSink>) -> &[u8] {
     sink.behind().bytes()
 }
 
-#[test]
-fn a_buffered_sink_hands_on_when_it_is_full_or_flushed(rt: HostRuntime) -> Result<(), Fail> {
-    let behind = MemSink::new(rt.alloc(), 20, 9, &[3], &[])?;
-    let mut sink = Buffered::new(rt.alloc(), behind, 4)?;
-    for (row, (call, held)) in BUFFERED_SINK.iter().enumerate() {
-        assert!(rt; has_answer(&mut sink, call), "call {row}");
-        assert!(rt; bytes_behind(&sink) == *held, "call {row}");
+/// Whether all calls have their answers, and the sink behind then holds what it should.
+fn are_gathered(sink: &mut Buffered<MemSink>) -> bool {
+    for (call, held) in BUFFERED_SINK.iter() {
+        if !has_answer(&mut *sink, call) || bytes_behind(sink) != *held {
+            return false;
+        }
     }
-    Ok(())
+    true
+}
+
+#[test]
+fn a_buffered_sink_hands_on_when_it_is_full_or_flushed(rt: HostRuntime) {
+    let behind = MemSink::new(rt.alloc(), 20, 9, &[3], &[]).expect(&rt, "memory");
+    let mut sink = Buffered::new(rt.alloc(), behind, 4).expect(&rt, "memory");
+    assert!(rt; are_gathered(&mut sink));
 }
 
 /// Two files, in a folder that fails at the fourth and the fifth call.
@@ -126,20 +148,11 @@ fn two_files(alloc: Global) -> Result<MemFolder, NoMemory> {
     Ok(folder)
 }
 
-/// What a folder answers to a call for a file of at most so many bytes, and what was read.
-fn read_file(
-    alloc: Global,
-    folder: &mut impl Folder,
-    name: &str,
-    most: usize,
-) -> (Result<(), FolderAnswer>, Vec<u8>) {
-    let mut into = Vec::new(alloc);
-    let answer = folder.read_whole(name, &mut into, most);
-    (answer, into)
-}
+/// The name of a file, how long it may be, the answer, and what was read.
+type FileRow = (&'static str, usize, Result<(), FolderAnswer>, &'static [u8]);
 
-/// The name of the file of each call in turn, how long it may be, the answer, and what was read.
-const FILES: [(&str, usize, Result<(), FolderAnswer>, &[u8]); 6] = [
+/// The file of each call in turn.
+const FILES: [FileRow; 6] = [
     ("a", 3, Ok(()), b"one"),
     ("a", 2, Err(FolderAnswer::Long), b""),
     ("c", 9, Err(FolderAnswer::Failed), b""),
@@ -148,17 +161,26 @@ const FILES: [(&str, usize, Result<(), FolderAnswer>, &[u8]); 6] = [
     ("b", 0, Ok(()), b""),
 ];
 
-#[test]
-fn a_folder_in_memory_reads_whole_files(rt: HostRuntime) -> Result<(), Fail> {
-    let mut folder = two_files(rt.alloc())?;
-    for (row, (name, most, wanted, bytes)) in FILES.iter().enumerate() {
-        let (answer, read) = read_file(rt.alloc(), &mut folder, name, *most);
-        assert!(rt;
-            answer == *wanted && read.as_slice() == *bytes,
-            "call {row}"
-        );
+/// Whether a folder reads a file as its row tells.
+fn is_file_read(alloc: Global, folder: &mut impl Folder, row: &FileRow) -> bool {
+    let mut into = Vec::new(alloc);
+    folder.read_whole(row.0, &mut into, row.1) == row.2 && into.as_slice() == row.3
+}
+
+/// Whether a folder reads all files as they are told.
+fn are_files_read(alloc: Global, folder: &mut impl Folder) -> bool {
+    for row in FILES.iter() {
+        if !is_file_read(alloc, folder, row) {
+            return false;
+        }
     }
-    Ok(())
+    true
+}
+
+#[test]
+fn a_folder_in_memory_reads_whole_files(rt: HostRuntime) {
+    let mut folder = two_files(rt.alloc()).expect(&rt, "memory");
+    assert!(rt; are_files_read(rt.alloc(), &mut folder));
 }
 
 /// A device that always fails.
@@ -183,15 +205,14 @@ impl Write for Broken {
 
 #[test]
 fn the_real_source_reads_from_memory(rt: HostRuntime) {
-    let mut buffer = [0; 4];
-    let given = read_into(&mut RealSource::new(b"ab".as_slice()), &mut buffer, 4);
-    assert!(rt; given == Ok(2) && buffer.as_slice() == b"ab\0\0".as_slice());
+    let mut source = RealSource::new(b"ab".as_slice());
+    assert!(rt; is_read(&mut source, &mut [0; 4], &READS[0]));
 }
 
 #[test]
 fn the_real_source_fails_with_its_device(rt: HostRuntime) {
     let given = read_into(&mut RealSource::new(Broken), &mut [0; 4], 4);
-    assert!(rt; given == Err(Failed));
+    assert!(rt; given.is_err());
 }
 
 /// The calls on a sink whose device always fails.
@@ -210,10 +231,7 @@ fn the_real_sink_writes_into_memory(rt: HostRuntime) {
 
 #[test]
 fn the_real_sink_fails_with_its_device(rt: HostRuntime) {
-    let mut broken = RealSink::new(Broken);
-    for (row, call) in BROKEN_SINK.iter().enumerate() {
-        assert!(rt; has_answer(&mut broken, call), "call {row}");
-    }
+    assert!(rt; has_answers(&mut RealSink::new(Broken), &BROKEN_SINK));
 }
 
 /// The paths of some files, and the answer when ten bytes of each are asked for.
@@ -224,11 +242,27 @@ const PATHS: [(&str, Result<(), FolderAnswer>); 4] = [
     ("/", Err(FolderAnswer::Failed)),
 ];
 
+/// Whether a folder answers for a path as is told.
+fn answers(
+    alloc: Global,
+    folder: &mut impl Folder,
+    path: &str,
+    wanted: &Result<(), FolderAnswer>,
+) -> bool {
+    folder.read_whole(path, &mut Vec::new(alloc), 10) == *wanted
+}
+
+/// Whether a folder answers for each path as is told.
+fn answers_all(alloc: Global, folder: &mut impl Folder) -> bool {
+    for (path, wanted) in PATHS.iter() {
+        if !answers(alloc, folder, path, wanted) {
+            return false;
+        }
+    }
+    true
+}
+
 #[test]
 fn the_real_folder_reads_files_of_the_system(rt: HostRuntime) {
-    let mut folder = RealFolder::new(&rt);
-    for (name, wanted) in &PATHS {
-        let (answer, _) = read_file(rt.alloc(), &mut folder, name, 10);
-        assert!(rt; answer == *wanted, "{name}");
-    }
+    assert!(rt; answers_all(rt.alloc(), &mut RealFolder::new(&rt)));
 }

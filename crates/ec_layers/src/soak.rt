@@ -1,8 +1,8 @@
 //! Generated lines beside those that were made apart from the program, and counted replies.
-use ec_outside::{Failed, MemSink, Sink, Source, write_all};
+use ec_outside::{MemSink, Sink, Source, write_all};
 use ec_soak::{Counts, SoakSource, TallySink, write_summary};
 use std::alloc::Global;
-use std::test::Fail;
+use std::process::Abort;
 
 /// The lines of seed 0, made apart from the program.
 const SEED_0: &[u8] = b"\
@@ -41,24 +41,25 @@ holds at(p9,h4) 82178\n\
 assert e6 98641 push(p1,l51)\n";
 
 /// Reads the next piece of a source, and says how long it is.
-fn read_piece(source: &mut impl Source, buffer: &mut [u8], into: &mut Vec<u8>) -> Option<usize> {
-    let count = source.read(buffer).ok()?;
-    into.extend_from_slice(&buffer[..count]).ok()?;
-    Some(count)
+fn read_piece(
+    rt: &impl Abort,
+    source: &mut impl Source,
+    buffer: &mut [u8],
+    into: &mut Vec<u8>,
+) -> usize {
+    let count = source.read(&mut *buffer).ok().expect(rt, "a read");
+    into.extend_from_slice(&buffer[..count])
+        .expect(rt, "memory");
+    count
 }
 
-/// All lines of a seed, read to their end into a buffer of this length.
-fn all_lines(alloc: Global, lines: u32, seed: u64, size: usize) -> Option<Vec<u8>> {
-    let mut source = SoakSource::new(lines, seed);
-    let mut buffer = [0; 4096];
-    let size = size.min(buffer.len());
-    let mut bytes = Vec::new(alloc);
+/// Reads a source to its end.
+fn read_all(rt: &impl Abort, source: &mut impl Source, buffer: &mut [u8], into: &mut Vec<u8>) {
     for _ in 0..100_000u32 {
-        if read_piece(&mut source, &mut buffer[..size], &mut bytes)? == 0 {
-            break;
+        if read_piece(rt, source, &mut *buffer, into) == 0 {
+            return;
         }
     }
-    Some(bytes)
 }
 
 /// How many lines of which seed, and their text.
@@ -68,17 +69,40 @@ const LOADS: [(u32, u64, &[u8]); 3] = [
     (0, 5, b""),
 ];
 
+/// Whether all lines of a seed, read to their end into a buffer of this length, are these.
+fn has_lines(
+    rt: &impl Abort,
+    alloc: Global,
+    (lines, seed): (u32, u64),
+    size: usize,
+    text: &[u8],
+) -> bool {
+    let size = size.min(4096);
+    let mut bytes = Vec::new(alloc);
+    read_all(
+        rt,
+        &mut SoakSource::new(lines, seed),
+        &mut [0; 4096][..size],
+        &mut bytes,
+    );
+    bytes.as_slice() == text
+}
+
+/// Sees that each seed gives its lines, read into a buffer of this length.
+fn check_loads(rt: &impl Abort, alloc: Global, size: usize) {
+    for (lines, seed, text) in LOADS.iter() {
+        assert!(rt;
+            has_lines(rt, alloc, (*lines, *seed), size, text),
+            "{seed} in {size}"
+        );
+    }
+}
+
 #[test]
 fn a_seed_gives_its_lines_in_pieces_of_any_size(rt: HostRuntime) {
-    for size in [1, 7, 4096] {
-        for (lines, seed, text) in &LOADS {
-            let bytes = all_lines(rt.alloc(), *lines, *seed, size);
-            assert!(rt;
-                bytes.is_some_and(|bytes| bytes.as_slice() == *text),
-                "seed {seed} in pieces of {size}"
-            );
-        }
-    }
+    check_loads(&rt, rt.alloc(), 1);
+    check_loads(&rt, rt.alloc(), 7);
+    check_loads(&rt, rt.alloc(), 4096);
 }
 
 /// Replies, the last without a line end.
@@ -95,22 +119,25 @@ const COUNTED: Counts = Counts {
     memory: 1,
 };
 
-/// Writes bytes in pieces of this size, and hands on all of them.
-fn write_pieces(sink: &mut impl Sink, bytes: &[u8], size: usize) -> Result<(), Failed> {
+/// Whether all bytes are handed on, written in pieces of this size.
+fn are_written(sink: &mut impl Sink, bytes: &[u8], size: usize) -> bool {
     for piece in bytes.chunks(size.max(1)) {
-        write_all(sink, piece)?;
+        if write_all(sink, piece).is_err() {
+            return false;
+        }
     }
-    sink.flush()
+    sink.flush().is_ok()
+}
+
+/// Whether the replies are counted, written in pieces of this size.
+fn are_counted(size: usize) -> bool {
+    let mut sink = TallySink::new();
+    are_written(&mut sink, REPLIES, size) && sink.counts() == COUNTED
 }
 
 #[test]
-fn replies_are_counted_in_pieces_of_any_size(rt: HostRuntime) -> Result<(), Fail> {
-    for size in [1, 7, 4096] {
-        let mut sink = TallySink::new();
-        write_pieces(&mut sink, REPLIES, size)?;
-        assert!(rt; sink.counts() == COUNTED, "pieces of {size}");
-    }
-    Ok(())
+fn replies_are_counted_in_pieces_of_any_size(rt: HostRuntime) {
+    assert!(rt; are_counted(1) && are_counted(7) && are_counted(4096));
 }
 
 /// Counts whose sum is a long line.
@@ -123,19 +150,17 @@ const LARGE: Counts = Counts {
     memory: 6,
 };
 
-/// The line that sums up these counts.
-fn summed_up(alloc: Global, lines: u32, counts: &Counts) -> Result<MemSink, Fail> {
-    let mut sink = MemSink::new(alloc, 160, 7, &[], &[])?;
-    write_summary(lines, counts, &mut sink)?;
-    Ok(sink)
+/// The line that sums them up.
+const SUMMARY: &[u8] =
+    b"soak lines 4294967295 ok 18446744073709551615 yes 2 no 30 refused 400 bytes 5000\n";
+
+/// Whether a sink takes the line.
+fn is_summed_up(sink: &mut MemSink) -> bool {
+    write_summary(4_294_967_295, &LARGE, &mut *sink).is_ok() && sink.bytes() == SUMMARY
 }
 
 #[test]
-fn a_run_is_summed_up_in_a_line(rt: HostRuntime) -> Result<(), Fail> {
-    let sink = summed_up(rt.alloc(), 4_294_967_295, &LARGE)?;
-    assert!(rt;
-        sink.bytes()
-            == b"soak lines 4294967295 ok 18446744073709551615 yes 2 no 30 refused 400 bytes 5000\n".as_slice()
-    );
-    Ok(())
+fn a_run_is_summed_up_in_a_line(rt: HostRuntime) {
+    let mut sink = MemSink::new(rt.alloc(), 160, 7, &[], &[]).expect(&rt, "memory");
+    assert!(rt; is_summed_up(&mut sink));
 }

@@ -1,6 +1,7 @@
 //! What no contract says of the types of events and steps.
 ghost use Rattle.std.specs.Prelude.{◌≡◌, ◌<◌};
 
+use crate::terms::debugs;
 use ec_axioms::{Seen, Steps};
 use std::marker::Brand;
 use std::sync::ledger::{Blank, Ledger};
@@ -20,7 +21,7 @@ fn a_counter_is_made_and_counts() {
     two_steps::<Brand>(Blank::new(1));
 }
 
-const COUNTS: Seen = Seen {
+pub const COUNTS: Seen = Seen {
     seen: 12,
     on: u64::MAX,
     off: 0,
@@ -29,6 +30,6 @@ const COUNTS: Seen = Seen {
 
 #[test]
 fn counts_are_shown_by_their_names(rt: HostRuntime) {
-    let text = format!(in rt.alloc(); "{COUNTS:?}").expect(&rt, "memory");
-    assert!(rt; text.as_str() == "Seen { seen: 12, on: 18446744073709551615, off: 0, props: 13 }");
+    let wanted = "Seen { seen: 12, on: 18446744073709551615, off: 0, props: 13 }";
+    assert!(rt; debugs(rt.alloc(), &COUNTS, wanted));
 }

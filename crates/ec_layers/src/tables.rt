@@ -22,24 +22,34 @@ fn add(bytes: &mut Vec<u8>, text: &str) -> Result<(), NoMemory> {
     Ok(())
 }
 
+/// How often a text of a table stands in the bytes, and the text: `12 text` is the text twelve times.
+fn repeated(piece: &str) -> (u32, &str) {
+    let Some((count, text)) = piece.split_once(' ') else {
+        return (1, piece);
+    };
+    match count.parse::<u32>() {
+        Ok(count) => (count, text),
+        Err(_) => (1, piece),
+    }
+}
+
+/// Adds a piece of a text, as often as it says if it stood in braces.
+fn add_piece(bytes: &mut Vec<u8>, in_braces: bool, piece: &str) -> Result<(), NoMemory> {
+    if !in_braces {
+        return add(bytes, piece);
+    }
+    let (count, text) = repeated(piece);
+    for _ in 0..count {
+        add(bytes, text)?;
+    }
+    Ok(())
+}
+
 /// The bytes that a text of a table stands for: `|` is a line end, and `{12 text}` is the text twelve times.
 pub fn bytes_of(alloc: Global, text: &str) -> Result<Vec<u8>, NoMemory> {
     let mut bytes = Vec::new(alloc);
     for (place, piece) in text.split(['{', '}']).enumerate() {
-        let (count, repeated) = piece.split_once(' ').unwrap_or(("1", piece));
-        let count = if place % 2 == 0 {
-            None
-        } else {
-            count.parse::<u32>().ok()
-        };
-        match count {
-            Some(count) => {
-                for _ in 0..count {
-                    add(&mut bytes, repeated)?;
-                }
-            }
-            None => add(&mut bytes, piece)?,
-        }
+        add_piece(&mut bytes, place % 2 == 1, piece)?;
     }
     Ok(bytes)
 }

@@ -2,7 +2,7 @@
 ghost use Rattle.std.specs.Prelude.{IsTrue};
 ghost use Rattle.ec_terms.specs.Term.{ground_of, names_are_names};
 
-use ec_terms::{ArgRef, ArgRefs, GroundRef, Kind, Name, NoMemory, PropId, Slot, read_ground, text};
+use ec_terms::{ArgRef, GroundRef, Kind, Name, NoMemory, PropId, Slot, read_ground, text};
 use std::alloc::Global;
 use std::fmt::{Debug, Display};
 use std::process::Abort;
@@ -17,12 +17,12 @@ fn term_of<'a>(rt: &impl Abort, spelt: &'a str) -> GroundRef<'a>
 }
 
 /// The name that bytes are.
-fn name(rt: &impl Abort, bytes: &[u8]) -> Name {
+pub fn name(rt: &impl Abort, bytes: &[u8]) -> Name {
     Name::from_bytes(bytes).expect(rt, "a name")
 }
 
 /// Whether a value is displayed so.
-fn displays(alloc: Global, value: &impl Display, wanted: &str) -> bool {
+pub fn displays(alloc: Global, value: &impl Display, wanted: &str) -> bool {
     match format!(in alloc; "{value}") {
         Ok(shown) => shown.as_str() == wanted,
         Err(_) => false,
@@ -30,7 +30,7 @@ fn displays(alloc: Global, value: &impl Display, wanted: &str) -> bool {
 }
 
 /// Whether a value is shown so for a developer.
-fn debugs(alloc: Global, value: &impl Debug, wanted: &str) -> bool {
+pub fn debugs(alloc: Global, value: &impl Debug, wanted: &str) -> bool {
     match format!(in alloc; "{value:?}") {
         Ok(shown) => shown.as_str() == wanted,
         Err(_) => false,
@@ -42,27 +42,24 @@ fn is_shown(alloc: Global, value: &(impl Debug + Display), displayed: &str, show
     displays(alloc, value, displayed) && debugs(alloc, value, shown)
 }
 
+/// Whether a name, a number and the answer that memory ran out have their printed forms.
+fn are_shown(alloc: Global, lamp: &Name) -> bool {
+    is_shown(alloc, lamp, "lamp", "\"lamp\"")
+        && displays(alloc, &NoMemory, "out of memory")
+        && debugs(alloc, &PropId(3), "PropId(3)")
+        && debugs(alloc, &Slot(4), "Slot(4)")
+        && debugs(alloc, &Kind::Initiates, "Initiates")
+}
+
 #[test]
 fn each_printed_form(rt: HostRuntime) {
-    let alloc = rt.alloc();
-    assert!(rt; is_shown(alloc, &name(&rt, b"lamp"), "lamp", "\"lamp\""));
-    assert!(rt; displays(alloc, &NoMemory, "out of memory"));
-    assert!(rt; debugs(alloc, &PropId(3), "PropId(3)") && debugs(alloc, &Slot(4), "Slot(4)"));
-    assert!(rt; debugs(alloc, &Kind::Initiates, "Initiates"));
+    assert!(rt; are_shown(rt.alloc(), &name(&rt, b"lamp")));
 }
 
 #[test]
 fn the_printed_form_of_a_term(rt: HostRuntime) {
     let text = text(&term_of(&rt, "lamp(-5)"));
     assert!(rt; is_shown(rt.alloc(), &text, "lamp(-5)", "\"lamp(-5)\""));
-}
-
-/// The term `on(lamp,-3)`.
-fn shown() -> GroundRef<'static> {
-    let mut args = ArgRefs::new();
-    args.push(ArgRef::Word(b"lamp"));
-    args.push(ArgRef::Int(-3));
-    GroundRef { name: b"on", args }
 }
 
 /// Whether a term has this name and these arguments.
@@ -72,6 +69,6 @@ fn has_parts(term: &GroundRef<'_>, name: &[u8], args: &[ArgRef<'_>]) -> bool {
 
 #[test]
 fn terms_are_copied(rt: HostRuntime) {
-    let copy = shown().copied();
+    let copy = term_of(&rt, "on(lamp,-3)").copied();
     assert!(rt; has_parts(&copy, b"on", &[ArgRef::Word(b"lamp"), ArgRef::Int(-3)]));
 }

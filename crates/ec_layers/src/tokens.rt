@@ -1,6 +1,6 @@
 //! Texts, and their tokens.
 use crate::tables::{bytes_of, row_of};
-use ec_theory::{MOST_BYTES, Place, TokenFault, TokenKind, tokens};
+use ec_theory::{MOST_BYTES, Place, Token, TokenFault, TokenKind, TokenList, tokens};
 use std::alloc::{AllocError, Global};
 use std::process::Abort;
 
@@ -26,32 +26,38 @@ fn fault_told(alloc: Global, fault: TokenFault) -> Result<String, AllocError> {
     format!(in alloc; "{name} {line}:{col}")
 }
 
-/// The tokens of a text with kinds, places and lengths, and its end; or its fault.
-fn told(alloc: Global, bytes: &[u8]) -> Result<String, AllocError> {
-    if bytes.len() > MOST_BYTES {
-        return format!(in alloc; "too long");
-    }
-    let list = match tokens(alloc, bytes) {
-        Ok(list) => list,
-        Err(fault) => return fault_told(alloc, fault),
-    };
+/// Adds a token, with its kind, its place and its length.
+fn tell(rt: &impl Abort, lines: &mut String, token: &Token<'_>) {
+    let kind = letter(token.kind);
+    let Place { line, col } = token.place;
+    let length = token.text.len();
+    write!(lines, "{kind}{line}:{col}+{length} ").expect(rt, "memory");
+}
+
+/// All tokens, and the place of their end.
+fn all_told(rt: &impl Abort, alloc: Global, list: &TokenList<'_>) -> String {
     let mut lines = String::new(alloc);
     for token in list.as_slice() {
-        let kind = letter(token.kind);
-        let Place { line, col } = token.place;
-        let length = token.text.len();
-        write!(lines, "{kind}{line}:{col}+{length} ")?;
+        tell(rt, &mut lines, token);
     }
     let Place { line, col } = list.end();
-    write!(lines, "end {line}:{col}")?;
-    Ok(lines)
+    write!(lines, "end {line}:{col}").expect(rt, "memory");
+    lines
+}
+
+/// The tokens of a text and its end, or its fault.
+fn told(rt: &impl Abort, alloc: Global, bytes: &[u8]) -> String {
+    assert!(rt; bytes.len() <= MOST_BYTES);
+    match tokens(alloc, bytes) {
+        Ok(list) => all_told(rt, alloc, &list),
+        Err(fault) => fault_told(alloc, fault).expect(rt, "memory"),
+    }
 }
 
 /// Whether a text has what stands behind the arrow of its row.
 fn is_told(rt: &impl Abort, alloc: Global, spelt: &str, wanted: &str) -> bool {
     let text = bytes_of(alloc, spelt).expect(rt, "memory");
-    let answer = told(alloc, &text).expect(rt, "memory");
-    answer.as_str() == wanted
+    told(rt, alloc, &text).as_str() == wanted
 }
 
 /// Each text, and its tokens.
