@@ -63,9 +63,9 @@ fn put(groups: &mut Groups, alloc: Global, key: &[u8], p: PropId) -> Result<(), 
     match search(&groups.records, &groups.slots, key) {
         Ok(slot) => put_under(&mut groups.records, slot, p),
         Err(place) => {
-            let group = group_of(alloc, key, p)?;
             groups.records.reserve(1)?;
             groups.slots.reserve(1)?;
+            let group = group_of(alloc, key, p)?;
             let slot = groups.records.insert_reserved(group);
             groups.slots.insert(place, hash_of(key), slot);
             Ok(())

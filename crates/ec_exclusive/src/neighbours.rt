@@ -122,10 +122,10 @@ impl Neighbours {
         ensures err { OnErr result (self.new ≡ self.old) }
     {
         let term = props.ground(p);
-        let form = form_of(self.alloc, theory, &term)?;
         let neighbours = find_neighbours(&self.groups, theory, props, &term, self.alloc)?;
         make_room(&mut self.rows, p, neighbours.as_slice())?;
         self.forms.place(p)?;
+        let form = form_of(self.alloc, theory, &term)?;
         enter(&mut self.groups, self.alloc, form.keys.as_slice(), p)?;
         add_row(&mut self.rows, p, Row { neighbours });
         self.forms.set(p, form);

@@ -98,8 +98,7 @@ pub(crate) fn make_room(rows: &mut ByNumber<Row>, p: PropId, own: &[PropId]) -> 
     ensures room { OnOk result ((q : PropId) → IsTrue (has_number q.0 own.now) → HasRoom (kept_at q.0 rows.new)) }
 {
     rows.place(p)?;
-    reserve_each(rows, own)?;
-    Ok(())
+    reserve_each(rows, own)
 }
 
 /// Gives `p` a row, and puts it among the neighbours of each of its own. It takes no memory.

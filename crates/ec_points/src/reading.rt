@@ -14,7 +14,7 @@ const FEW: usize = 8;
 
 /// What the marks of a property say at a time: the mark there, if there is one; whether the property is current there; the
 /// first mark behind; and how many marks stand before the time.
-#[derive(Clone, Copy, Debug, PartialEq, Eq)]
+#[derive(Clone, Copy)]
 pub struct Reading<T> {
     pub mark: Option<Mark<T>>,
     pub is_current: bool,

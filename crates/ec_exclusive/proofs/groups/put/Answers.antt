@@ -45,9 +45,9 @@ invariant_of-groups-in-Err c =
     AreFoundByKey-opened (group_at c.groups.inside.records) c.groups.inside.slots.items c.groups.invariant (group_at c.insert_reserved-slot.new.self) c.insert_reserved-slot.result (others d)
     c.args.key.now c.insert.new.self.items c.in-Err.place c.in-Err.ensures.within c.in-Err.ensures.cut c.in-Err.ensures.absent (free d) c.args.p (there d) (inserted d)
 
-pub returns-in_ok-reserve-in-Err-2-clause-ok : goal.returns-in_ok-reserve-in-Err-2-clause-ok
-returns-in_ok-reserve-in-Err-2-clause-ok c =
-    let d = (goal.at.returns-in_ok-reserve-in-Err-2-clause-ok c).After-insert in λ k n.
+pub returns-in_ok-group-in-Err-clause-ok : goal.returns-in_ok-group-in-Err-clause-ok
+returns-in_ok-group-in-Err-clause-ok c =
+    let d = (goal.at.returns-in_ok-group-in-Err-clause-ok c).After-insert in λ k n.
     in_group-opened (group_at c.groups.inside.records) c.groups.inside.slots.items c.groups.invariant (group_at c.insert_reserved-slot.new.self) c.insert_reserved-slot.result (others d)
     c.args.key.now c.insert.new.self.items c.in-Err.place c.in-Err.ensures.within c.in-Err.ensures.cut c.in-Err.ensures.absent (free d) c.args.p (there d) (inserted d) k n
     ∙ ap (λ gs. cond (bytes_eq c.args.key.now k) ((c.args.p.0 == n) || in_group gs k n) (in_group gs k n)) c.groups.view_is

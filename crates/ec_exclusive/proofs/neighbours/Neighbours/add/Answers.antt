@@ -49,6 +49,11 @@ returns-in_err-place-clause-err c =
     on_err c.from_residual-in_err-place.result
     (view-same c.self.inside.rows c.make_room.new.rows c.self.inside.forms c.place.new.self c.in_ok-make_room.ensures.same c.place.ensures.same ∙ c.self.view_is)
 
+pub returns-in_err-form-clause-err : goal.returns-in_err-form-clause-err
+returns-in_err-form-clause-err c =
+    on_err c.from_residual-in_err-form.result
+    (view-same c.self.inside.rows c.make_room.new.rows c.self.inside.forms c.place.new.self c.in_ok-make_room.ensures.same c.place.ensures.same ∙ c.self.view_is)
+
 pub returns-in_err-enter-clause-err : goal.returns-in_err-enter-clause-err
 returns-in_err-enter-clause-err c =
     on_err c.from_residual-in_err-enter.result
