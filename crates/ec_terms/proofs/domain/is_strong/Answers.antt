@@ -7,3 +7,6 @@ use Rattle.ec_terms.proofs.domain.is_strong.Goals as goal
 pub returns-then-declaration-arity : goal.returns-then-declaration-arity
 unfolding is_strong
 returns-then-declaration-arity c = grind (arith, common_steps)
+
+pub loop-declaration-preserved : goal.loop-declaration-preserved
+loop-declaration-preserved c = grind (arith, common_steps)

@@ -1,4 +1,5 @@
 use Rattle.std.proofs.Common.{◌≡◌, ◌<◌, ◌≤◌, ◌∙◌, ap, length, [], ◌∷◌, get_or, filter_map, arith, length-append}
+use Rattle.std.proofs.lemmas.Grind.{common_steps}
 use Rattle.std.proofs.lemmas.List.{take_all}
 use Rattle.ec_terms.specs.Binding.{values_of}
 use Rattle.ec_terms.specs.Term.{ground_of, names_are_names}
@@ -48,3 +49,9 @@ unfolding names_are_names
 returns-clause-named c =
     let bytes = c.as_bytes.ensures.bytes in
     and_from _ _ (rw bytes c.as_bytes.ensures.name) c.loop-place.invariant.named
+
+pub place_value-requires : goal.place_value-requires
+place_value-requires c = grind (arith, common_steps)
+
+pub push-requires : goal.push-requires
+push-requires c = grind (arith, common_steps)

@@ -1,4 +1,5 @@
 use Rattle.std.proofs.Common.{◌≡◌, ℕ, List, ◌<◌, ◌≤◌, ◌∙◌, ap, sym, true, length, get_or, map, refl, arith}
+use Rattle.std.proofs.lemmas.Grind.{common_steps}
 use Rattle.std.specs.Prelude.{pos}
 use Rattle.std.proofs.lemmas.List.{length-map}
 use Rattle.ec_terms.specs.declared.ground.ArgRef.TheVariants.{Int as IntRef}
@@ -71,3 +72,9 @@ returns-clause-extends c = (found c).extends
 
 pub returns-clause-bound : goal.returns-clause-bound
 returns-clause-bound c = (found c).bound
+
+pub place_meets-requires-clause-small : goal.place_meets-requires-clause-small
+place_meets-requires-clause-small c = grind (arith, common_steps)
+
+pub bounds-args-i : goal.bounds-args-i
+bounds-args-i c = grind (arith, common_steps)

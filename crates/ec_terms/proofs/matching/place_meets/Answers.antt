@@ -1,4 +1,5 @@
-use Rattle.std.proofs.Common.{◌∙◌}
+use Rattle.std.proofs.Common.{◌∙◌, arith}
+use Rattle.std.proofs.lemmas.Grind.{common_steps}
 use Rattle.ec_terms.specs.Term.{arg_of}
 use Rattle.ec_terms.specs.Binding.{values_of}
 use Rattle.ec_terms.proofs.MatchingLemmas.{arg_ref_eq, place_fits-value, place_fits-taken, place_fits-any, place_fits-fixed}
@@ -20,3 +21,6 @@ pub returns-in-Fixed-clause-fits : goal.returns-in-Fixed-clause-fits
 returns-in-Fixed-clause-fits c =
     c.eq-in-Fixed.ensures ∙ arg_ref_eq c.borrow.result c.args.arg
     ∙ place_fits-fixed (values_of c.args.binding.now) c.args.place.now c.in-Fixed.fixed (arg_of c.borrow.result) (arg_of c.args.arg) c.in-Fixed.is c.borrow.ensures.same
+
+pub set-requires-clause-place : goal.set-requires-clause-place
+set-requires-clause-place c = grind (arith, common_steps)

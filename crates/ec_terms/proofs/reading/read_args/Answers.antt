@@ -1,5 +1,6 @@
 -- Each argument is one piece: a `,` goes on to the next, a `)` ends the last, and anything else spells no arguments.
 use Rattle.std.proofs.Common.{◌≤◌, ◌<◌, ◌+◌, List, ◌∙◌, Some, ap, arith, rules, length, map, refl, subst, sym}
+use Rattle.std.proofs.lemmas.Grind.{common_steps}
 use Rattle.std.proofs.lemmas.List.{length-map}
 use Rattle.ec_terms.specs.declared.limits.TheConstants.{MOST_ARGS}
 use Rattle.ec_terms.specs.declared.ground.Arg.{Arg}
@@ -51,3 +52,30 @@ pub returns-clause-exact : goal.returns-clause-exact
 returns-clause-exact c =
     let full : MOST_ARGS ≤ length (map arg_of c.loop-args.args) = rw length-map (omega arith) in
     read_full c.args.bytes.now _ _ c.loop-args.invariant.so_far full
+
+pub returns-in_err-mark-clause-names : goal.returns-in_err-mark-clause-names
+returns-in_err-mark-clause-names c = grind (arith, common_steps)
+
+pub returns-in_err-arg-clause-names : goal.returns-in_err-arg-clause-names
+returns-in_err-arg-clause-names c = grind (arith, common_steps)
+
+pub loop-args-smaller : goal.loop-args-smaller
+loop-args-smaller c = grind (arith, common_steps)
+
+pub returns-in_err-mark-clause-within : goal.returns-in_err-mark-clause-within
+returns-in_err-mark-clause-within c = grind (arith, common_steps)
+
+pub returns-then-mark-eq41-clause-names : goal.returns-then-mark-eq41-clause-names
+returns-then-mark-eq41-clause-names c = grind (arith, common_steps)
+
+pub returns-then-mark-eq41-clause-within : goal.returns-then-mark-eq41-clause-within
+returns-then-mark-eq41-clause-within c = grind (arith, common_steps)
+
+pub overflow_add-result : goal.overflow_add-result
+overflow_add-result c = grind (arith, common_steps)
+
+pub returns-in_err-arg-clause-within : goal.returns-in_err-arg-clause-within
+returns-in_err-arg-clause-within c = grind (arith, common_steps)
+
+pub overflow_add-at-in-loop-args : goal.overflow_add-at-in-loop-args
+overflow_add-at-in-loop-args c = grind (arith, common_steps)

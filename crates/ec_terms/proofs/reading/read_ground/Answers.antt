@@ -1,5 +1,6 @@
 -- The name in front, and the arguments where a `(` follows it.
 use Rattle.std.proofs.Common.{◌∙◌, [], ap, arith, length, refl, sym}
+use Rattle.std.proofs.lemmas.Grind.{common_steps}
 use Rattle.ec_terms.proofs.Terms.{term_front-no_name, with_args, read_plain, read_parts, rest_of_rest, length-rest_of_rest, names-from}
 use Rattle.ec_terms.proofs.reading.read_ground.Goals as goal
 
@@ -36,3 +37,21 @@ returns-else-begins_open-clause-exact c =
 
 pub returns-else-begins_open-clause-names : goal.returns-else-begins_open-clause-names
 returns-else-begins_open-clause-names c = rw c.new-args.ensures (names-from _ [] c.in_ok-name.ensures.name refl)
+
+pub returns-in_err-args-clause-within : goal.returns-in_err-args-clause-within
+returns-in_err-args-clause-within c = grind (arith, common_steps)
+
+pub returns-else-begins_open-clause-within : goal.returns-else-begins_open-clause-within
+returns-else-begins_open-clause-within c = grind (arith, common_steps)
+
+pub overflow_add-result : goal.overflow_add-result
+overflow_add-result c = grind (arith, common_steps)
+
+pub overflow_add-result-then-begins_open : goal.overflow_add-result-then-begins_open
+overflow_add-result-then-begins_open c = grind (arith, common_steps)
+
+pub slice_bounds-read_args-start : goal.slice_bounds-read_args-start
+slice_bounds-read_args-start c = grind (arith, common_steps)
+
+pub returns-in_err-args-clause-names : goal.returns-in_err-args-clause-names
+returns-in_err-args-clause-names c = grind (arith, common_steps)

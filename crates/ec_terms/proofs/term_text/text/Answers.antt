@@ -1,5 +1,6 @@
 -- Each argument comes behind its mark, and the `)` behind the last.
 use Rattle.std.proofs.Common.{◌≤◌, ℕ, true, ◌≡◌, ◌++◌, ◌∷◌, ◌∙◌, ◌+◌, pos, refl, length-append, [], List, ap, sym, subst, arith, length, map, take, get_or}
+use Rattle.std.proofs.lemmas.Grind.{common_steps}
 use Rattle.std.proofs.lemmas.List.{take_all, length-map}
 use Rattle.std.specs.List.{list_all}
 use Rattle.ec_terms.specs.declared.limits.TheConstants.{MOST_ARGS}
@@ -82,3 +83,18 @@ returns-then-mark-eq44-clause-spells c = ap term_value (returns-then-mark-eq44-c
 
 pub returns-else-mark-eq44-clause-spells : goal.returns-else-mark-eq44-clause-spells
 returns-else-mark-eq44-clause-spells c = ap term_value (returns-else-mark-eq44-clause-exact c) ∙ read_back _ (returns-else-mark-eq44-clause-term c)
+
+pub push-requires-clause-ascii : goal.push-requires-clause-ascii
+push-requires-clause-ascii c = grind (arith, common_steps)
+
+pub returns-then-mark-eq44-clause-short : goal.returns-then-mark-eq44-clause-short
+returns-then-mark-eq44-clause-short c = grind (arith, common_steps)
+
+pub push_arg-requires-clause-room : goal.push_arg-requires-clause-room
+push_arg-requires-clause-room c = grind (arith, common_steps)
+
+pub push-requires-clause-room : goal.push-requires-clause-room
+push-requires-clause-room c = grind (arith, common_steps)
+
+pub push-requires-then-mark-eq44-clause-room : goal.push-requires-then-mark-eq44-clause-room
+push-requires-then-mark-eq44-clause-room c = grind (arith, common_steps)

@@ -1,5 +1,6 @@
 -- A word is a name, and a name has at most 64 bytes, all of them ASCII.
 use Rattle.std.proofs.Common.{◌++◌, ◌∙◌, SFits, w64, rules, ap, sym, arith, length, length-append}
+use Rattle.std.proofs.lemmas.Grind.{common_steps}
 use Rattle.std.proofs.lemmas.Int.{to_z-of_z}
 use Rattle.ec_moment.specs.Number.{number_text}
 use Rattle.ec_terms.specs.Term.{arg_of, arg_text}
@@ -40,3 +41,9 @@ returns-in-Int-clause-size c =
 
 pub returns-in-Word-clause-size : goal.returns-in-Word-clause-size
 returns-in-Word-clause-size c = ap (λ a. has_size (arg_of a)) c.in-Word.is ∙ has_size-word c.in-Word.word.now
+
+pub returns-in-Int-clause-short : goal.returns-in-Int-clause-short
+returns-in-Int-clause-short c = grind (arith, common_steps)
+
+pub push_bytes-requires-clause-ascii : goal.push_bytes-requires-clause-ascii
+push_bytes-requires-clause-ascii c = grind (arith, common_steps)

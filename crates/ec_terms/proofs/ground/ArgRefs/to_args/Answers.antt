@@ -1,0 +1,10 @@
+-- What follows from the calls and the tests before it.
+use Rattle.std.proofs.Common.{arith}
+use Rattle.std.proofs.lemmas.Grind.{common_steps}
+use Rattle.ec_terms.proofs.ground.ArgRefs.to_args.Goals as goal
+
+pub loop-arg-preserved : goal.loop-arg-preserved
+loop-arg-preserved c = grind (arith, common_steps)
+
+pub returns : goal.returns
+returns c = grind (arith, common_steps)
