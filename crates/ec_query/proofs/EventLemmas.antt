@@ -8,7 +8,7 @@ use Rattle.ec_terms.specs.declared.ids.Slot.{Slot}
 use Rattle.ec_axioms.specs.declared.event.Event.{Event}
 use Rattle.ec_axioms.specs.Calculus.{PlainEvent}
 use Rattle.ec_axioms.specs.QueryTexts.{Canon, counted_text, event_text, events_reply}
-use Rattle.ec_events.specs.Store.{Kept, history_of}
+use Rattle.ec_store.specs.Store.{Kept, history_of}
 
 -- what the next event is, and where the walk goes on behind it
 pub record IsNext {T : Type 0} (events : List (Kept T)) (i : ℕ) (event : Event T) (next : ℕ) : Type 0 where

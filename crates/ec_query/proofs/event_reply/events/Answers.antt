@@ -3,7 +3,7 @@ use Rattle.std.proofs.Common.{◌+◌, ◌++◌, drop, map, refl, sym, ap, ap₂
 use Rattle.std.specs.Prelude.{decimal}
 use Rattle.ec_outside.specs.Streams.{Appended}
 use Rattle.ec_axioms.specs.QueryTexts.{counted_text, event_text}
-use Rattle.ec_events.specs.Store.{history_of, plain_of, event_at}
+use Rattle.ec_store.specs.Store.{history_of, plain_of, event_at}
 use Rattle.ec_query.specs.Members.{members_text, kept_text}
 use Rattle.ec_query.proofs.EventLemmas.{IsNext, IsNext-found, end-found, events_reply-of}
 use Rattle.ec_query.proofs.WritingLemmas.{IsLeft-start, IsLeft-next, IsLeft-part, IsLeft-end, OnErr-anyway, OnErr-renamed, counted_text-map, members_text-next, members_text-end}
