@@ -22,7 +22,7 @@ use Rattle.ec_rows.proofs.OrderedLemmas.{ascending-first, ascending-rest, is_asc
 use Rattle.ec_rows.proofs.TimedLemmas.{IsOrder-by_time}
 use Rattle.ec_points.specs.Changes.{Change, ChangesAreMade, are_all_apart, change_at, changed, count_of, has_change, made, without_mark}
 use Rattle.ec_points.proofs.MadeChanges.{find-never}
-use Rattle.ec_props.specs.Table.{KeptProp, prop_at}
+use Rattle.ec_store.specs.Table.{KeptProp, prop_at}
 use Rattle.ec_delta.specs.Ready.{mark_made}
 use Rattle.ec_apply.proofs.PlainRows.{AreInOrder, AreInOrder-marks_of, from_marks_of, if_marked, plain_at, plain_rows-ext}
 

@@ -15,7 +15,7 @@ use Rattle.ec_changes.specs.LiveLaws.{ListsInitials}
 use Rattle.ec_changes.proofs.DistinctLists.{IsDistinct-from_pairwise}
 use Rattle.ec_changes.proofs.OtherIntervals.{OtherIntervalsDiffer-law, PropertiesInAnyList-law}
 use Rattle.ec_rows.proofs.OrderedLemmas.{ascending-first, ascending-rest}
-use Rattle.ec_props.specs.Table.{KeptProp, term_at}
+use Rattle.ec_store.specs.Table.{KeptProp, term_at}
 use Rattle.ec_parts.proofs.LinksByNumber.{IsOneToOne, same_number}
 use Rattle.ec_delta.specs.declared.touches.Touched.{Touched}
 use Rattle.ec_delta.specs.Touched.{Row, are_once, matters_at, touched_at}

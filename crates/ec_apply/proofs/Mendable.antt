@@ -18,7 +18,7 @@ use Rattle.ec_axioms.proofs.HistoryLaws.{SpansAreTheIntervals-law}
 use Rattle.ec_rows.specs.declared.span.End.{End}
 use Rattle.ec_rows.specs.Marks.{IsMarkRow, mark_at as row_mark_at}
 use Rattle.ec_rows.specs.PlainMarks.{plain_marks}
-use Rattle.ec_props.specs.Table.{term_at}
+use Rattle.ec_store.specs.Table.{term_at}
 use Rattle.ec_numbered.specs.PropSet.{has_number}
 use Rattle.ec_points.specs.Changes.{Change, ChangesAreMade, are_all_apart, changed, count_of, growth_of, has_change}
 use Rattle.ec_points.specs.Table.{PointTable, has_row, is_initial_at, marks_at}

@@ -25,10 +25,10 @@ use Rattle.ec_axioms.proofs.Members.{IsMember, IsMember-from_filter, IsMember-ma
 use Rattle.ec_changes.proofs.KeptEvents.{IsMember-from_has_event, SameEventsSameHistory-law, event_eq-is, has_event-member}
 use Rattle.ec_rows.specs.Ordered.{is_ascending}
 use Rattle.ec_rows.proofs.OrderedLemmas.{ascending-first, ascending-rest, is_ascending-filter}
-use Rattle.ec_events.specs.Store.{Kept, Store, event_at, history_of, plain_of, slot_of}
-use Rattle.ec_events.proofs.KeptLemmas.{has_id-slot_of}
-use Rattle.ec_props.proofs.KeptLemmas.{same_number}
-use Rattle.ec_props.specs.Table.{KeptProp}
+use Rattle.ec_store.specs.Store.{Kept, Store, event_at, history_of, plain_of, slot_of}
+use Rattle.ec_store.proofs.EventLemmas.{has_id-slot_of}
+use Rattle.ec_store.proofs.PropLemmas.{same_number}
+use Rattle.ec_store.specs.Table.{KeptProp}
 use Rattle.ec_numbered.specs.ByNumber.{kept_at}
 use Rattle.ec_context.specs.Entries.{shown_entries}
 use Rattle.ec_entries.specs.declared.event_entries.EventEntries.{EventEntries}

@@ -30,7 +30,7 @@ use Rattle.ec_points.specs.Changes.{Change, ChangesAreMade, are_all_apart, are_a
 use Rattle.ec_points.specs.Clashes.{is_clash, new_clashes}
 use Rattle.ec_points.specs.Table.{PointTable, marks_at, marks_in, row_at}
 use Rattle.ec_numbered.specs.PropSet.{has_number}
-use Rattle.ec_props.specs.Table.{KeptProp, prop_at, term_at}
+use Rattle.ec_store.specs.Table.{KeptProp, prop_at, term_at}
 use Rattle.ec_parts.specs.Caches.{AreInitiationsOf, AreMarksOf, kept_initiations}
 use Rattle.ec_parts.proofs.Mentioned.{kept_term}
 use Rattle.ec_delta.specs.declared.delta.Planned.{Planned}

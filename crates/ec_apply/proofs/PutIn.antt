@@ -14,9 +14,9 @@ use Rattle.ec_axioms.specs.declared.event.Event.{Event}
 use Rattle.ec_axioms.specs.Calculus.{PlainEvent}
 use Rattle.ec_axioms.specs.Changes.{comes_before, event_eq, has_event, with_event}
 use Rattle.ec_axioms.specs.Events.{event_of}
-use Rattle.ec_events.specs.Store.{Kept, Store, event_at, history_of, plain_of, slot_of, with_kept}
-use Rattle.ec_events.proofs.KeptLemmas.{history_of-with_kept, slot_of-with_kept}
-use Rattle.ec_props.proofs.KeptLemmas.{same_number}
+use Rattle.ec_store.specs.Store.{Kept, Store, event_at, history_of, plain_of, slot_of, with_kept}
+use Rattle.ec_store.proofs.EventLemmas.{history_of-with_kept, slot_of-with_kept}
+use Rattle.ec_store.proofs.PropLemmas.{same_number}
 use Rattle.ec_numbered.specs.ByNumber.{kept_at}
 use Rattle.ec_context.specs.declared.entry.Entry.{Entry}
 use Rattle.ec_entries.specs.declared.event_entries.EventEntries.{EventEntries}

@@ -14,11 +14,11 @@ use Rattle.ec_axioms.proofs.Members.{IsMember, slice_get-member}
 use Rattle.ec_changes.specs.LiveLaws.{ListsInitials}
 use Rattle.ec_changes.proofs.LiveMarks.{not_live-unknown}
 use Rattle.ec_changes.proofs.OtherIntervals.{OtherIntervalsDiffer-law}
-use Rattle.ec_events.specs.Store.{Store, history_of}
+use Rattle.ec_store.specs.Store.{Store, history_of}
 use Rattle.ec_entries.specs.Dependents.{Entered}
 use Rattle.ec_points.specs.Table.{PointTable}
 use Rattle.ec_intervals.specs.Table.{IntervalTable, members_in, plain_intervals, row_at}
-use Rattle.ec_props.specs.Table.{prop_at, prop_of, term_at}
+use Rattle.ec_store.specs.Table.{prop_at, prop_of, term_at}
 use Rattle.ec_parts.specs.declared.tally.Tally.{Tally}
 use Rattle.ec_parts.specs.Caches.{AreEntriesOf, AreInitiationsOf, AreIntervalsOf, AreMarksOf}
 use Rattle.ec_parts.specs.StandFor.{StandForBoth, View}

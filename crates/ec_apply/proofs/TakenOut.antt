@@ -16,8 +16,8 @@ use Rattle.ec_axioms.specs.declared.event.Event.{Event}
 use Rattle.ec_axioms.specs.Changes.{is_history, has_id, comes_before}
 use Rattle.ec_axioms.proofs.Members.{IsMember, Contains-from_member, IsMember-map, filter_agree, find-Some, member-list_any}
 use Rattle.ec_rows.specs.Ordered.{is_ascending}
-use Rattle.ec_events.specs.Store.{Kept, event_at, history_of, plain_of, without_kept}
-use Rattle.ec_props.proofs.KeptLemmas.{same_number}
+use Rattle.ec_store.specs.Store.{Kept, event_at, history_of, plain_of, without_kept}
+use Rattle.ec_store.proofs.PropLemmas.{same_number}
 use Rattle.ec_numbered.specs.ByNumber.{kept_at}
 use Rattle.ec_revise.specs.declared.change.Removal.{Removal}
 use Rattle.ec_revise.specs.Change.{has_slot}

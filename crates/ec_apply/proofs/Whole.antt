@@ -5,14 +5,14 @@ use Rattle.ec_terms.specs.declared.theory.Theory.{Theory}
 use Rattle.ec_axioms.specs.Calculus.{PlainEvent, intervals_of}
 use Rattle.ec_axioms.specs.Changes.{change_counts}
 use Rattle.ec_changes.specs.LiveLaws.{ListsInitials}
-use Rattle.ec_events.specs.Store.{Store, history_of}
+use Rattle.ec_store.specs.Store.{Store, history_of}
 use Rattle.ec_entries.specs.Dependents.{Entered}
 use Rattle.ec_points.specs.Changes.{ChangesAreMade, are_all_apart, changed, count_of}
 use Rattle.ec_points.specs.Clashes.{new_clashes}
 use Rattle.ec_points.specs.Table.{PointTable, has_row, marks_at, row_at}
 use Rattle.ec_intervals.specs.ChangedRows.{GrowthIsBounded}
 use Rattle.ec_intervals.specs.Table.{IntervalTable, row_at as span_row_at}
-use Rattle.ec_props.specs.Table.{term_at}
+use Rattle.ec_store.specs.Table.{term_at}
 use Rattle.ec_parts.specs.declared.tally.Tally.{Tally}
 use Rattle.ec_parts.specs.Caches.{AreEntriesOf, AreInitiationsOf, AreIntervalsOf, AreMarksOf}
 use Rattle.ec_parts.specs.StandFor.{StandForBoth, View}

@@ -3,7 +3,7 @@ use Rattle.std.specs.Prelude.{◌≡◌, ◌≢◌, ◌⊎◌, ℕ, ℤ, Bool, n
 use Rattle.ec_terms.specs.declared.ids.Slot.{Slot}
 use Rattle.ec_axioms.specs.declared.event.Event.{Event}
 use Rattle.ec_rows.specs.Ordered.{is_ascending}
-use Rattle.ec_events.specs.Store.{Kept, event_at, slot_of, with_kept}
+use Rattle.ec_store.specs.Store.{Kept, event_at, slot_of, with_kept}
 use Rattle.ec_numbered.specs.ByNumber.{kept_at}
 use Rattle.ec_context.specs.declared.entry.Entry.{Entry}
 use Rattle.ec_entries.specs.declared.event_entries.EventEntries.{EventEntries}

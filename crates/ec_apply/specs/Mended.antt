@@ -9,7 +9,7 @@ use Rattle.ec_axioms.specs.Changes.{interval_eq}
 use Rattle.ec_axioms.specs.Marks.{spans_of}
 use Rattle.ec_axioms.specs.Timeline.{Interval}
 use Rattle.ec_rows.specs.PlainMarks.{plain_marks}
-use Rattle.ec_props.specs.Table.{KeptProp, term_at}
+use Rattle.ec_store.specs.Table.{KeptProp, term_at}
 use Rattle.ec_exclusive.specs.Added.{is_added}
 use Rattle.ec_exclusive.specs.Neighbours.{Neighbourhoods, AreNeighbours}
 use Rattle.ec_points.specs.Table.{PointTable, is_initial_at, marks_at, has_row}

@@ -2,8 +2,8 @@
 use Rattle.std.specs.Prelude.{◌≡◌, ℤ, List}
 use Rattle.ec_terms.specs.declared.theory.Theory.{Theory}
 use Rattle.ec_axioms.specs.Calculus.{PlainEvent}
-use Rattle.ec_props.specs.Table.{KeptProp}
-use Rattle.ec_events.specs.Store.{Store, history_of}
+use Rattle.ec_store.specs.Table.{KeptProp}
+use Rattle.ec_store.specs.Store.{Store, history_of}
 use Rattle.ec_entries.specs.Dependents.{Entered}
 use Rattle.ec_parts.specs.Caches.{AreEntriesOf}
 use Rattle.ec_revise.specs.declared.change.Change.{Change}

@@ -6,7 +6,7 @@ ghost use Rattle.ec_axioms.specs.Calculus.{PlainEvent};
 ghost use Rattle.ec_axioms.specs.Changes.{has_event};
 ghost use Rattle.ec_axioms.specs.Events.{event_of};
 ghost use Rattle.ec_numbered.specs.ByNumber.{kept_at};
-ghost use Rattle.ec_events.specs.Store.{event_at, history_of, slot_of};
+ghost use Rattle.ec_store.specs.Store.{event_at, history_of, slot_of};
 ghost use Rattle.ec_entries.specs.Dependents.{count_on, count_on_all, room_of};
 ghost use Rattle.ec_revise.specs.Change.{has_slot};
 ghost use Rattle.ec_apply.specs.Events.{AreAligned, AreFresh, IsPutIn, StaysOrIsAdded, are_slots_apart, without_slot, without_slots};
@@ -14,10 +14,10 @@ ghost use Rattle.ec_apply.specs.Events.{AreAligned, AreFresh, IsPutIn, StaysOrIs
 use ec_axioms::{Event, EventList, Steps};
 use ec_context::EntryList;
 use ec_entries::{Entries, EntryLists};
-use ec_events::EventStore;
 use ec_moment::Moment;
 use ec_revise::Removal;
 use ec_rows::TimeRow;
+use ec_store::EventStore;
 use ec_terms::{Sequence, Slot};
 use std::sync::ledger::Ledger;
 

@@ -8,10 +8,10 @@ use crate::flips::set_flips;
 use ec_axioms::Steps;
 use ec_delta::Looked;
 use ec_entries::Entries;
-use ec_events::EventStore;
 use ec_moment::Moment;
 use ec_revise::Change;
 use ec_rows::TimeRow;
+use ec_store::EventStore;
 use std::sync::ledger::Ledger;
 
 /// Makes the events of the store those of the new list to which a change leads, and what is kept of each what it is there.

@@ -3,13 +3,13 @@ ghost use Rattle.std.specs.Prelude.{◌<◌, IsTrue, IsSome, OnOk};
 ghost use Rattle.ec_terms.specs.Binding.{is_small_place, IsSmall};
 ghost use Rattle.ec_terms.specs.Matchable.{IsMatchable};
 ghost use Rattle.ec_terms.specs.Term.{ground_of, names_are_names};
-ghost use Rattle.ec_props.specs.Table.{prop_at};
+ghost use Rattle.ec_store.specs.Table.{prop_at};
 ghost use Rattle.ec_exclusive.specs.Neighbours.{AreNeighbours};
 
 use crate::fixtures::{ONE_PLACE, Tables, boxed, enter, enter_text, no_tables, term_of, theory_of};
 use ec_exclusive::{Neighbours, exclusive};
 use ec_layers::tables::row_of;
-use ec_props::PropTable;
+use ec_store::PropTable;
 use ec_terms::{
     Arg, ArgRef, ArgRefs, Exclusive, GroundRef, Name, NoMemory, PatArg, PatArgs, Pattern, PropId,
     Sequence, Theory,

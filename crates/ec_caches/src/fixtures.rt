@@ -6,7 +6,7 @@ ghost use Rattle.ec_exclusive.specs.Neighbours.{AreNeighbours};
 
 use ec_check::Checked;
 use ec_exclusive::Neighbours;
-use ec_props::PropTable;
+use ec_store::PropTable;
 use ec_terms::{GroundRef, PropId, Theory, read_ground};
 use ec_theory::{MOST_BYTES, accept};
 use std::alloc::Global;

@@ -2,11 +2,11 @@
 //! the right table, also of terms that are chosen to have one key.
 ghost use Rattle.std.specs.Prelude.{◌≡◌, IsSome, IsTrue, IfSome};
 ghost use Rattle.ec_terms.specs.Term.{ground_of, names_are_names};
-ghost use Rattle.ec_props.specs.Keys.{key_of};
-ghost use Rattle.ec_props.specs.Table.{prop_at};
+ghost use Rattle.ec_store.specs.PropKeys.{key_of};
+ghost use Rattle.ec_store.specs.Table.{prop_at};
 
 use crate::fixtures::{boxed, term_of};
-use ec_props::PropTable;
+use ec_store::PropTable;
 use ec_terms::{ArgRef, GroundRef, NoMemory, PropId, order};
 use std::alloc::Global;
 use std::hash::{FoldHasher, Hasher};
@@ -224,7 +224,7 @@ fn cancelling(name: &[u8]) -> i64 {
 }
 
 /// The key under which a table finds a term of one argument, which is a number. `None`: it has other arguments.
-#[tactic(auto, unfolding(ec_props::specs::Keys::key_of, ec_props::specs::Keys::fed_by))]
+#[tactic(auto, unfolding(ec_store::specs::PropKeys::key_of, ec_store::specs::PropKeys::fed_by))]
 fn key_of(term: &GroundRef<'_>) -> Option<u64>
     ensures { IfSome result (λ key. key ≡ key_of (ground_of term.now)) }
 {

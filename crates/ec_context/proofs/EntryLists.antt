@@ -7,7 +7,7 @@ use Rattle.ec_terms.specs.declared.theory.Theory.{Theory}
 use Rattle.ec_terms.specs.Domain.{GroundEntry, entries_of}
 use Rattle.ec_terms.proofs.DomainLemmas.{entries_of-ascend}
 use Rattle.ec_check.specs.WellFormed.{IsWellFormed}
-use Rattle.ec_props.specs.Table.{KeptProp}
+use Rattle.ec_store.specs.Table.{KeptProp}
 use Rattle.ec_context.specs.declared.entry.Entry.{Entry}
 use Rattle.ec_context.specs.Entries.{IsEntryList, shown_entries}
 use Rattle.ec_context.proofs.Limits.{few_entries}

@@ -6,7 +6,7 @@ use Rattle.std.proofs.lemmas.Bool.{and_parts, cases_Bool, eqb-true, false≢true
 use Rattle.std.proofs.lemmas.Slice.Eq.{bytes_eq-Decides}
 use Rattle.indexmap.specs.IndexMap.{IndexMap}
 use Rattle.ec_terms.specs.declared.theory.Rule.{Rule}
-use Rattle.ec_props.specs.ByText.{found_at}
+use Rattle.ec_store.specs.ByText.{found_at}
 use Rattle.ec_context.specs.RulePlaces.{is_for, listed, places_for}
 
 -- the key of the events that a rule is for

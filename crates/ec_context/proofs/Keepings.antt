@@ -4,7 +4,7 @@ use Rattle.std.specs.Prelude.{option_map, ◌==◌}
 use Rattle.std.proofs.lemmas.Bool.{cases_Bool, eqb-true, eq-eqb, false≢true, or_from, or_parts}
 use Rattle.ec_terms.specs.declared.ground.Ground.{Ground}
 use Rattle.ec_terms.specs.declared.ids.PropId.{PropId}
-use Rattle.ec_props.specs.Table.{KeptProp, prop_at, mentions_at, prop_of, is_in_order, with_prop, without_prop}
+use Rattle.ec_store.specs.Table.{KeptProp, prop_at, mentions_at, prop_of, is_in_order, with_prop, without_prop}
 use Rattle.ec_lists.proofs.Numbers.{eqb_comm}
 use Rattle.ec_context.specs.Widened.{AreUnmentioned, HasKept, IsWidened, KeepsAll, is_among, without_props}
 use Rattle.ec_context.proofs.Tables.{is_among-push, length-with_prop, mentions_at-with_prop, prop_at-without_props, without-with_prop, without_props-none, without_props-push}

@@ -8,7 +8,7 @@ use Rattle.std.proofs.Math.Bool.{or-false}
 use Rattle.std.proofs.lemmas.List.{append-nil}
 use Rattle.std.proofs.lemmas.List.Folds.{list_any-append}
 use Rattle.ec_terms.specs.declared.ids.PropId.{PropId}
-use Rattle.ec_props.specs.Table.{KeptProp, prop_at}
+use Rattle.ec_store.specs.Table.{KeptProp, prop_at}
 use Rattle.ec_context.specs.declared.entry.Entry.{Entry}
 use Rattle.ec_context.specs.declared.entry.EntryLiteral.{EntryLiteral}
 use Rattle.ec_context.specs.Entries.{NamesAllNew, is_named, is_of}

@@ -11,7 +11,7 @@ use Rattle.ec_terms.specs.declared.ground.Ground.{Ground}
 use Rattle.ec_terms.specs.declared.theory.Rule.{Rule}
 use Rattle.ec_terms.specs.Matching.{Values, binding_of, fits_some, test_holds}
 use Rattle.ec_terms.specs.Domain.{GroundEntry, entries_from, entry_of, meets}
-use Rattle.ec_props.specs.Table.{KeptProp}
+use Rattle.ec_store.specs.Table.{KeptProp}
 use Rattle.ec_context.specs.declared.entry.Entry.{Entry}
 use Rattle.ec_context.specs.Entries.{entry_filled, shown_entries, shown_entry}
 use Rattle.ec_context.specs.RulePlaces.{ArePlacesFor, is_for, places_from}

@@ -8,7 +8,7 @@ use Rattle.ec_terms.specs.declared.theory.Literal.{Literal}
 use Rattle.ec_terms.specs.declared.ground.Ground.{Ground}
 use Rattle.ec_terms.specs.Domain.{GroundLiteral, GroundEntry}
 use Rattle.ec_axioms.specs.Calculus.{Currency, agrees, is_active}
-use Rattle.ec_props.specs.Table.{KeptProp, prop_at, term_at}
+use Rattle.ec_store.specs.Table.{KeptProp, prop_at, term_at}
 use Rattle.ec_context.specs.declared.entry.Entry.{Entry}
 use Rattle.ec_context.specs.declared.entry.EntryLiteral.{EntryLiteral}
 use Rattle.ec_context.specs.Entries.{each_of, shown_literal, shown_literals, shown_entry, shown_entries, IsKeptEntry}

@@ -12,8 +12,8 @@ use Rattle.ec_terms.specs.declared.ids.PropId.{PropId}
 use Rattle.ec_terms.specs.Term.{term_cmp, term_eq}
 use Rattle.ec_terms.proofs.OrderLemmas.{term_cmp-total}
 use Rattle.ec_rows.proofs.OrderedLemmas.{ascending-rest, with_member-front, with_member-later}
-use Rattle.ec_props.specs.Table.{KeptProp, prop_at, mentions_at, prop_of, prop_before, is_in_order, unmentioned, with_prop, without_prop}
-use Rattle.ec_props.proofs.KeptLemmas.{by_term, term_eq-is_eq, prop_at-insert}
+use Rattle.ec_store.specs.Table.{KeptProp, prop_at, mentions_at, prop_of, prop_before, is_in_order, unmentioned, with_prop, without_prop}
+use Rattle.ec_store.proofs.PropLemmas.{by_term, term_eq-is_eq, prop_at-insert}
 use Rattle.ec_lists.proofs.Finds.{find-None_cons}
 use Rattle.ec_lists.proofs.Numbers.{eqb_comm}
 use Rattle.ec_lists.proofs.Options.{None-from_option_map}

@@ -5,7 +5,7 @@ use Rattle.std.specs.List.{list_all}
 use Rattle.ec_terms.specs.declared.ground.Ground.{Ground}
 use Rattle.ec_terms.specs.Domain.{GroundEntry}
 use Rattle.ec_axioms.specs.Calculus.{PlainEvent, Currency, is_active}
-use Rattle.ec_props.specs.Table.{KeptProp, term_at}
+use Rattle.ec_store.specs.Table.{KeptProp, term_at}
 use Rattle.ec_context.specs.declared.entry.Entry.{Entry}
 use Rattle.ec_context.specs.declared.entry.EntryLiteral.{EntryLiteral}
 use Rattle.ec_context.specs.Entries.{shown_entry}

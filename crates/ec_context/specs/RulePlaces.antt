@@ -3,7 +3,7 @@ use Rattle.std.specs.Prelude.{◌≡◌, ℕ, ◌+◌, Bool, ◌&&◌, ◌==◌,
 use Rattle.indexmap.specs.IndexMap.{IndexMap}
 use Rattle.ec_terms.specs.declared.ground.Ground.{Ground}
 use Rattle.ec_terms.specs.declared.theory.Rule.{Rule}
-use Rattle.ec_props.specs.ByText.{found_at}
+use Rattle.ec_store.specs.ByText.{found_at}
 
 -- the rule is for events of this name with so many arguments
 abbrev pub is_for : List ℕ → ℕ → Rule → Bool

@@ -2,7 +2,7 @@
 use Rattle.std.specs.Prelude.{◌≡◌, ℕ, Bool, false, not, ◌||◌, ◌==◌, List, [], ◌∷◌, filter, Some, None, IsSome, IfSome, IsTrue}
 use Rattle.std.specs.List.{list_any}
 use Rattle.ec_terms.specs.declared.ids.PropId.{PropId}
-use Rattle.ec_props.specs.Table.{KeptProp, prop_at, mentions_at}
+use Rattle.ec_store.specs.Table.{KeptProp, prop_at, mentions_at}
 
 -- the second table keeps all that the first keeps, under the same numbers, with the same terms and mentions
 abbrev pub KeepsAll : List KeptProp → List KeptProp → Type 0

@@ -16,7 +16,7 @@ use crate::keeping::{forget_each, keep};
 use crate::rules::Rules;
 use ec_axioms::Event;
 use ec_moment::Moment;
-use ec_props::PropTable;
+use ec_store::PropTable;
 use ec_terms::{
     Binding, GroundRef, Literal, NoMemory, PropId, Rule, Sequence, Theory, fill_ref, matches,
     tests_hold,

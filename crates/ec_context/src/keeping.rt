@@ -1,10 +1,10 @@
 //! Terms that are kept in a table, with the numbers that are new in it, so that they can be forgotten again.
 ghost use Rattle.std.specs.Prelude.{◌≡◌, ◌==◌, Some, IsTrue, IfOk};
 ghost use Rattle.ec_terms.specs.Term.{ground_of, names_are_names};
-ghost use Rattle.ec_props.specs.Table.{term_at};
+ghost use Rattle.ec_store.specs.Table.{term_at};
 ghost use Rattle.ec_context.specs.Widened.{AddsOnly, AreUnmentioned, HasKept, without_props};
 
-use ec_props::PropTable;
+use ec_store::PropTable;
 use ec_terms::{GroundRef, NoMemory, PropId};
 
 /// The number of a term, which is kept from then on. A number that is new is added to `added`. `Err`: memory ran

@@ -1,5 +1,5 @@
 //! The law of activity, the contract of a function that does nothing.
-ghost use Rattle.ec_props.specs.Table.{KeptProp};
+ghost use Rattle.ec_store.specs.Table.{KeptProp};
 ghost use Rattle.std.specs.Prelude.{List};
 ghost use Rattle.ec_context.specs.Activity.{EvaluatingIsActivity};
 

@@ -1,7 +1,7 @@
 //! The rules of a theory, found at once by the name and the number of arguments of their events.
 ghost use Rattle.std.specs.Prelude.{◌≡◌, ◌<◌, ◌≤◌, ℕ, List, [], ◌∷◌, None, false, IsSome, IfOk, OnOk, All, length};
 ghost use Rattle.ec_terms.specs.Matchable.{IsMatchableRule};
-ghost use Rattle.ec_props.specs.ByText.{found_at};
+ghost use Rattle.ec_store.specs.ByText.{found_at};
 ghost use Rattle.ec_context.specs.RulePlaces.{IsIndex, is_for as is_rule_for, listed, places_for};
 
 use arrayvec::ArrayVec;

@@ -9,10 +9,10 @@ use Rattle.ec_axioms.specs.Calculus.{PlainEvent, is_current, intervals_of}
 use Rattle.ec_axioms.specs.Changes.{has_event, change_counts}
 use Rattle.ec_axioms.specs.Events.{event_of}
 use Rattle.ec_axioms.specs.Marks.{PlainMark, mark_at}
-use Rattle.ec_props.specs.Table.{KeptProp, prop_at, term_at}
+use Rattle.ec_store.specs.Table.{KeptProp, prop_at, term_at}
 use Rattle.ec_exclusive.specs.Forms.{breaks_by_initiation}
 use Rattle.ec_rows.specs.PlainMarks.{plain_mark}
-use Rattle.ec_events.specs.Store.{Kept, event_at, history_of}
+use Rattle.ec_store.specs.Store.{Kept, event_at, history_of}
 use Rattle.ec_numbered.specs.ByNumber.{kept_at}
 use Rattle.ec_entries.specs.Dependents.{Entered, count_on_all, room_of}
 use Rattle.ec_points.specs.Changes.{Change as MarkChange, change_at, count_of, growth_of, has_change}

@@ -18,12 +18,12 @@ use Rattle.ec_axioms.proofs.Members.{IsMember, IsMember-from_contains, IsMember-
 use Rattle.ec_changes.proofs.KeptEvents.{IsMember-from_has_event, has_event-member}
 use Rattle.ec_context.specs.declared.entry.Entry.{Entry}
 use Rattle.ec_context.specs.Entries.{shown_entries}
-use Rattle.ec_events.specs.Store.{Kept, event_at, history_of, plain_of}
+use Rattle.ec_store.specs.Store.{Kept, event_at, history_of, plain_of}
 use Rattle.ec_numbered.specs.PropSet.{has_number}
 use Rattle.ec_parts.specs.declared.tally.Tally.{Tally}
 use Rattle.ec_parts.specs.StandFor.{StandFor, View}
 use Rattle.ec_parts.specs.Tables.{KeepsOnlyLive}
-use Rattle.ec_props.specs.Table.{KeptProp, prop_at, term_at}
+use Rattle.ec_store.specs.Table.{KeptProp, prop_at, term_at}
 use Rattle.ec_replies.proofs.Limits.{length-with_event}
 use Rattle.ec_replies.specs.Runs.{may_want_by}
 use Rattle.ec_replies.specs.Updates.{asserted, updated_by, updated_from}

@@ -6,10 +6,10 @@ use Rattle.ec_terms.specs.declared.no_memory.NoMemory.{NoMemory}
 use Rattle.ec_terms.specs.declared.theory.Theory.{Theory}
 use Rattle.ec_axioms.specs.declared.event.Seen.{Seen}
 use Rattle.ec_axioms.specs.Calculus.{PlainEvent}
-use Rattle.ec_events.specs.Store.{Kept, history_of}
+use Rattle.ec_store.specs.Store.{Kept, history_of}
 use Rattle.ec_parts.specs.declared.tally.Tally.{Tally}
 use Rattle.ec_parts.specs.StandFor.{StandForBoth, View}
-use Rattle.ec_props.specs.Table.{KeptProp}
+use Rattle.ec_store.specs.Table.{KeptProp}
 use Rattle.ec_revise.specs.declared.change.Change.{Change}
 use Rattle.ec_revise.specs.Change.{IsChange}
 use Rattle.ec_sweep.specs.State.{IsUnderway}

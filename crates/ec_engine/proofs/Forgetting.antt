@@ -13,7 +13,7 @@ use Rattle.ec_terms.specs.Term.{term_eq}
 use Rattle.ec_axioms.specs.Calculus.{PlainEvent}
 use Rattle.ec_axioms.specs.Links.{is_live, mentions_of}
 use Rattle.ec_numbered.specs.PropSet.{has_number}
-use Rattle.ec_props.specs.Table.{KeptProp, mentions_at, prop_at, term_at}
+use Rattle.ec_store.specs.Table.{KeptProp, mentions_at, prop_at, term_at}
 use Rattle.ec_parts.specs.Tables.{AreKept, held_mention, mention_count}
 
 -- what is mentioned is live

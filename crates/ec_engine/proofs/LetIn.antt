@@ -18,7 +18,7 @@ use Rattle.ec_context.specs.declared.entry.EntryLiteral.{EntryLiteral}
 use Rattle.ec_context.specs.Entries.{each_of, shown_literal, shown_entry, shown_entries}
 use Rattle.ec_context.proofs.EachOf.{each_of-first, each_of-length}
 use Rattle.ec_context.proofs.Shown.{IsShownAs-entry}
-use Rattle.ec_props.specs.Table.{KeptProp, term_at}
+use Rattle.ec_store.specs.Table.{KeptProp, term_at}
 use Rattle.ec_parts.specs.declared.tally.Tally.{Tally}
 use Rattle.ec_parts.specs.Mentions.{AreOfEventsWith, entry_props, list_props}
 use Rattle.ec_parts.specs.StandFor.{View, StandForBoth}

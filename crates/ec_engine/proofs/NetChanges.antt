@@ -35,9 +35,9 @@ use Rattle.ec_axioms.proofs.Members.{Contains-from_member, IsMember, IsMember-fi
 use Rattle.ec_changes.proofs.DistinctLists.{IsPairwise-from_distinct}
 use Rattle.ec_changes.proofs.KeptEvents.{IsMember-from_has_event, IsPairwise-from_history, comes_before-itself, event_eq-is, event_eq-same, has_event-member, same_from_members}
 use Rattle.ec_context.specs.Entries.{shown_entries}
-use Rattle.ec_events.specs.Store.{Kept, event_at, history_of, plain_of, slot_of}
-use Rattle.ec_events.proofs.KeptLemmas.{slot_of-cons, before-then}
-use Rattle.ec_props.specs.Table.{KeptProp}
+use Rattle.ec_store.specs.Store.{Kept, event_at, history_of, plain_of, slot_of}
+use Rattle.ec_store.proofs.EventLemmas.{slot_of-cons, before-then}
+use Rattle.ec_store.specs.Table.{KeptProp}
 use Rattle.ec_revise.specs.declared.change.Change.{Change}
 use Rattle.ec_revise.specs.declared.change.Removal.{Removal}
 use Rattle.ec_revise.specs.Change.{IsChange, entries_to_show, has_slot, removal_before}

@@ -6,7 +6,7 @@ use Rattle.ec_terms.specs.declared.theory.Theory.{Theory}
 use Rattle.ec_axioms.specs.declared.event.Seen.{Seen}
 use Rattle.ec_axioms.specs.Calculus.{PlainEvent}
 use Rattle.ec_axioms.specs.Changes.{PlainUpdate, PlacedCut, change_counts, work_between}
-use Rattle.ec_events.specs.Store.{Kept, history_of}
+use Rattle.ec_store.specs.Store.{Kept, history_of}
 use Rattle.ec_parts.specs.declared.tally.Tally.{Tally}
 use Rattle.ec_parts.specs.StandFor.{StandFor, View}
 use Rattle.ec_replies.specs.Updates.{updated_by}

@@ -19,10 +19,10 @@ use Rattle.ec_axioms.specs.Changes.{has_id, is_history, with_event, without_even
 use Rattle.ec_axioms.specs.Links.{event_mentions, mentions_of}
 use Rattle.ec_axioms.proofs.Histories.{is_history-with_event, is_history-without_event}
 use Rattle.ec_axioms.proofs.OrderedEvents.{is_history-filter}
-use Rattle.ec_events.specs.Store.{Kept, Store, history_of, plain_of, slot_of}
+use Rattle.ec_store.specs.Store.{Kept, Store, history_of, plain_of, slot_of}
 use Rattle.ec_parts.specs.declared.tally.Tally.{Tally}
 use Rattle.ec_parts.specs.StandFor.{StandForBoth, View}
-use Rattle.ec_props.specs.Table.{term_at}
+use Rattle.ec_store.specs.Table.{term_at}
 use Rattle.ec_engine.specs.declared.net.Net.{Net}
 use Rattle.ec_engine.specs.Undo.{IsHalfway, IsReleasable, LeadTo, is_touched, put_back, untouched}
 use Rattle.ec_engine.specs.Walk.{event_with}

@@ -27,11 +27,11 @@ use Rattle.ec_changes.proofs.DistinctLists.{IsDistinct-from_pairwise}
 use Rattle.ec_changes.proofs.KeptEvents.{kept_events-both}
 use Rattle.ec_context.specs.declared.entry.Entry.{Entry}
 use Rattle.ec_context.specs.Entries.{shown_entries}
-use Rattle.ec_events.specs.Store.{Kept, event_at, history_of, plain_of, slot_of}
+use Rattle.ec_store.specs.Store.{Kept, event_at, history_of, plain_of, slot_of}
 use Rattle.ec_parts.specs.declared.tally.Tally.{Tally}
 use Rattle.ec_parts.specs.StandFor.{View}
 use Rattle.ec_parts.proofs.CachesKept.{shown_entries-moved}
-use Rattle.ec_props.specs.Table.{term_at}
+use Rattle.ec_store.specs.Table.{term_at}
 use Rattle.ec_revise.specs.declared.change.Change.{Change}
 use Rattle.ec_revise.specs.declared.change.Removal.{Removal}
 use Rattle.ec_revise.specs.Change.{entries_to_show, has_slot, removal_before}

@@ -31,10 +31,10 @@ use Rattle.ec_changes.proofs.LinkSteps.{LinksAreOfMentions-law, LinksInAnyOrder-
 use Rattle.ec_context.specs.declared.entry.Entry.{Entry}
 use Rattle.ec_context.specs.Entries.{shown_entries}
 use Rattle.ec_entries.specs.declared.event_entries.EventEntries.{EventEntries}
-use Rattle.ec_events.specs.Store.{Kept, event_at, history_of, plain_of, slot_of}
+use Rattle.ec_store.specs.Store.{Kept, event_at, history_of, plain_of, slot_of}
 use Rattle.ec_numbered.specs.ByNumber.{kept_at}
 use Rattle.ec_numbered.specs.PropSet.{has_number}
-use Rattle.ec_props.specs.Table.{KeptProp, prop_at, term_at}
+use Rattle.ec_store.specs.Table.{KeptProp, prop_at, term_at}
 use Rattle.ec_parts.specs.declared.tally.Tally.{Tally}
 use Rattle.ec_parts.specs.Caches.{IsEnteredIn}
 use Rattle.ec_parts.specs.Mentions.{AreOfEventsWith, list_props, terms_of}

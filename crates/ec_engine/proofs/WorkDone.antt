@@ -23,8 +23,8 @@ use Rattle.ec_changes.proofs.DistinctLists.{IsDistinct-from_pairwise}
 use Rattle.ec_context.specs.declared.entry.Entry.{Entry}
 use Rattle.ec_context.specs.Entries.{shown_entries}
 use Rattle.ec_context.proofs.Shown.{length-shown}
-use Rattle.ec_events.specs.Store.{Kept, event_at, history_of, plain_of}
-use Rattle.ec_props.specs.Table.{KeptProp}
+use Rattle.ec_store.specs.Store.{Kept, event_at, history_of, plain_of}
+use Rattle.ec_store.specs.Table.{KeptProp}
 use Rattle.ec_revise.specs.declared.change.Change.{Change}
 use Rattle.ec_revise.specs.declared.change.Removal.{Removal}
 use Rattle.ec_revise.specs.Change.{IsChange, entries_to_show, removal_before}

@@ -6,7 +6,7 @@ use Rattle.ec_axioms.specs.Calculus.{PlainEvent}
 use Rattle.ec_axioms.specs.Changes.{asserting, with_event}
 use Rattle.ec_context.specs.declared.entry.Entry.{Entry}
 use Rattle.ec_context.specs.Entries.{shown_entries}
-use Rattle.ec_events.specs.Store.{Kept, history_of}
+use Rattle.ec_store.specs.Store.{Kept, history_of}
 use Rattle.ec_numbered.specs.PropSet.{has_number}
 use Rattle.ec_parts.specs.declared.tally.Tally.{Tally}
 use Rattle.ec_parts.specs.StandFor.{StandFor, StandForBoth, View}

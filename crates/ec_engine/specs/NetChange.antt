@@ -6,7 +6,7 @@ use Rattle.std.specs.Vec.{vec_len, vec_capacity}
 use Rattle.ec_terms.specs.declared.ids.Slot.{Slot}
 use Rattle.ec_terms.specs.Term.{term_eq}
 use Rattle.ec_axioms.specs.declared.event.Event.{Event}
-use Rattle.ec_events.specs.Store.{Kept, event_at}
+use Rattle.ec_store.specs.Store.{Kept, event_at}
 use Rattle.ec_revise.specs.declared.change.Removal.{Removal}
 use Rattle.ec_rows.specs.Times.{place_cmp}
 use Rattle.ec_engine.specs.declared.net.Added.{Added}

@@ -2,7 +2,7 @@
 use Rattle.std.specs.Prelude.{ℤ, List}
 use Rattle.ec_terms.specs.declared.theory.Theory.{Theory}
 use Rattle.ec_axioms.specs.Calculus.{PlainEvent}
-use Rattle.ec_events.specs.Store.{history_of}
+use Rattle.ec_store.specs.Store.{history_of}
 use Rattle.ec_parts.specs.declared.tally.Tally.{Tally}
 use Rattle.ec_parts.specs.StandFor.{StandFor, View}
 use Rattle.ec_engine.specs.Limits.{IsWithinLimits}

@@ -9,7 +9,7 @@ use Rattle.ec_axioms.specs.Calculus.{PlainEvent}
 use Rattle.ec_axioms.specs.Changes.{is_history, with_event, without_event}
 use Rattle.ec_axioms.specs.Links.{mentions_of, most_mentions}
 use Rattle.ec_context.specs.Entries.{shown_entries}
-use Rattle.ec_events.specs.Store.{history_of, slot_of}
+use Rattle.ec_store.specs.Store.{history_of, slot_of}
 use Rattle.ec_parts.specs.declared.tally.Tally.{Tally}
 use Rattle.ec_parts.specs.StandFor.{View, StandForBoth}
 use Rattle.ec_engine.specs.declared.net.Net.{Net}

@@ -9,12 +9,12 @@ use Rattle.ec_axioms.specs.Changes.{is_history, PlainUpdate}
 use Rattle.ec_axioms.specs.Events.{event_of}
 use Rattle.ec_axioms.specs.Links.{is_live}
 use Rattle.ec_context.specs.Entries.{shown_entries}
-use Rattle.ec_events.specs.Store.{Kept, history_of, slot_of}
+use Rattle.ec_store.specs.Store.{Kept, history_of, slot_of}
 use Rattle.ec_numbered.specs.PropSet.{has_number}
 use Rattle.ec_parts.specs.Adoption.{HasFewMentions}
 use Rattle.ec_parts.specs.declared.tally.Tally.{Tally}
 use Rattle.ec_parts.specs.StandFor.{View, StandForBoth}
-use Rattle.ec_props.specs.Table.{KeptProp, term_at}
+use Rattle.ec_store.specs.Table.{KeptProp, term_at}
 use Rattle.ec_engine.specs.declared.net.Net.{Net}
 use Rattle.ec_engine.specs.declared.net.Added.{Added}
 use Rattle.ec_engine.specs.declared.walk.Walk.{Walk}

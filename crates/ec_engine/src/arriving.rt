@@ -5,7 +5,7 @@ ghost use Rattle.ec_terms.specs.Term.{ground_of, names_are_names};
 ghost use Rattle.ec_axioms.specs.Changes.{has_id};
 ghost use Rattle.ec_axioms.specs.Events.{event_of};
 ghost use Rattle.ec_axioms.specs.Links.{most_events};
-ghost use Rattle.ec_events.specs.Store.{history_of};
+ghost use Rattle.ec_store.specs.Store.{history_of};
 ghost use Rattle.ec_parts.specs.StandFor.{StandFor, view_of};
 ghost use Rattle.ec_engine.specs.Arriving.{IsArrived, IsLet};
 ghost use Rattle.ec_engine.specs.Limits.{IsWithinLimits};

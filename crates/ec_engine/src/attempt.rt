@@ -2,7 +2,7 @@
 ghost use Rattle.std.specs.Prelude.{◌≡◌, ◌+◌, ◌*◌, ◌≤◌, ◌<◌, ◌^◌, IfOk, OnOk, length, map};
 ghost use Rattle.indexmap.specs.IndexMap.{index_map_len};
 ghost use Rattle.ec_axioms.specs.Events.{plain_update};
-ghost use Rattle.ec_events.specs.Store.{history_of};
+ghost use Rattle.ec_store.specs.Store.{history_of};
 ghost use Rattle.ec_parts.specs.StandFor.{StandFor, view_of};
 ghost use Rattle.ec_engine.specs.Attempt.{IsAttempted};
 ghost use Rattle.ec_engine.specs.Limits.{IsWithinLimits};

@@ -39,7 +39,7 @@ pub struct Engine<T: Moment, M: MarkRow<T>, I: SpanRow<T>, X: TimeRow<T>> {
 }
 
 impl<T: Moment, M: MarkRow<T>, I: SpanRow<T>, X: TimeRow<T>> Model for Engine<T, M, I, X> {
-    ghost use Rattle.ec_events.specs.Store.{history_of};
+    ghost use Rattle.ec_store.specs.Store.{history_of};
     ghost use Rattle.ec_parts.specs.StandFor.{view_of};
     ghost use Rattle.ec_engine.specs.Standing.{Standing, IsEngine};
 

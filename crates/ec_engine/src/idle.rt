@@ -4,7 +4,7 @@ ghost use Rattle.ec_axioms.specs.Calculus.{PlainEvent};
 ghost use Rattle.ec_numbered.specs.PropSet.{has_number};
 ghost use Rattle.ec_parts.specs.declared.tally.Tally.{Tally};
 ghost use Rattle.ec_parts.specs.StandFor.{StandForBoth, view_of};
-ghost use Rattle.ec_props.specs.Table.{mentions_at, prop_at};
+ghost use Rattle.ec_store.specs.Table.{mentions_at, prop_at};
 ghost use Rattle.ec_engine.specs.Idle.{ForgetsListed, LeavesUnlisted, StandForSome};
 
 use ec_moment::Moment;

@@ -3,7 +3,7 @@ ghost use Rattle.std.specs.Prelude.{◌≡◌, ◌+◌, ◌≤◌, ℕ, List, le
 ghost use Rattle.ec_axioms.specs.Calculus.{PlainEvent};
 ghost use Rattle.ec_parts.specs.Mentions.{list_props};
 ghost use Rattle.ec_parts.specs.StandFor.{view_of};
-ghost use Rattle.ec_props.specs.Table.{term_at};
+ghost use Rattle.ec_store.specs.Table.{term_at};
 ghost use Rattle.ec_engine.specs.Limited.{IsLetIn, MayComeIn, ComesIn};
 
 use ec_axioms::{Cut, MOST_LINKS, MOST_MENTIONS};

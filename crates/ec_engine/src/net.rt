@@ -1,14 +1,14 @@
 //! What a batch of updates has put under each identity so far.
 ghost use Rattle.std.specs.Prelude.{◌≡◌, ◌+◌, ◌<◌, ◌≤◌, ℕ, List, Some, is_some, if◌then◌else◌, bytes_eq, OnOk};
 ghost use Rattle.indexmap.specs.IndexMap.{spare, index_map_len};
-ghost use Rattle.ec_events.specs.Store.{slot_of};
+ghost use Rattle.ec_store.specs.Store.{slot_of};
 ghost use Rattle.ec_engine.specs.Net.{is_present_by, net_in, old_slot_by};
 
 use ec_axioms::Event;
 use ec_context::EntryList;
-use ec_events::EventStore;
 use ec_moment::Moment;
 use ec_rows::TimeRow;
+use ec_store::EventStore;
 use ec_terms::{Name, NoMemory, Slot};
 use indexmap::IndexMap;
 

@@ -2,9 +2,9 @@
 ghost use Rattle.std.specs.Prelude.{◌≡◌, ◌+◌, ◌≤◌, ℕ, List};
 ghost use Rattle.indexmap.specs.IndexMap.{index_map_len};
 ghost use Rattle.ec_axioms.specs.Calculus.{PlainEvent};
-ghost use Rattle.ec_events.specs.Store.{history_of};
+ghost use Rattle.ec_store.specs.Store.{history_of};
 ghost use Rattle.ec_parts.specs.StandFor.{StandFor, StandForBoth, view_of};
-ghost use Rattle.ec_props.specs.Table.{term_at};
+ghost use Rattle.ec_store.specs.Table.{term_at};
 ghost use Rattle.ec_engine.specs.Limits.{IsWithinLimits};
 ghost use Rattle.ec_engine.specs.Net.{net_in};
 ghost use Rattle.ec_engine.specs.Walk.{HasWalked};

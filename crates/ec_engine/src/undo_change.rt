@@ -1,9 +1,9 @@
 //! The way back from a change that is not made: the tables become those of the list of the store again.
 ghost use Rattle.std.specs.Prelude.{◌≡◌, ◌+◌, ◌≤◌, ℕ, Some, All, IsTrue, length, option_map};
-ghost use Rattle.ec_events.specs.Store.{event_at, history_of};
+ghost use Rattle.ec_store.specs.Store.{event_at, history_of};
 ghost use Rattle.ec_numbered.specs.PropSet.{has_number};
 ghost use Rattle.ec_parts.specs.StandFor.{StandFor, StandForBoth, view_of};
-ghost use Rattle.ec_props.specs.Table.{term_at};
+ghost use Rattle.ec_store.specs.Table.{term_at};
 ghost use Rattle.ec_revise.specs.Change.{removal_before};
 ghost use Rattle.ec_rows.specs.Ordered.{is_ascending};
 ghost use Rattle.ec_engine.specs.Limits.{IsWithinLimits};

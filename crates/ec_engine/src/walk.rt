@@ -5,7 +5,7 @@ ghost use Rattle.ec_axioms.specs.Calculus.{PlainEvent};
 ghost use Rattle.ec_axioms.specs.Changes.{asserting, retracting};
 ghost use Rattle.ec_axioms.specs.Events.{event_of, plain_update};
 ghost use Rattle.ec_parts.specs.StandFor.{view_of};
-ghost use Rattle.ec_events.specs.Store.{slot_of};
+ghost use Rattle.ec_store.specs.Store.{slot_of};
 ghost use Rattle.ec_engine.specs.Net.{net_in};
 ghost use Rattle.ec_engine.specs.Walk.{GoesOn, HasWalked, HasWalkedTo};
 

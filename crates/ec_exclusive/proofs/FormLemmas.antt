@@ -7,7 +7,7 @@ use Rattle.ec_terms.specs.declared.ids.PropId.{PropId}
 use Rattle.ec_terms.specs.declared.ground.Ground.{Ground}
 use Rattle.ec_terms.specs.declared.theory.Theory.{Theory}
 use Rattle.ec_terms.specs.Domain.{is_strong}
-use Rattle.ec_props.specs.Table.{KeptProp, term_at}
+use Rattle.ec_store.specs.Table.{KeptProp, term_at}
 use Rattle.ec_numbered.specs.ByNumber.{kept_at}
 use Rattle.ec_numbered.specs.PropSet.{has_number, with_number, without_number}
 use Rattle.ec_numbered.proofs.Numbers.{same_prop, itself, has_number-filter, has_number-with_number}

@@ -14,11 +14,11 @@ use Rattle.std.proofs.lemmas.List.Folds.{list_any-append, list_any_more}
 use Rattle.std.proofs.lemmas.Slice.Eq.{bytes_eq-Decides}
 use Rattle.ec_terms.specs.declared.ids.PropId.{PropId}
 use Rattle.ec_terms.specs.Term.{name_cmp}
-use Rattle.ec_keyed.specs.Slots.{IsInOrder, slot_of as slot_there}
-use Rattle.ec_keyed.specs.Held.{held_of, place_to, slot_under}
-use Rattle.ec_keyed.specs.declared.slots.KeyedSlot.{KeyedSlot}
-use Rattle.ec_keyed.proofs.SlotLemmas.{IsCut}
-use Rattle.ec_keyed.proofs.HeldLemmas.{IsInOrder-keyed, slot_of-keyed, AreKeyed-nil, AreKeyed-same, AreKeyed-insert, slot_under-insert, AreKeyed-remove, slot_under-remove, place-within}
+use Rattle.ec_store.specs.Slots.{IsInOrder, slot_of as slot_there}
+use Rattle.ec_store.specs.Held.{held_of, place_to, slot_under}
+use Rattle.ec_store.specs.declared.slots.KeyedSlot.{KeyedSlot}
+use Rattle.ec_store.proofs.SlotLemmas.{IsCut}
+use Rattle.ec_store.proofs.HeldLemmas.{IsInOrder-keyed, slot_of-keyed, AreKeyed-nil, AreKeyed-same, AreKeyed-insert, slot_under-insert, AreKeyed-remove, slot_under-remove, place-within}
 use Rattle.ec_numbered.specs.PropSet.{has_number}
 use Rattle.ec_numbered.proofs.Numbers.{has_number-filter, has_number-with_number}
 use Rattle.ec_exclusive.proofs.KeptLists.{numbered}

@@ -10,7 +10,7 @@ use Rattle.ec_lists.proofs.Tests.{list_any-same, list_any-map, list_any-and}
 use Rattle.ec_terms.specs.declared.ids.PropId.{PropId}
 use Rattle.ec_terms.specs.declared.ground.Ground.{Ground}
 use Rattle.ec_terms.specs.declared.theory.Theory.{Theory}
-use Rattle.ec_props.specs.Table.{KeptProp, prop_at, term_at}
+use Rattle.ec_store.specs.Table.{KeptProp, prop_at, term_at}
 use Rattle.ec_numbered.specs.ByNumber.{kept_at}
 use Rattle.ec_numbered.specs.PropSet.{has_number, are_ascending, with_number, without_number}
 use Rattle.ec_numbered.proofs.Numbers.{same_members, has_number-filter}

@@ -7,7 +7,7 @@ use Rattle.std.proofs.lemmas.List.{length-map}
 use Rattle.std.proofs.lemmas.List.Elements.{All-nil, All-same, All-filter, All-map}
 use Rattle.ec_terms.specs.declared.ids.PropId.{PropId}
 use Rattle.ec_terms.specs.declared.theory.Theory.{Theory}
-use Rattle.ec_props.specs.Table.{KeptProp, prop_at}
+use Rattle.ec_store.specs.Table.{KeptProp, prop_at}
 use Rattle.ec_numbered.specs.PropSet.{are_ascending}
 use Rattle.ec_exclusive.specs.Added.{Added, is_added, added_props, neighbours_of, stands_in_list, AreMutual, without_added, added_from, added_of}
 use Rattle.ec_numbered.specs.ByNumber.{kept_at}

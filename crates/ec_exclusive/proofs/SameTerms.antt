@@ -5,7 +5,7 @@ use Rattle.std.proofs.lemmas.Bool.{false≢true}
 use Rattle.std.proofs.lemmas.List.Elements.{All-head, All-tail, All-map}
 use Rattle.ec_terms.specs.declared.ids.PropId.{PropId}
 use Rattle.ec_terms.specs.declared.theory.Theory.{Theory}
-use Rattle.ec_props.specs.Table.{KeptProp, prop_at, term_at}
+use Rattle.ec_store.specs.Table.{KeptProp, prop_at, term_at}
 use Rattle.ec_exclusive.specs.Added.{Added, added_props, is_added, neighbours_of, without_added}
 use Rattle.ec_exclusive.specs.Forms.{form_of}
 use Rattle.ec_exclusive.specs.Neighbours.{AreNeighbours, Neighbourhoods, KeepsTerms, ReadTermsAlone, both_exclusive, exclusive_at, form_at}

@@ -5,8 +5,8 @@ use Rattle.std.specs.Hash.FoldHasher.{initial, write, finish}
 use Rattle.slab.specs.Slab.{Slab, get}
 use Rattle.ec_terms.specs.declared.ids.PropId.{PropId}
 use Rattle.ec_terms.specs.Term.{name_cmp}
-use Rattle.ec_keyed.specs.Held.{AreKeyed, slot_under}
-use Rattle.ec_keyed.specs.declared.slots.KeyedSlot.{KeyedSlot}
+use Rattle.ec_store.specs.Held.{AreKeyed, slot_under}
+use Rattle.ec_store.specs.declared.slots.KeyedSlot.{KeyedSlot}
 use Rattle.ec_numbered.specs.PropSet.{has_number, with_number, without_number}
 use Rattle.ec_exclusive.specs.declared.group.Group.{Group}
 

@@ -8,7 +8,7 @@ use Rattle.ec_terms.specs.declared.pattern.Pattern.{Pattern}
 use Rattle.ec_terms.specs.Binding.{Extends}
 use Rattle.ec_terms.specs.Domain.{are_exclusive, excludes}
 use Rattle.ec_terms.specs.Matching.{Values, fits}
-use Rattle.ec_props.specs.Table.{KeptProp, prop_at, term_at}
+use Rattle.ec_store.specs.Table.{KeptProp, prop_at, term_at}
 use Rattle.ec_exclusive.specs.Added.{Added, added_props}
 use Rattle.ec_exclusive.specs.Forms.{TermForm, form_of}
 

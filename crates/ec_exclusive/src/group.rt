@@ -1,13 +1,13 @@
 //! Groups of properties under slots, and the search for the one of a key.
 ghost use Rattle.std.specs.Prelude.{◌≡◌, ◌≢◌, ◌≤◌, [], ℕ, None, Some, IsTrue, IfOk, IfErr, OnOk, OnErr, true, false, length, option_map};
 ghost use Rattle.std.specs.List.Sorted.{IsPartitionPoint};
-ghost use Rattle.ec_keyed.specs.Held.{place_to};
-ghost use Rattle.ec_keyed.specs.Slots.{is_in_front};
+ghost use Rattle.ec_store.specs.Held.{place_to};
+ghost use Rattle.ec_store.specs.Slots.{is_in_front};
 ghost use Rattle.ec_terms.specs.Term.{name_cmp};
 ghost use Rattle.ec_exclusive.specs.Groups.{grouped, group_at, key_at, hash_of, is_member, slot_by_key, with_member, without_member, AreFoundByKey};
 
-use ec_keyed::{KeyedSlots, Sought};
 use ec_numbered::PropSet;
+use ec_store::{KeyedSlots, Sought};
 use ec_terms::{NoMemory, PropId};
 use slab::Slab;
 use std::alloc::Global;

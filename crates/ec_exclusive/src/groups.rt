@@ -6,7 +6,7 @@ ghost use Rattle.ec_exclusive.specs.Groups.{in_group, is_among};
 use crate::group::{
     Group, group_of, hash_of, is_empty_under, place_of, put_under, search, take_out_under,
 };
-use ec_keyed::KeyedSlots;
+use ec_store::KeyedSlots;
 use ec_terms::{NoMemory, PropId};
 use slab::Slab;
 use std::alloc::Global;

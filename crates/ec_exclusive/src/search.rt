@@ -7,7 +7,7 @@ ghost use Rattle.ec_terms.specs.Domain.{are_exclusive as exclusive};
 ghost use Rattle.ec_terms.specs.Matchable.{IsMatchable, IsMatchableExclusive};
 ghost use Rattle.ec_terms.specs.Matching.{binding_of, fits_some};
 ghost use Rattle.ec_terms.specs.Term.{ground_of, names_are_names};
-ghost use Rattle.ec_props.specs.Table.{prop_at};
+ghost use Rattle.ec_store.specs.Table.{prop_at};
 ghost use Rattle.ec_numbered.specs.PropSet.{has_number};
 ghost use Rattle.ec_exclusive.specs.Groups.{in_group};
 ghost use Rattle.ec_exclusive.specs.Keys.{key_if_fits, other_keys};
@@ -16,7 +16,7 @@ ghost use Rattle.ec_exclusive.specs.Neighbours.{AreJoined, excludes_at};
 use crate::groups::{Groups, members};
 use crate::keys::side_key;
 use ec_numbered::PropSet;
-use ec_props::PropTable;
+use ec_store::PropTable;
 use ec_terms::{
     Binding, Exclusive, GroundRef, NoMemory, Pattern, PropId, Theory, are_exclusive, extend_match,
     is_same, matches,

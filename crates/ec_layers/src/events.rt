@@ -2,9 +2,9 @@
 ghost use Rattle.std.specs.Prelude.{◌≡◌, ◌<◌};
 
 use ec_axioms::{Event, Steps};
-use ec_events::EventStore;
 use ec_moment::Tick;
 use ec_rows::{TimeRow, VecTimes};
+use ec_store::EventStore;
 use ec_terms::{Args, Ground, Name};
 use std::alloc::Global;
 use std::marker::Brand;

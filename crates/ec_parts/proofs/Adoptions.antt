@@ -9,8 +9,8 @@ use Rattle.ec_context.proofs.Keepings.{AreUnmentioned-push, AreUnmentioned-kept,
 use Rattle.ec_context.proofs.Tables.{prop_at-without_props, without_props-none, without_props-push}
 use Rattle.ec_exclusive.specs.Added.{added_props}
 use Rattle.ec_numbered.specs.PropSet.{are_ascending}
-use Rattle.ec_props.specs.Table.{KeptProp, prop_at, mentions_at, without_prop}
-use Rattle.ec_props.proofs.KeptLemmas.{prop_at-without_other, prop_at-without_itself}
+use Rattle.ec_store.specs.Table.{KeptProp, prop_at, mentions_at, without_prop}
+use Rattle.ec_store.proofs.PropLemmas.{prop_at-without_other, prop_at-without_itself}
 use Rattle.ec_parts.specs.Adoption.{without_waiting, StandForSome, KeepStanding, HasJoined, HasStayed, HasEntered}
 use Rattle.ec_parts.specs.StandFor.{View, StandForBoth}
 use Rattle.ec_parts.proofs.Entered.{HasEntered-none}

@@ -22,9 +22,9 @@ use Rattle.ec_context.proofs.EachOf.{each_of-moved}
 use Rattle.ec_context.proofs.Shown.{IsLiteralShownAs-literal, IsShownAs-entry, shown_entry-from, shown_literal-from}
 use Rattle.ec_entries.specs.declared.event_entries.EventEntries.{EventEntries}
 use Rattle.ec_entries.specs.Dependents.{Entered}
-use Rattle.ec_events.specs.Store.{Kept, Store, event_at, plain_of}
+use Rattle.ec_store.specs.Store.{Kept, Store, event_at, plain_of}
 use Rattle.ec_numbered.specs.ByNumber.{kept_at}
-use Rattle.ec_props.specs.Table.{KeptProp, prop_at, prop_of, term_at}
+use Rattle.ec_store.specs.Table.{KeptProp, prop_at, prop_of, term_at}
 use Rattle.ec_parts.specs.Caches.{IsEntered, IsEnteredIn, AreEventsOf, AreEntriesOf}
 use Rattle.ec_parts.specs.StandFor.{View, AreCaches, AreTables, StandForBoth}
 use Rattle.ec_parts.specs.declared.tally.Tally.{Tally}

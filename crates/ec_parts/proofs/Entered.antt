@@ -4,7 +4,7 @@ use Rattle.std.proofs.lemmas.List.{append-nil}
 use Rattle.ec_terms.specs.declared.ids.PropId.{PropId}
 use Rattle.ec_context.specs.Widened.{AreUnmentioned}
 use Rattle.ec_context.proofs.Keepings.{HasKept-same}
-use Rattle.ec_props.specs.Table.{KeptProp}
+use Rattle.ec_store.specs.Table.{KeptProp}
 use Rattle.ec_parts.specs.Adoption.{HasEntered}
 
 -- nothing is kept besides

@@ -12,8 +12,8 @@ use Rattle.ec_lists.proofs.Options.{Some-from_is_some, is_some-option_map}
 use Rattle.ec_lists.proofs.Tests.{list_any-map, list_any-none_at, nat_lt-filter}
 use Rattle.ec_axioms.specs.Calculus.{PlainEvent}
 use Rattle.ec_axioms.specs.Links.{is_live, mentions_of}
-use Rattle.ec_props.specs.Table.{KeptProp, prop_at, prop_of, term_at, mentions_at, without_prop}
-use Rattle.ec_props.proofs.KeptLemmas.{prop_at-without_other, prop_at-without_itself}
+use Rattle.ec_store.specs.Table.{KeptProp, prop_at, prop_of, term_at, mentions_at, without_prop}
+use Rattle.ec_store.proofs.PropLemmas.{prop_at-without_other, prop_at-without_itself}
 use Rattle.ec_numbered.specs.PropSet.{has_number}
 use Rattle.ec_numbered.proofs.Numbers.{has_number-filter}
 use Rattle.ec_exclusive.specs.Added.{Added, added_props, is_added, without_added}

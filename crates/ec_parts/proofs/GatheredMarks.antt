@@ -21,7 +21,7 @@ use Rattle.ec_changes.proofs.KeptEvents.{same_from_members}
 use Rattle.ec_changes.proofs.LiveMarks.{NotLiveIsGathered-law}
 use Rattle.ec_changes.proofs.Past.{is_earlier, IsMember-from_marks_of, IsMember-marks_of, IsPairwise-marks_of}
 use Rattle.ec_exclusive.specs.Neighbours.{both_exclusive, exclusive_at}
-use Rattle.ec_props.specs.Table.{KeptProp, term_at}
+use Rattle.ec_store.specs.Table.{KeptProp, term_at}
 use Rattle.ec_points.specs.Table.{PointTable, marks_at}
 use Rattle.ec_rows.specs.declared.mark.Mark.{Mark}
 use Rattle.ec_rows.specs.Marks.{is_counted, mark_before}

@@ -18,8 +18,8 @@ use Rattle.ec_context.proofs.Tables.{mentions_at-with_prop, without-with_prop}
 use Rattle.ec_context.proofs.Shown.{term_at-kept}
 use Rattle.ec_numbered.specs.PropSet.{has_number, with_number}
 use Rattle.ec_numbered.proofs.Numbers.{has_number-with_number}
-use Rattle.ec_props.specs.Table.{KeptProp, prop_at, prop_of, term_at, mentions_at, with_prop, without_prop, with_mentions}
-use Rattle.ec_props.proofs.KeptLemmas.{term_at-with_mentions, mentions_at-with_mentions, prop_at-with_other_mentions, prop_at-without_other}
+use Rattle.ec_store.specs.Table.{KeptProp, prop_at, prop_of, term_at, mentions_at, with_prop, without_prop, with_mentions}
+use Rattle.ec_store.proofs.PropLemmas.{term_at-with_mentions, mentions_at-with_mentions, prop_at-with_other_mentions, prop_at-without_other}
 use Rattle.ec_parts.specs.Initials.{KeepsOnce}
 use Rattle.ec_parts.proofs.LinksByNumber.{IsOneToOne}
 use Rattle.ec_parts.proofs.CachesKept.{prop_of-moved}

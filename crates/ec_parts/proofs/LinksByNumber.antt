@@ -24,9 +24,9 @@ use Rattle.ec_changes.proofs.TermOrder.{test-IsMember}
 use Rattle.ec_changes.proofs.LiveLists.{test-in_term_order}
 use Rattle.ec_changes.proofs.DistinctTerms.{IsDistinct-in_term_order}
 use Rattle.ec_changes.proofs.LinkSteps.{OneMentionMore-law}
-use Rattle.ec_props.specs.Table.{KeptProp, prop_at, prop_of, term_at, is_in_order}
-use Rattle.ec_props.proofs.KeptLemmas.{place-prop_at, same-places, prop_at-id}
-use Rattle.ec_props.proofs.FoundLemmas.{found_own}
+use Rattle.ec_store.specs.Table.{KeptProp, prop_at, prop_of, term_at, is_in_order}
+use Rattle.ec_store.proofs.PropLemmas.{place-prop_at, same-places, prop_at-id}
+use Rattle.ec_store.proofs.FoundLemmas.{found_own}
 use Rattle.ec_rows.specs.Ordered.{is_ascending}
 use Rattle.ec_numbered.specs.PropSet.{has_number, comes_before, are_ascending}
 use Rattle.ec_numbered.proofs.Numbers.{has_number-filter}

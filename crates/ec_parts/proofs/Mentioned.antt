@@ -22,8 +22,8 @@ use Rattle.ec_check.specs.declared.limits.TheConstants.{MOST_INITIALS}
 use Rattle.ec_axioms.specs.Links.{initial_properties, with_property, in_term_order}
 use Rattle.ec_changes.specs.LinkLaws.{live_by, exclusive_count, links_of}
 use Rattle.ec_changes.proofs.EventMentions.{swapped_front}
-use Rattle.ec_props.specs.Table.{KeptProp, prop_at, term_at, mentions_at, with_mentions}
-use Rattle.ec_props.proofs.KeptLemmas.{prop_of-with_mentions, term_at-with_mentions, mentions_at-with_mentions, prop_at-with_other_mentions}
+use Rattle.ec_store.specs.Table.{KeptProp, prop_at, term_at, mentions_at, with_mentions}
+use Rattle.ec_store.proofs.PropLemmas.{prop_of-with_mentions, term_at-with_mentions, mentions_at-with_mentions, prop_at-with_other_mentions}
 use Rattle.ec_context.specs.declared.entry.Entry.{Entry}
 use Rattle.ec_context.specs.Entries.{IsKeptEntry}
 use Rattle.ec_exclusive.specs.Added.{is_added}

@@ -15,11 +15,11 @@ use Rattle.ec_axioms.proofs.HistoryLaws.{SpansAreTheIntervals-law}
 use Rattle.ec_changes.specs.LiveLaws.{ListsInitials}
 use Rattle.ec_exclusive.specs.Added.{added_props}
 use Rattle.ec_exclusive.specs.Neighbours.{AreNeighbours}
-use Rattle.ec_events.specs.Store.{history_of, event_at}
+use Rattle.ec_store.specs.Store.{history_of, event_at}
 use Rattle.ec_numbered.specs.ByNumber.{kept_at}
 use Rattle.ec_numbered.specs.PropSet.{has_number}
 use Rattle.ec_points.specs.Table.{marks_at, marks_in, row_at}
-use Rattle.ec_props.specs.Table.{KeptProp, prop_at, term_at, prop_of}
+use Rattle.ec_store.specs.Table.{KeptProp, prop_at, term_at, prop_of}
 use Rattle.ec_rows.specs.PlainMarks.{plain_marks}
 use Rattle.ec_parts.specs.Caches.{initiations_of_mark, AreEntriesOf, IsEnteredIn, AreInitialsOf}
 use Rattle.ec_parts.specs.StandFor.{View, StandFor}

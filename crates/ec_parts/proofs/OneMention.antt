@@ -19,8 +19,8 @@ use Rattle.ec_lists.proofs.Finds.{is_some-find}
 use Rattle.ec_changes.specs.LiveLaws.{ListsInitials}
 use Rattle.ec_changes.specs.LinkLaws.{links_of}
 use Rattle.ec_changes.proofs.LinkSteps.{LinksInAnyOrder-law}
-use Rattle.ec_props.specs.Table.{KeptProp, prop_at, prop_of, term_at, mentions_at, with_mentions, mentioned}
-use Rattle.ec_props.proofs.KeptLemmas.{in_order-with_mentions, prop_at-with_mentions, mentioned-id}
+use Rattle.ec_store.specs.Table.{KeptProp, prop_at, prop_of, term_at, mentions_at, with_mentions, mentioned}
+use Rattle.ec_store.proofs.PropLemmas.{in_order-with_mentions, prop_at-with_mentions, mentioned-id}
 use Rattle.ec_numbered.specs.PropSet.{are_ascending}
 use Rattle.ec_exclusive.specs.Added.{added_props}
 use Rattle.ec_exclusive.specs.Neighbours.{Neighbourhoods, AreNeighbours, exclusive_at}

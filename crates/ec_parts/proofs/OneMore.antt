@@ -27,8 +27,8 @@ use Rattle.ec_changes.specs.LiveLaws.{HasLive}
 use Rattle.ec_changes.proofs.DistinctLists.{IsDistinct-from_pairwise}
 use Rattle.ec_changes.proofs.LiveMarks.{NotLiveIsUnknown-law, NotLiveIsGathered-law}
 use Rattle.ec_changes.proofs.Past.{IsMember-from_marks_of}
-use Rattle.ec_props.specs.Table.{KeptProp, prop_at, prop_of, prop_before, term_at, mentions_at, without_prop}
-use Rattle.ec_props.proofs.KeptLemmas.{prop_at-without_other, prop_at-without_itself}
+use Rattle.ec_store.specs.Table.{KeptProp, prop_at, prop_of, prop_before, term_at, mentions_at, without_prop}
+use Rattle.ec_store.proofs.PropLemmas.{prop_at-without_other, prop_at-without_itself}
 use Rattle.ec_numbered.specs.PropSet.{has_number, with_number, comes_before, are_ascending}
 use Rattle.ec_numbered.proofs.Numbers.{has_number-with_number}
 use Rattle.ec_exclusive.specs.Added.{added_props, is_added}

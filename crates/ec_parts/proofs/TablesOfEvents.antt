@@ -14,7 +14,7 @@ use Rattle.ec_axioms.specs.Links.{entry_mentions, mentions_of, is_live}
 use Rattle.ec_changes.specs.LiveLaws.{ListsInitials}
 use Rattle.ec_changes.proofs.EventMentions.{MentionsWithEvent-law, MentionsWithoutEvent-law}
 use Rattle.ec_changes.proofs.LinkSteps.{LinksAreOfMentions-law}
-use Rattle.ec_props.specs.Table.{KeptProp, term_at}
+use Rattle.ec_store.specs.Table.{KeptProp, term_at}
 use Rattle.ec_exclusive.specs.Neighbours.{Neighbourhoods}
 use Rattle.ec_context.specs.declared.entry.Entry.{Entry}
 use Rattle.ec_context.specs.declared.entry.EntryLiteral.{EntryLiteral}

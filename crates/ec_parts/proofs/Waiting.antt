@@ -17,7 +17,7 @@ use Rattle.ec_changes.proofs.LiveMarks.{MarksAreSmall-law}
 use Rattle.ec_context.specs.Widened.{AreUnmentioned, is_among, without_props}
 use Rattle.ec_context.proofs.Keepings.{unmentioned-last}
 use Rattle.ec_context.proofs.Tables.{is_among-push, prop_at-without_props, without_props-push}
-use Rattle.ec_props.specs.Table.{KeptProp, prop_at, term_at, mentions_at, without_prop}
+use Rattle.ec_store.specs.Table.{KeptProp, prop_at, term_at, mentions_at, without_prop}
 use Rattle.ec_numbered.specs.PropSet.{has_number, with_number, are_ascending}
 use Rattle.ec_numbered.proofs.Numbers.{itself, are_ascending-with_number}
 use Rattle.ec_exclusive.specs.Added.{Added, added_props, is_added}

@@ -10,7 +10,7 @@ use Rattle.ec_exclusive.specs.Added.{added_props, is_added}
 use Rattle.ec_exclusive.specs.Neighbours.{AreNeighbours, exclusive_at}
 use Rattle.ec_numbered.specs.PropSet.{are_ascending, with_number}
 use Rattle.ec_points.specs.Table.{marks_at, row_at}
-use Rattle.ec_props.specs.Table.{KeptProp, prop_at}
+use Rattle.ec_store.specs.Table.{KeptProp, prop_at}
 use Rattle.ec_parts.specs.Gathered.{AreGathered, initiations_at, marks_under}
 use Rattle.ec_parts.specs.declared.tally.Tally.{Tally}
 use Rattle.ec_parts.specs.StandFor.{View, StandForBoth}

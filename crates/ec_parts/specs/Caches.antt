@@ -9,10 +9,10 @@ use Rattle.ec_axioms.specs.declared.event.Event.{Event}
 use Rattle.ec_axioms.specs.Calculus.{PlainEvent, is_current, intervals_of}
 use Rattle.ec_axioms.specs.Events.{event_of}
 use Rattle.ec_axioms.specs.Marks.{PlainMark, marks_of, mark_initiates}
-use Rattle.ec_props.specs.Table.{KeptProp, prop_at, term_at}
+use Rattle.ec_store.specs.Table.{KeptProp, prop_at, term_at}
 use Rattle.ec_exclusive.specs.Forms.{breaks_by_initiation}
 use Rattle.ec_rows.specs.PlainMarks.{plain_marks}
-use Rattle.ec_events.specs.Store.{Store, history_of, event_at}
+use Rattle.ec_store.specs.Store.{Store, history_of, event_at}
 use Rattle.ec_context.specs.Entries.{shown_entries}
 use Rattle.ec_numbered.specs.ByNumber.{kept_at}
 use Rattle.ec_entries.specs.declared.event_entries.EventEntries.{EventEntries}

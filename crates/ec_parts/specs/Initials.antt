@@ -13,7 +13,7 @@ use Rattle.ec_axioms.specs.Marks.{spans_of}
 use Rattle.ec_exclusive.specs.Neighbours.{Neighbourhoods, AreNeighbours}
 use Rattle.ec_intervals.specs.Table.{IntervalTable, members_at, plain_intervals}
 use Rattle.ec_numbered.specs.PropSet.{has_number}
-use Rattle.ec_props.specs.Table.{KeptProp, prop_of, term_at, mentions_at}
+use Rattle.ec_store.specs.Table.{KeptProp, prop_of, term_at, mentions_at}
 
 -- an initial property is a small pattern without a variable
 pub record IsPlainInitial (initial : Initial) : Type 0 where

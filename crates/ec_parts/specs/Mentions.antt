@@ -13,7 +13,7 @@ use Rattle.ec_axioms.specs.Changes.{is_history, has_event, with_event, without_e
 use Rattle.ec_check.specs.declared.limits.TheConstants.{MOST_INITIALS}
 use Rattle.ec_changes.specs.LiveLaws.{ListsInitials}
 use Rattle.ec_changes.specs.LinkLaws.{links_of}
-use Rattle.ec_props.specs.Table.{KeptProp, prop_of, term_at, mentions_at}
+use Rattle.ec_store.specs.Table.{KeptProp, prop_of, term_at, mentions_at}
 use Rattle.ec_exclusive.specs.Neighbours.{Neighbourhoods}
 use Rattle.ec_context.specs.declared.entry.Entry.{Entry}
 use Rattle.ec_context.specs.declared.entry.EntryLiteral.{EntryLiteral}

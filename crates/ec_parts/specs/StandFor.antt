@@ -6,9 +6,9 @@ use Rattle.ec_terms.specs.declared.theory.Theory.{Theory}
 use Rattle.ec_axioms.specs.Calculus.{PlainEvent}
 use Rattle.ec_axioms.specs.Changes.{is_history}
 use Rattle.ec_axioms.specs.Links.{is_live}
-use Rattle.ec_props.specs.Table.{KeptProp, prop_of}
+use Rattle.ec_store.specs.Table.{KeptProp, prop_of}
 use Rattle.ec_exclusive.specs.Neighbours.{Neighbourhoods}
-use Rattle.ec_events.specs.Store.{Store}
+use Rattle.ec_store.specs.Store.{Store}
 use Rattle.ec_entries.specs.Dependents.{Entered}
 use Rattle.ec_points.specs.Table.{PointTable}
 use Rattle.ec_intervals.specs.Table.{IntervalTable}

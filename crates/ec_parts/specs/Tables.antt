@@ -7,7 +7,7 @@ use Rattle.ec_terms.specs.Term.{term_eq}
 use Rattle.ec_terms.specs.Domain.{is_initial}
 use Rattle.ec_axioms.specs.Calculus.{PlainEvent}
 use Rattle.ec_axioms.specs.Links.{mentions_of, is_live, link_count}
-use Rattle.ec_props.specs.Table.{KeptProp, prop_at, prop_of, term_at, mentions_at}
+use Rattle.ec_store.specs.Table.{KeptProp, prop_at, prop_of, term_at, mentions_at}
 use Rattle.ec_exclusive.specs.Added.{is_added}
 use Rattle.ec_exclusive.specs.Neighbours.{Neighbourhoods, AreNeighbours}
 use Rattle.ec_parts.specs.declared.tally.Tally.{Tally}

@@ -4,7 +4,7 @@ ghost use Rattle.ec_terms.specs.Domain.{entries_of as all_entries};
 ghost use Rattle.ec_context.specs.Entries.{shown_entries, IsKeptEntry};
 ghost use Rattle.ec_context.specs.Widened.{IsWidened};
 ghost use Rattle.ec_numbered.specs.PropSet.{has_number};
-ghost use Rattle.ec_props.specs.Table.{prop_at};
+ghost use Rattle.ec_store.specs.Table.{prop_at};
 ghost use Rattle.ec_parts.specs.Adoption.{HasEntered, KeepStanding, StandForSome};
 ghost use Rattle.ec_parts.specs.StandFor.{view_of};
 

@@ -1,7 +1,7 @@
 //! Properties that are kept no longer.
 ghost use Rattle.std.specs.Prelude.{◌≡◌, ◌≢◌, ℕ, Some, IsTrue};
 ghost use Rattle.ec_exclusive.specs.Added.{is_added};
-ghost use Rattle.ec_props.specs.Table.{mentions_at, prop_at, without_prop};
+ghost use Rattle.ec_store.specs.Table.{mentions_at, prop_at, without_prop};
 ghost use Rattle.ec_parts.specs.Mentions.{ForgetsOne};
 ghost use Rattle.ec_parts.specs.StandFor.{view_of};
 

@@ -9,7 +9,7 @@ ghost use Rattle.ec_exclusive.specs.Neighbours.{AreNeighbours};
 ghost use Rattle.ec_intervals.specs.Table.{members_at, plain_intervals, row_at};
 ghost use Rattle.ec_numbered.specs.PropSet.{are_ascending, has_number};
 ghost use Rattle.ec_points.specs.Table.{has_row, marks_at, row_at as marks_row_at};
-ghost use Rattle.ec_props.specs.Table.{prop_at};
+ghost use Rattle.ec_store.specs.Table.{prop_at};
 ghost use Rattle.ec_parts.specs.Initials.{HaveFirstIntervals, IsPlainInitial, KeepsOnce, initial_term};
 ghost use Rattle.ec_parts.specs.StandFor.{StandFor, view_of};
 
@@ -17,14 +17,13 @@ use crate::parts::Parts;
 use crate::tally::Tally;
 use ec_context::Rules;
 use ec_entries::Entries;
-use ec_events::EventStore;
 use ec_exclusive::Neighbours;
 use ec_intervals::Intervals;
 use ec_moment::Moment;
 use ec_numbered::PropSet;
 use ec_points::Points;
-use ec_props::PropTable;
 use ec_rows::{MarkRow, SpanRow, TimeRow};
+use ec_store::{EventStore, PropTable};
 use ec_terms::{Binding, Initial, NoMemory, PropId, Theory, fill_ref};
 use std::alloc::Global;
 

@@ -1,12 +1,12 @@
 //! What a mention of a property adds to the links.
 ghost use Rattle.std.specs.Prelude.{◌≡◌, ◌<◌, ◌^◌, IsSome, All, sum_by};
-ghost use Rattle.ec_props.specs.Table.{prop_at};
+ghost use Rattle.ec_store.specs.Table.{prop_at};
 ghost use Rattle.ec_parts.specs.Mentions.{links_to as links_of_one};
 
 use ec_moment::Moment;
 use ec_points::Points;
-use ec_props::PropTable;
 use ec_rows::MarkRow;
+use ec_store::PropTable;
 use ec_terms::PropId;
 
 /// What a mention of a property adds to the links by one of its neighbours. It makes the property live where `fresh`.

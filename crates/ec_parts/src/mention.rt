@@ -1,7 +1,7 @@
 //! Mentions of properties more and less, and what they make of the tally.
 ghost use Rattle.std.specs.Prelude.{◌+◌, ◌≤◌, ◌<◌, ◌^◌, [], ◌∷◌, IsSome, All, length, map};
 ghost use Rattle.ec_context.specs.Entries.{IsKeptEntry};
-ghost use Rattle.ec_props.specs.Table.{prop_at};
+ghost use Rattle.ec_store.specs.Table.{prop_at};
 ghost use Rattle.ec_parts.specs.Mentions.{AreSomeTables, HasMentioned, HasReleased, entry_props, list_props};
 
 use crate::links::links_with;
@@ -10,8 +10,8 @@ use ec_context::{Entry, EntryLiteral};
 use ec_exclusive::Neighbours;
 use ec_moment::Moment;
 use ec_points::Points;
-use ec_props::PropTable;
 use ec_rows::MarkRow;
+use ec_store::PropTable;
 use ec_terms::PropId;
 
 /// Counts one mention more of a property.

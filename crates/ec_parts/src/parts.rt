@@ -1,12 +1,11 @@
 use ec_context::Rules;
 use ec_entries::Entries;
-use ec_events::EventStore;
 use ec_exclusive::Neighbours;
 use ec_intervals::Intervals;
 use ec_moment::Moment;
 use ec_points::Points;
-use ec_props::PropTable;
 use ec_rows::{MarkRow, SpanRow, TimeRow};
+use ec_store::{EventStore, PropTable};
 
 /// The parts of an engine. The tables, `props` and `neighbours`, say which properties there are and how they stand to one
 /// another; the caches, all that follow but `store`, say what the calculus makes of the events in `store`.

@@ -3,7 +3,7 @@ ghost use Rattle.std.specs.Prelude.{◌≡◌, ◌+◌, ◌≤◌, ◌^◌, ◌+
 ghost use Rattle.ec_context.specs.Entries.{IsKeptEntry};
 ghost use Rattle.ec_numbered.specs.ByNumber.{kept_at};
 ghost use Rattle.ec_numbered.specs.PropSet.{has_number};
-ghost use Rattle.ec_props.specs.Table.{term_at};
+ghost use Rattle.ec_store.specs.Table.{term_at};
 ghost use Rattle.ec_parts.specs.Mentions.{AreOfEvents, AreOfEventsWith, TakeEventIn, TakeEventOut, entry_props, list_props};
 ghost use Rattle.ec_parts.specs.StandFor.{view_of};
 

@@ -17,7 +17,7 @@ use Rattle.ec_axioms.specs.Timeline.{Begin, before_all, begin_at, Timeline, begi
 use Rattle.ec_axioms.proofs.HistoryLaws.{SpansAreTheIntervals-law}
 use Rattle.ec_axioms.proofs.Members.{IsMember, IsMember-from_filter_map, IsMember-from_map, IsPairwise, IsPairwise-map, list_all-member}
 use Rattle.ec_axioms.proofs.MarkLaws.{row_starts-first}
-use Rattle.ec_props.specs.Table.{KeptProp, prop_of, term_at}
+use Rattle.ec_store.specs.Table.{KeptProp, prop_of, term_at}
 use Rattle.ec_rows.specs.Marks.{IsMarkRow, mark_before}
 use Rattle.ec_rows.specs.Ordered.{is_ascending}
 use Rattle.ec_rows.specs.PlainMarks.{plain_mark, plain_marks}

@@ -22,7 +22,7 @@ use Rattle.std.specs.Prelude.{◌≤◌, ◌^◌, ◌-◌}
 use Rattle.ec_changes.specs.Differences.{entries_at}
 use Rattle.ec_changes.proofs.LiveMarks.{NotLiveIsUnknown-law}
 use Rattle.ec_changes.proofs.Past.{IsMember-marks_of}
-use Rattle.ec_props.specs.Table.{KeptProp, prop_at, term_at}
+use Rattle.ec_store.specs.Table.{KeptProp, prop_at, term_at}
 use Rattle.ec_rows.specs.Ordered.{is_ascending}
 use Rattle.ec_rows.specs.PlainMarks.{plain_mark, plain_marks}
 use Rattle.ec_rows.specs.declared.mark.Mark.{Mark}

@@ -10,7 +10,7 @@ use Rattle.ec_axioms.specs.Timeline.{is_held_at, is_held_through}
 use Rattle.ec_axioms.specs.Links.{is_live}
 use Rattle.ec_changes.specs.LiveLaws.{IsUnknown}
 use Rattle.ec_changes.proofs.LiveMarks.{NotLiveIsUnknown-law}
-use Rattle.ec_props.specs.Table.{KeptProp, prop_of, term_at}
+use Rattle.ec_store.specs.Table.{KeptProp, prop_of, term_at}
 use Rattle.ec_intervals.specs.Table.{IntervalTable, members_at, plain_intervals}
 use Rattle.ec_query.specs.Held.{AreHeldOf, KeepsLive}
 

@@ -24,7 +24,7 @@ use Rattle.ec_changes.proofs.KeptEvents.{same_from_members}
 use Rattle.ec_changes.proofs.LiveLists.{LiveIsListed-law}
 use Rattle.ec_changes.proofs.LiveMarks.{NotLiveIsUnknown-law}
 use Rattle.ec_changes.proofs.TermOrder.{IsBelow, IsBelow-itself, IsMember-from_test, IsPairwise-in_term_order}
-use Rattle.ec_props.specs.Table.{KeptProp, is_in_order, number_of, prop_at, prop_before, term_at}
+use Rattle.ec_store.specs.Table.{KeptProp, is_in_order, number_of, prop_at, prop_before, term_at}
 use Rattle.ec_rows.specs.Ordered.{is_ascending}
 use Rattle.ec_intervals.specs.Table.{IntervalTable, members_at, plain_intervals}
 use Rattle.ec_query.specs.Held.{AreHeldOf}

@@ -15,7 +15,7 @@ use Rattle.ec_axioms.specs.declared.event.Event.{Event}
 use Rattle.ec_axioms.specs.Calculus.{PlainEvent}
 use Rattle.ec_axioms.specs.Changes.{is_history}
 use Rattle.ec_axioms.specs.Plain.{events_at}
-use Rattle.ec_events.specs.Store.{Kept, event_at, history_of, kept_before, plain_of}
+use Rattle.ec_store.specs.Store.{Kept, event_at, history_of, kept_before, plain_of}
 use Rattle.ec_query.proofs.EventWalks.{events_at-behind, events_at-first, events_at-here, events_from-first, is_from, is_history-drop}
 
 -- ---- where the walk starts

@@ -14,8 +14,8 @@ use Rattle.ec_terms.proofs.OrderLemmas.{term_eq-Decides}
 use Rattle.ec_axioms.specs.Calculus.{PlainEvent, instants_of, is_current, is_initiated, timeline_of}
 use Rattle.ec_axioms.specs.Marks.{PlainMark, mark_at, mark_breaks, mark_initiates, marks_of}
 use Rattle.ec_axioms.specs.Timeline.{Begin, is_after, last_begin, next_break}
-use Rattle.ec_props.specs.Table.{KeptProp, is_in_order, prop_at, term_at}
-use Rattle.ec_props.proofs.KeptLemmas.{place-prop_at, prop_at-id, same-places}
+use Rattle.ec_store.specs.Table.{KeptProp, is_in_order, prop_at, term_at}
+use Rattle.ec_store.proofs.PropLemmas.{place-prop_at, prop_at-id, same-places}
 use Rattle.ec_rows.specs.declared.mark.Mark.{Mark}
 use Rattle.ec_rows.specs.PlainMarks.{plain_marks}
 use Rattle.ec_numbered.specs.PropSet.{has_number}

@@ -15,12 +15,12 @@ use Rattle.ec_terms.specs.Domain.{GroundEntry, entries_of}
 use Rattle.ec_axioms.specs.declared.event.Event.{Event}
 use Rattle.ec_axioms.specs.Calculus.{Effect, PlainCause, PlainEvent, cause_of, effects_of, is_active, is_current}
 use Rattle.ec_axioms.specs.Events.{event_of}
-use Rattle.ec_props.specs.Table.{KeptProp}
+use Rattle.ec_store.specs.Table.{KeptProp}
 use Rattle.ec_context.specs.declared.entry.Entry.{Entry}
 use Rattle.ec_context.specs.Entries.{shown_entries, shown_entry}
 use Rattle.ec_context.proofs.EachOf.{each_of-at}
 use Rattle.ec_context.proofs.Shown.{IsShownAs-entry, length-shown}
-use Rattle.ec_events.specs.Store.{Store, event_at}
+use Rattle.ec_store.specs.Store.{Store, event_at}
 use Rattle.ec_numbered.specs.ByNumber.{kept_at}
 use Rattle.ec_entries.specs.declared.event_entries.EventEntries.{EventEntries}
 use Rattle.ec_entries.specs.Dependents.{Entered}

@@ -14,7 +14,7 @@ use Rattle.ec_axioms.specs.QueryTexts.{Canon, begin_text, cause_text, origin_tex
 use Rattle.ec_axioms.specs.Timeline.{Begin, before_all, begin_at, Reason as PlainReason, last_begin, next_break}
 use Rattle.ec_axioms.proofs.HistoryMarks.{instant-mark_at}
 use Rattle.ec_intervals.specs.Table.{plain_begin}
-use Rattle.ec_props.specs.Table.{prop_of}
+use Rattle.ec_store.specs.Table.{prop_of}
 use Rattle.ec_rows.specs.declared.mark.Mark.{Mark}
 use Rattle.ec_rows.specs.PlainMarks.{plain_mark}
 use Rattle.ec_parts.specs.StandFor.{View}

@@ -5,7 +5,7 @@ use Rattle.ec_terms.specs.declared.theory.Theory.{Theory}
 use Rattle.ec_axioms.specs.Calculus.{PlainEvent}
 use Rattle.ec_axioms.specs.Changes.{is_history}
 use Rattle.ec_axioms.specs.Links.{is_live}
-use Rattle.ec_props.specs.Table.{KeptProp, prop_of}
+use Rattle.ec_store.specs.Table.{KeptProp, prop_of}
 use Rattle.ec_intervals.specs.Table.{IntervalTable}
 use Rattle.ec_parts.specs.Caches.{AreIntervalsOf}
 

@@ -4,7 +4,7 @@ use Rattle.std.specs.Option.{option_map_or}
 use Rattle.ec_terms.specs.declared.ids.PropId.{PropId}
 use Rattle.ec_terms.specs.Term.{term_text}
 use Rattle.ec_axioms.specs.Timeline.{is_held_at}
-use Rattle.ec_props.specs.Table.{KeptProp, term_at}
+use Rattle.ec_store.specs.Table.{KeptProp, term_at}
 use Rattle.ec_intervals.specs.Table.{IntervalTable, members_at, plain_intervals}
 
 -- the numbers among these whose intervals cover t

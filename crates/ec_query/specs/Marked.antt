@@ -4,7 +4,7 @@ use Rattle.ec_terms.specs.declared.theory.Theory.{Theory}
 use Rattle.ec_axioms.specs.Calculus.{PlainEvent}
 use Rattle.ec_axioms.specs.Changes.{is_history}
 use Rattle.ec_axioms.specs.Links.{most_events}
-use Rattle.ec_props.specs.Table.{KeptProp}
+use Rattle.ec_store.specs.Table.{KeptProp}
 use Rattle.ec_rows.specs.Ordered.{is_ascending}
 use Rattle.ec_points.specs.Table.{PointTable}
 use Rattle.ec_points.specs.Clashes.{clashes_at, some_clash_at}

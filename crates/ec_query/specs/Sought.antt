@@ -5,7 +5,7 @@ use Rattle.ec_terms.specs.declared.ground.Ground.{Ground}
 use Rattle.ec_terms.specs.declared.theory.Theory.{Theory}
 use Rattle.ec_terms.specs.Domain.{GroundEntry}
 use Rattle.ec_axioms.specs.Calculus.{PlainCause, PlainEvent, Effect, cause_of, effects_of, is_active, is_breaking, is_current, is_initiating, is_terminating}
-use Rattle.ec_props.specs.Table.{KeptProp}
+use Rattle.ec_store.specs.Table.{KeptProp}
 use Rattle.ec_context.specs.declared.entry.Entry.{Entry}
 use Rattle.ec_context.specs.Entries.{shown_entries}
 use Rattle.ec_parts.specs.Activity.{is_bit_set}

@@ -5,7 +5,7 @@ use Rattle.ec_terms.specs.declared.theory.Theory.{Theory}
 use Rattle.ec_axioms.specs.Calculus.{PlainEvent, is_current, is_initiated, timeline_of}
 use Rattle.ec_axioms.specs.Marks.{mark_at}
 use Rattle.ec_axioms.specs.Timeline.{Begin, before_all, begin_at, last_begin, next_break}
-use Rattle.ec_props.specs.Table.{term_at}
+use Rattle.ec_store.specs.Table.{term_at}
 use Rattle.ec_rows.specs.PlainMarks.{plain_mark}
 use Rattle.ec_rows.specs.declared.mark.Mark.{Mark}
 use Rattle.ec_parts.specs.declared.tally.Tally.{Tally}

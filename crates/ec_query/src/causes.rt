@@ -7,7 +7,7 @@ ghost use Rattle.ec_axioms.specs.declared.event.Event.{Event as AnEvent};
 ghost use Rattle.ec_axioms.specs.Calculus.{Effect, PlainEvent, first_cause as cause_at, has_effect, is_current};
 ghost use Rattle.ec_axioms.specs.Events.{event_of};
 ghost use Rattle.ec_context.specs.Entries.{shown_entry};
-ghost use Rattle.ec_events.specs.Store.{event_at, history_of};
+ghost use Rattle.ec_store.specs.Store.{event_at, history_of};
 ghost use Rattle.ec_parts.specs.Activity.{is_bit_set};
 ghost use Rattle.ec_parts.specs.StandFor.{view_of};
 ghost use Rattle.ec_query.specs.ReasonSteps.{count_at};

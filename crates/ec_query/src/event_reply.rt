@@ -9,10 +9,10 @@ ghost use Rattle.ec_parts.specs.Caches.{AreEventsOf};
 use crate::counted::write_count;
 use crate::member_text::{MemberText, set_event};
 use ec_axioms::Steps;
-use ec_events::EventStore;
 use ec_moment::Moment;
 use ec_outside::{Failed, Sink, write_all};
 use ec_rows::TimeRow;
+use ec_store::EventStore;
 use std::sync::ledger::Ledger;
 
 /// Writes the present events: how many they are, and each of them by time and then by identity, with its identity, its time

@@ -6,8 +6,8 @@ ghost use Rattle.ec_query.specs.Held.{AreHeldOf};
 
 use ec_intervals::Intervals;
 use ec_moment::Moment;
-use ec_props::PropTable;
 use ec_rows::SpanRow;
+use ec_store::PropTable;
 use ec_terms::GroundRef;
 
 /// What queries on intervals read: which properties are kept, and their intervals.

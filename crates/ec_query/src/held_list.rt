@@ -4,7 +4,7 @@ ghost use Rattle.ec_terms.specs.declared.ids.PropId.{PropId};
 ghost use Rattle.ec_axioms.specs.Timeline.{is_held_at};
 ghost use Rattle.ec_intervals.specs.Near.{IsNear};
 ghost use Rattle.ec_intervals.specs.Table.{members_at, plain_intervals};
-ghost use Rattle.ec_props.specs.Table.{number_of};
+ghost use Rattle.ec_store.specs.Table.{number_of};
 ghost use Rattle.ec_query.specs.Holding.{held_numbers};
 ghost use Rattle.ec_query.specs.Listed.{Lists};
 

@@ -1,7 +1,7 @@
 use ec_moment::Moment;
 use ec_points::Points;
-use ec_props::PropTable;
 use ec_rows::MarkRow;
+use ec_store::PropTable;
 use ec_terms::Theory;
 
 /// What queries on broken begins and on clashes read: the theory, which properties are kept, and their marks.

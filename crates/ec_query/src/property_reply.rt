@@ -6,7 +6,7 @@ ghost use Rattle.ec_axioms.specs.QueryTexts.{at_reply};
 ghost use Rattle.ec_changes.specs.LiveLaws.{ListsInitials};
 ghost use Rattle.ec_outside.specs.Counts.{Rose};
 ghost use Rattle.ec_outside.specs.Streams.{Appended, AppendedPart};
-ghost use Rattle.ec_props.specs.Table.{number_of, prop_at};
+ghost use Rattle.ec_store.specs.Table.{number_of, prop_at};
 ghost use Rattle.ec_query.specs.Held.{AreHeldOf};
 ghost use Rattle.ec_query.specs.Holding.{held_numbers, number_text};
 ghost use Rattle.ec_query.specs.Listed.{Lists};
@@ -18,8 +18,8 @@ use crate::held_list::{HeldList, list_held};
 use crate::member_text::{MemberText, set_term};
 use ec_moment::Moment;
 use ec_outside::{Failed, Sink, write_all};
-use ec_props::PropTable;
 use ec_rows::SpanRow;
+use ec_store::PropTable;
 use ec_terms::PropId;
 
 /// Writes a kept property as a member.

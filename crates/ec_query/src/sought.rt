@@ -8,7 +8,7 @@ ghost use Rattle.ec_axioms.specs.Calculus.{PlainEvent};
 ghost use Rattle.ec_context.specs.Entries.{shown_entry};
 ghost use Rattle.ec_numbered.specs.PropSet.{are_ascending, comes_before, has_number};
 ghost use Rattle.ec_parts.specs.StandFor.{view_of};
-ghost use Rattle.ec_props.specs.Table.{term_at};
+ghost use Rattle.ec_store.specs.Table.{term_at};
 ghost use Rattle.ec_query.specs.Sought.{is_sought};
 ghost use Rattle.ec_query.specs.Standing.{AreOn, AreOnSome};
 

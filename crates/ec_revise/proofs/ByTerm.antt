@@ -13,7 +13,7 @@ use Rattle.ec_terms.specs.Domain.{GroundEntry, are_exclusive}
 use Rattle.ec_terms.proofs.DomainLemmas.{are_exclusive-comm, term_eq-refl}
 use Rattle.ec_terms.proofs.OrderLemmas.{term_eq-Decides}
 use Rattle.ec_axioms.specs.Calculus.{is_initiating, is_terminating, is_clashing}
-use Rattle.ec_props.specs.Table.{KeptProp, prop_of, term_at}
+use Rattle.ec_store.specs.Table.{KeptProp, prop_of, term_at}
 use Rattle.ec_numbered.proofs.Numbers.{has_number-filter}
 use Rattle.ec_exclusive.specs.Added.{added_props, is_added, neighbours_of, stands_in_list}
 use Rattle.ec_exclusive.specs.Neighbours.{Neighbourhoods, AreNeighbours, both_exclusive, exclusive_at}

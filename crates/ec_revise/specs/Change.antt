@@ -10,8 +10,8 @@ use Rattle.ec_axioms.specs.Calculus.{PlainEvent}
 use Rattle.ec_axioms.specs.Changes.{events_only_in, has_event, is_history}
 use Rattle.ec_axioms.specs.Events.{event_of}
 use Rattle.ec_context.specs.Entries.{shown_entries}
-use Rattle.ec_events.specs.Store.{Kept, event_at, history_of, plain_of}
-use Rattle.ec_props.specs.Table.{KeptProp}
+use Rattle.ec_store.specs.Store.{Kept, event_at, history_of, plain_of}
+use Rattle.ec_store.specs.Table.{KeptProp}
 use Rattle.ec_rows.specs.Ordered.{is_ascending}
 use Rattle.ec_revise.specs.declared.change.Change.{Change}
 use Rattle.ec_revise.specs.declared.change.Removal.{Removal}

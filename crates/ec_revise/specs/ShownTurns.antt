@@ -3,7 +3,7 @@ use Rattle.std.specs.Prelude.{◌≡◌, ℕ, List, [], ◌∷◌, Some, IsTrue}
 use Rattle.ec_terms.specs.declared.ids.PropId.{PropId}
 use Rattle.ec_terms.specs.declared.ground.Ground.{Ground}
 use Rattle.ec_terms.specs.declared.theory.Theory.{Theory}
-use Rattle.ec_props.specs.Table.{KeptProp, prop_of, term_at}
+use Rattle.ec_store.specs.Table.{KeptProp, prop_of, term_at}
 use Rattle.ec_exclusive.specs.Added.{Added, is_added}
 use Rattle.ec_exclusive.specs.Neighbours.{Neighbourhoods, AreNeighbours}
 use Rattle.ec_revise.specs.declared.settled.Tallied.{Tallied}

@@ -26,7 +26,7 @@ use Rattle.ec_context.specs.declared.entry.Entry.{Entry}
 use Rattle.ec_context.specs.Activity.{IsCurrencyOfTerms, NumberCurrency}
 use Rattle.ec_context.specs.Entries.{shown_entries, shown_entry}
 use Rattle.ec_context.proofs.Shown.{literals_agree-is_active}
-use Rattle.ec_events.specs.Store.{history_of}
+use Rattle.ec_store.specs.Store.{history_of}
 use Rattle.ec_parts.specs.declared.tally.Tally.{Tally}
 use Rattle.ec_parts.specs.Activity.{is_bit_set}
 use Rattle.ec_parts.specs.StandFor.{View}

@@ -15,8 +15,8 @@ use Rattle.ec_axioms.proofs.HistoryMarks.{AreAllMarked-mark_at}
 use Rattle.ec_axioms.proofs.Members.{IsMember-from_filter, list_any-member, member-list_any}
 use Rattle.ec_changes.specs.Differences.{entries_at, reads}
 use Rattle.ec_changes.proofs.JoinedMembers.{IsMember-from_flat_map}
-use Rattle.ec_props.specs.Table.{KeptProp, term_at}
-use Rattle.ec_events.specs.Store.{Store, history_of}
+use Rattle.ec_store.specs.Table.{KeptProp, term_at}
+use Rattle.ec_store.specs.Store.{Store, history_of}
 use Rattle.ec_entries.specs.declared.event_entries.Dependent.{Dependent}
 use Rattle.ec_entries.specs.Dependents.{Entered, dependent_if}
 use Rattle.ec_points.specs.Table.{PointTable, marks_at}

@@ -19,10 +19,10 @@ use Rattle.ec_axioms.specs.Events.{event_of}
 use Rattle.ec_axioms.specs.Marks.{mark_at}
 use Rattle.ec_axioms.proofs.Members.{Contains-from_member, IsMember-append_right, IsMember-filter, IsMember-from_contains, IsMember-map, filter_none, list_all-from_members, list_all-member, IsMember-append_left}
 use Rattle.ec_changes.specs.QuietLaws.{DifferFrom, single_events}
-use Rattle.ec_events.specs.Store.{event_at, history_of, plain_of}
+use Rattle.ec_store.specs.Store.{event_at, history_of, plain_of}
 use Rattle.ec_numbered.specs.ByNumber.{kept_at}
 use Rattle.ec_rows.specs.Ordered.{is_ascending}
-use Rattle.ec_props.specs.Table.{prop_of}
+use Rattle.ec_store.specs.Table.{prop_of}
 use Rattle.ec_parts.specs.declared.tally.Tally.{Tally}
 use Rattle.ec_parts.specs.Activity.{is_active_at, is_bit_set}
 use Rattle.ec_parts.specs.Caches.{IsEnteredIn}

@@ -13,8 +13,8 @@ use Rattle.ec_axioms.specs.Events.{event_of}
 use Rattle.ec_axioms.proofs.Members.{Contains-from_member, IsMember, IsMember-from_filter, IsMember-from_map, IsPairwise, IsPairwise-filter, list_any-member}
 use Rattle.ec_axioms.proofs.Instants.{int_le-comes_before}
 use Rattle.ec_changes.proofs.KeptEvents.{IsPairwise-from_history}
-use Rattle.ec_events.specs.Store.{Kept, event_at, history_of, plain_of}
-use Rattle.ec_props.specs.Table.{KeptProp}
+use Rattle.ec_store.specs.Store.{Kept, event_at, history_of, plain_of}
+use Rattle.ec_store.specs.Table.{KeptProp}
 use Rattle.ec_revise.specs.declared.change.Change.{Change}
 use Rattle.ec_revise.specs.declared.change.Removal.{Removal}
 use Rattle.ec_revise.specs.Change.{IsChange, has_slot, removal_before}

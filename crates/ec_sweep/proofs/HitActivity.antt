@@ -14,7 +14,7 @@ use Rattle.ec_axioms.specs.Marks.{current_after, last_mark_before}
 use Rattle.ec_axioms.proofs.HistoryLaws.{CurrencyIsOfTheLastMark-law}
 use Rattle.ec_axioms.proofs.Members.{Contains-from_member, find-Some}
 use Rattle.ec_numbered.specs.Due.{Due}
-use Rattle.ec_events.specs.Store.{event_at, history_of}
+use Rattle.ec_store.specs.Store.{event_at, history_of}
 use Rattle.ec_numbered.specs.ByNumber.{kept_at}
 use Rattle.ec_context.specs.Activity.{IsCurrencyOfTerms}
 use Rattle.ec_context.proofs.Shown.{literals_agree-is_active}

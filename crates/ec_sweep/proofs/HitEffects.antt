@@ -24,8 +24,8 @@ use Rattle.ec_changes.proofs.DistinctLists.{IsDistinct-from_pairwise, IsPairwise
 use Rattle.ec_changes.proofs.JoinedMembers.{IsMember-flat_map, IsMember-from_flat_map}
 use Rattle.ec_changes.proofs.KeptEvents.{event_eq-is}
 use Rattle.ec_numbered.specs.Due.{Due, has_due}
-use Rattle.ec_props.specs.Table.{KeptProp, prop_of, term_at}
-use Rattle.ec_events.specs.Store.{Kept, event_at, history_of, plain_of}
+use Rattle.ec_store.specs.Table.{KeptProp, prop_of, term_at}
+use Rattle.ec_store.specs.Store.{Kept, event_at, history_of, plain_of}
 use Rattle.ec_numbered.specs.PropSet.{has_number}
 use Rattle.ec_entries.specs.declared.event_entries.Dependent.{Dependent}
 use Rattle.ec_entries.specs.Dependents.{dependent_at, dependent_if}

@@ -11,7 +11,7 @@ use Rattle.ec_axioms.specs.Calculus.{Effect}
 use Rattle.ec_context.specs.declared.entry.Entry.{Entry}
 use Rattle.ec_context.specs.Activity.{NumberCurrency}
 use Rattle.ec_exclusive.specs.Added.{Added, is_added}
-use Rattle.ec_props.specs.Table.{KeptProp, term_at}
+use Rattle.ec_store.specs.Table.{KeptProp, term_at}
 use Rattle.ec_revise.specs.declared.turn.Turn.{Turn}
 use Rattle.ec_revise.specs.ShownTurns.{AreShown, IsShown}
 use Rattle.ec_revise.specs.Visit.{PlainTurn, turn_to}

@@ -2,8 +2,8 @@
 use Rattle.std.proofs.Common.{◌≡◌, ℕ, true, List, Option, Some, None, refl, sym, ap, ◌∙◌}
 use Rattle.std.specs.Prelude.{option_map}
 use Rattle.ec_terms.specs.declared.ground.Ground.{Ground}
-use Rattle.ec_props.specs.Table.{KeptProp, is_in_order, prop_at, prop_of, term_at}
-use Rattle.ec_props.proofs.KeptLemmas.{find-term, place-prop_at, prop_at-id}
+use Rattle.ec_store.specs.Table.{KeptProp, is_in_order, prop_at, prop_of, term_at}
+use Rattle.ec_store.proofs.PropLemmas.{find-term, place-prop_at, prop_at-id}
 
 -- a kept term finds its number
 pub prop_of-term_at : (table : List KeptProp) (n : ℕ) (p : Ground) → is_in_order table ≡ true → term_at n table ≡ Some p → prop_of p table ≡ Some n

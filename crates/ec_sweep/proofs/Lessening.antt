@@ -13,11 +13,11 @@ use Rattle.ec_axioms.specs.declared.event.Event.{Event}
 use Rattle.ec_axioms.specs.Calculus.{PlainEvent}
 use Rattle.ec_axioms.proofs.Members.{Contains-from_member, IsMember, IsMember-from_contains, IsMember-from_map, list_any-member, length-filter_fewer}
 use Rattle.ec_numbered.specs.Due.{Due}
-use Rattle.ec_events.specs.Store.{Kept, history_of, plain_of}
+use Rattle.ec_store.specs.Store.{Kept, history_of, plain_of}
 use Rattle.ec_points.specs.Clashes.{is_behind}
 use Rattle.ec_parts.specs.declared.tally.Tally.{Tally}
 use Rattle.ec_parts.specs.StandFor.{View}
-use Rattle.ec_props.specs.Table.{prop_at}
+use Rattle.ec_store.specs.Table.{prop_at}
 use Rattle.ec_revise.specs.declared.change.Change.{Change}
 use Rattle.ec_revise.specs.declared.change.Removal.{Removal}
 use Rattle.ec_sweep.specs.declared.sweep.Sweep.{Sweep}

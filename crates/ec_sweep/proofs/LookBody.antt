@@ -19,7 +19,7 @@ use Rattle.ec_axioms.specs.Changes.{comes_before, events_only_in, has_event}
 use Rattle.ec_axioms.specs.Events.{event_of}
 use Rattle.ec_axioms.proofs.Members.{Contains-from_member, IsMember-from_filter, IsPairwise, IsPairwise-filter, IsPairwise-weaker}
 use Rattle.ec_changes.proofs.KeptEvents.{IsPairwise-from_history}
-use Rattle.ec_events.specs.Store.{Kept, event_at, history_of}
+use Rattle.ec_store.specs.Store.{Kept, event_at, history_of}
 use Rattle.ec_numbered.specs.ByNumber.{kept_at}
 use Rattle.ec_parts.specs.declared.tally.Tally.{Tally}
 use Rattle.ec_parts.specs.StandFor.{View}
@@ -36,7 +36,7 @@ use Rattle.ec_sweep.specs.Visiting.{CanLook, HasLooked}
 use Rattle.ec_sweep.proofs.LookByTerm.{HasLooked-by_number}
 use Rattle.ec_sweep.proofs.ReadingEntries.{AreAtSlots, entered-event}
 use Rattle.ec_sweep.proofs.TimedRuns.{run-next}
-use Rattle.ec_props.specs.Table.{KeptProp}
+use Rattle.ec_store.specs.Table.{KeptProp}
 use Rattle.ec_revise.specs.declared.change.Change.{Change}
 use Rattle.ec_revise.specs.declared.change.Removal.{Removal}
 use Rattle.ec_revise.specs.Change.{IsChange, entries_to_show, removal_before}

@@ -18,7 +18,7 @@ use Rattle.ec_changes.proofs.Activity.{event-effects_of, rank-entries_at}
 use Rattle.ec_changes.proofs.JoinedMembers.{IsMember-from_flat_map}
 use Rattle.ec_changes.proofs.KeptEvents.{event_eq-is, has_event-member}
 use Rattle.ec_entries.specs.declared.event_entries.EventEntries.{EventEntries}
-use Rattle.ec_events.specs.Store.{history_of}
+use Rattle.ec_store.specs.Store.{history_of}
 use Rattle.ec_parts.specs.declared.tally.Tally.{Tally}
 use Rattle.ec_parts.specs.StandFor.{View}
 use Rattle.ec_parts.proofs.LinksByNumber.{IsOneToOne}

@@ -13,7 +13,7 @@ use Rattle.ec_changes.specs.Turns.{kept_count, sees}
 use Rattle.ec_changes.proofs.Hits.{SeenInAnyOrder-law}
 use Rattle.ec_changes.proofs.KeptCounts.{KeptCountsGoOn-law}
 use Rattle.ec_context.specs.declared.entry.Entry.{Entry}
-use Rattle.ec_events.specs.Store.{history_of}
+use Rattle.ec_store.specs.Store.{history_of}
 use Rattle.ec_parts.specs.declared.tally.Tally.{Tally}
 use Rattle.ec_parts.specs.StandFor.{View}
 use Rattle.ec_parts.proofs.LinksByNumber.{IsOneToOne}

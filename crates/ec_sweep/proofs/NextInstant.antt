@@ -22,11 +22,11 @@ use Rattle.ec_axioms.specs.Marks.{mark_at}
 use Rattle.ec_axioms.proofs.Members.{Contains-from_member, IsMember, IsMember-append_cases, filter_none, list_all-member, list_any-member, member-list_any}
 use Rattle.ec_changes.specs.QuietLaws.{single_events}
 use Rattle.ec_numbered.specs.Due.{Due, has_due, is_due}
-use Rattle.ec_events.specs.Store.{Kept, event_at, history_of}
+use Rattle.ec_store.specs.Store.{Kept, event_at, history_of}
 use Rattle.ec_points.specs.Changes.{change_at}
 use Rattle.ec_parts.specs.declared.tally.Tally.{Tally}
 use Rattle.ec_parts.specs.StandFor.{View}
-use Rattle.ec_props.specs.Table.{KeptProp, is_in_order, prop_at, prop_of, term_at}
+use Rattle.ec_store.specs.Table.{KeptProp, is_in_order, prop_at, prop_of, term_at}
 use Rattle.ec_delta.specs.declared.flips.Flip.{Flip}
 use Rattle.ec_delta.specs.Ready.{initiation_at, mark_made}
 use Rattle.ec_revise.specs.declared.change.Change.{Change}

@@ -7,10 +7,10 @@ use Rattle.ec_terms.specs.declared.ground.Ground.{Ground}
 use Rattle.ec_terms.specs.declared.theory.Theory.{Theory}
 use Rattle.ec_axioms.specs.Calculus.{PlainEvent, Effect}
 use Rattle.ec_numbered.specs.Due.{Due}
-use Rattle.ec_events.specs.Store.{Kept, event_at, history_of}
+use Rattle.ec_store.specs.Store.{Kept, event_at, history_of}
 use Rattle.ec_parts.specs.declared.tally.Tally.{Tally}
 use Rattle.ec_parts.specs.StandFor.{View}
-use Rattle.ec_props.specs.Table.{is_in_order}
+use Rattle.ec_store.specs.Table.{is_in_order}
 use Rattle.ec_delta.specs.declared.delta.Looked.{Looked}
 use Rattle.ec_delta.specs.declared.delta.Planned.{Planned}
 use Rattle.ec_revise.specs.declared.change.Change.{Change}

@@ -15,7 +15,7 @@ use Rattle.ec_axioms.specs.Changes.{comes_before, is_history}
 use Rattle.ec_axioms.specs.Events.{event_of}
 use Rattle.ec_axioms.proofs.Members.{IsMember, IsMember-map, IsPairwise, find-Some}
 use Rattle.ec_changes.proofs.KeptEvents.{IsPairwise-from_history, comes_before-itself}
-use Rattle.ec_events.specs.Store.{Kept, event_at, history_of, plain_of}
+use Rattle.ec_store.specs.Store.{Kept, event_at, history_of, plain_of}
 
 -- ---- places in a list
 

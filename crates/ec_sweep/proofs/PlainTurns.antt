@@ -20,7 +20,7 @@ use Rattle.ec_context.proofs.EachOf.{each_of-first}
 use Rattle.ec_context.proofs.Shown.{IsShownAs-entry}
 use Rattle.ec_exclusive.specs.Added.{is_added}
 use Rattle.ec_exclusive.specs.Neighbours.{Neighbourhoods}
-use Rattle.ec_props.specs.Table.{KeptProp, prop_at, term_at}
+use Rattle.ec_store.specs.Table.{KeptProp, prop_at, term_at}
 use Rattle.ec_parts.specs.Activity.{is_bit_set}
 use Rattle.ec_parts.specs.Tables.{AreAllAdded}
 use Rattle.ec_revise.specs.Change.{entries_to_show}

@@ -6,7 +6,7 @@ use Rattle.std.proofs.lemmas.Bool.{cases_Bool, and_parts, false≢true, or_cases
 use Rattle.std.proofs.lemmas.Int.{ints}
 use Rattle.std.proofs.lemmas.Option.{none-some}
 use Rattle.ec_lists.proofs.Integers.{int_eq-is}
-use Rattle.ec_props.specs.Table.{prop_at}
+use Rattle.ec_store.specs.Table.{prop_at}
 use Rattle.ec_points.specs.Changes.{Change as MarkChange, count_of, growth_of, has_change, is_new}
 use Rattle.ec_points.specs.Table.{marks_at}
 use Rattle.ec_rows.specs.declared.mark.Mark.{Mark}

@@ -19,8 +19,8 @@ use Rattle.ec_axioms.specs.Plain.{events_at}
 use Rattle.ec_axioms.proofs.Members.{Contains-from_member, IsMember, IsMember-filter, IsMember-from_filter, IsMember-from_map, IsMember-map, find-Some, list_any-member, member-list_any, IsMember-slice_get, slice_get-member}
 use Rattle.ec_changes.specs.Differences.{entries_at, reads}
 use Rattle.ec_changes.proofs.JoinedMembers.{IsMember-flat_map, IsMember-from_flat_map}
-use Rattle.ec_props.specs.Table.{KeptProp, term_at}
-use Rattle.ec_events.specs.Store.{Kept, Store, event_at, history_of, plain_of}
+use Rattle.ec_store.specs.Table.{KeptProp, term_at}
+use Rattle.ec_store.specs.Store.{Kept, Store, event_at, history_of, plain_of}
 use Rattle.ec_numbered.specs.ByNumber.{kept_at}
 use Rattle.ec_context.specs.declared.entry.Entry.{Entry}
 use Rattle.ec_context.specs.declared.entry.EntryLiteral.{EntryLiteral}

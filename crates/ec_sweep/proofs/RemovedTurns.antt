@@ -22,7 +22,7 @@ use Rattle.ec_numbered.specs.Due.{Due}
 use Rattle.ec_changes.specs.Differences.{entries_at}
 use Rattle.ec_changes.proofs.KeptEvents.{IsPairwise-from_history, comes_before-itself}
 use Rattle.ec_changes.proofs.Tallies.{length-filter-flat_map}
-use Rattle.ec_events.specs.Store.{Kept, event_at, history_of, plain_of}
+use Rattle.ec_store.specs.Store.{Kept, event_at, history_of, plain_of}
 use Rattle.ec_numbered.specs.ByNumber.{kept_at}
 use Rattle.ec_parts.specs.declared.tally.Tally.{Tally}
 use Rattle.ec_parts.specs.Activity.{is_bit_set}

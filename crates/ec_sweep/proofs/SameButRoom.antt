@@ -6,9 +6,9 @@ use Rattle.ec_terms.specs.declared.theory.Theory.{Theory}
 use Rattle.ec_axioms.specs.Calculus.{PlainEvent, is_current}
 use Rattle.ec_axioms.specs.Changes.{change_counts}
 use Rattle.ec_axioms.specs.Events.{event_of}
-use Rattle.ec_props.specs.Table.{KeptProp, prop_at, prop_of, term_at}
+use Rattle.ec_store.specs.Table.{KeptProp, prop_at, prop_of, term_at}
 use Rattle.ec_rows.specs.PlainMarks.{plain_marks}
-use Rattle.ec_events.specs.Store.{Kept, event_at, history_of}
+use Rattle.ec_store.specs.Store.{Kept, event_at, history_of}
 use Rattle.ec_numbered.specs.ByNumber.{kept_at}
 use Rattle.ec_numbered.specs.PropSet.{has_number}
 use Rattle.ec_entries.specs.declared.event_entries.EventEntries.{EventEntries}

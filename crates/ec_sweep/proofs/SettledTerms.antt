@@ -22,9 +22,9 @@ use Rattle.ec_axioms.proofs.Members.{Contains-from_member, IsMember, IsMember-fi
 use Rattle.ec_changes.proofs.LiveMarks.{mark_same}
 use Rattle.ec_numbered.specs.Due.{Due, has_due, is_due as is_due_at}
 use Rattle.ec_changes.specs.QuietLaws.{current_behind}
-use Rattle.ec_props.specs.Table.{KeptProp, is_in_order, prop_at, prop_of, term_at}
-use Rattle.ec_props.proofs.FoundLemmas.{found_own}
-use Rattle.ec_events.specs.Store.{history_of}
+use Rattle.ec_store.specs.Table.{KeptProp, is_in_order, prop_at, prop_of, term_at}
+use Rattle.ec_store.proofs.FoundLemmas.{found_own}
+use Rattle.ec_store.specs.Store.{history_of}
 use Rattle.ec_numbered.specs.PropSet.{has_number}
 use Rattle.ec_numbered.proofs.Numbers.{has_number-filter}
 use Rattle.ec_exclusive.specs.Added.{added_props, is_added, neighbours_of, stands_in_list}

@@ -21,7 +21,7 @@ use Rattle.ec_changes.specs.Turns.{same_entry}
 use Rattle.ec_changes.proofs.Activity.{event-effects_of}
 use Rattle.ec_changes.proofs.KeptEvents.{has_event-member}
 use Rattle.ec_changes.proofs.Hits.{IsPairwise-append}
-use Rattle.ec_events.specs.Store.{event_at, history_of}
+use Rattle.ec_store.specs.Store.{event_at, history_of}
 use Rattle.ec_numbered.specs.ByNumber.{kept_at}
 use Rattle.ec_parts.specs.declared.tally.Tally.{Tally}
 use Rattle.ec_parts.specs.Activity.{is_bit_set}

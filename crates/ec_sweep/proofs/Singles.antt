@@ -12,8 +12,8 @@ use Rattle.ec_axioms.specs.Events.{event_of}
 use Rattle.ec_axioms.proofs.Members.{Contains-from_member, IsMember-from_contains, find-Some, member-list_any}
 use Rattle.ec_axioms.proofs.OrderedEvents.{is_history-filter}
 use Rattle.ec_axioms.proofs.Instants.{int_le-comes_before}
-use Rattle.ec_events.specs.Store.{Kept, event_at, history_of, plain_of}
-use Rattle.ec_props.specs.Table.{KeptProp}
+use Rattle.ec_store.specs.Store.{Kept, event_at, history_of, plain_of}
+use Rattle.ec_store.specs.Table.{KeptProp}
 use Rattle.ec_rows.specs.Ordered.{is_ascending}
 use Rattle.ec_rows.proofs.OrderedLemmas.{and-left, and-right}
 use Rattle.ec_revise.specs.declared.change.Change.{Change}

@@ -24,13 +24,13 @@ use Rattle.ec_changes.specs.Differences.{entries_at}
 use Rattle.ec_changes.specs.QuietLaws.{single_events}
 use Rattle.ec_changes.proofs.JoinedMembers.{IsMember-flat_map}
 use Rattle.ec_changes.proofs.KeptEvents.{IsMember-from_has_event}
-use Rattle.ec_events.specs.Store.{Kept, event_at, history_of}
+use Rattle.ec_store.specs.Store.{Kept, event_at, history_of}
 use Rattle.ec_numbered.specs.ByNumber.{kept_at}
 use Rattle.ec_parts.specs.declared.tally.Tally.{Tally}
 use Rattle.ec_parts.specs.Activity.{AreActiveBits, is_active_at, is_bit_set}
 use Rattle.ec_parts.specs.StandFor.{View}
 use Rattle.ec_points.specs.Changes.{Change as MarkChange, change_at}
-use Rattle.ec_props.specs.Table.{is_in_order, prop_of, term_at}
+use Rattle.ec_store.specs.Table.{is_in_order, prop_of, term_at}
 use Rattle.ec_rows.specs.PlainMarks.{plain_mark}
 use Rattle.ec_revise.specs.declared.change.Change.{Change}
 use Rattle.ec_revise.specs.declared.change.Removal.{Removal}

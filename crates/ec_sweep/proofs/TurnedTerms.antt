@@ -17,7 +17,7 @@ use Rattle.ec_axioms.specs.Links.{mentions_of}
 use Rattle.ec_axioms.specs.Marks.{PlainMark, mark_at}
 use Rattle.ec_changes.proofs.LiveMarks.{MarksAreSmall-law, mark_same}
 use Rattle.ec_changes.proofs.TurnAccounts.{MarksFollowTurns-law}
-use Rattle.ec_props.specs.Table.{KeptProp, term_at}
+use Rattle.ec_store.specs.Table.{KeptProp, term_at}
 use Rattle.ec_exclusive.specs.Added.{Added, is_added}
 use Rattle.ec_exclusive.specs.Neighbours.{Neighbourhoods, AreNeighbours}
 use Rattle.ec_rows.specs.declared.mark.Mark.{Mark}

@@ -15,7 +15,7 @@ use Rattle.ec_exclusive.specs.Forms.{breaks_by_initiation}
 use Rattle.ec_exclusive.specs.Neighbours.{AreNeighbours, Neighbourhoods}
 use Rattle.ec_points.specs.Changes.{Change as MarkChange}
 use Rattle.ec_points.specs.Table.{PointTable, is_current_at, marks_at}
-use Rattle.ec_props.specs.Table.{KeptProp, term_at}
+use Rattle.ec_store.specs.Table.{KeptProp, term_at}
 use Rattle.ec_rows.specs.declared.mark.Mark.{Mark}
 use Rattle.ec_rows.specs.Marks.{has_mark, is_counted, mark_at}
 use Rattle.ec_rows.specs.PlainMarks.{plain_mark}

@@ -13,9 +13,9 @@ use Rattle.ec_axioms.specs.Calculus.{PlainEvent, Effect, effects_of}
 use Rattle.ec_axioms.specs.Events.{event_of}
 use Rattle.ec_axioms.specs.Links.{mentions_of}
 use Rattle.ec_numbered.specs.Due.{Due, has_due}
-use Rattle.ec_props.specs.Table.{KeptProp, prop_at, prop_of, term_at}
+use Rattle.ec_store.specs.Table.{KeptProp, prop_at, prop_of, term_at}
 use Rattle.ec_rows.specs.PlainMarks.{plain_mark}
-use Rattle.ec_events.specs.Store.{event_at, history_of}
+use Rattle.ec_store.specs.Store.{event_at, history_of}
 use Rattle.ec_numbered.specs.ByNumber.{kept_at}
 use Rattle.ec_points.specs.Changes.{Change as MarkChange, change_at, has_change}
 use Rattle.ec_points.specs.Table.{PointTable, is_current_at}

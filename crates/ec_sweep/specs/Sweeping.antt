@@ -6,7 +6,7 @@ use Rattle.ec_terms.specs.declared.theory.Theory.{Theory}
 use Rattle.ec_axioms.specs.declared.event.Event.{Event}
 use Rattle.ec_axioms.specs.Calculus.{PlainEvent, Effect}
 use Rattle.ec_numbered.specs.Due.{Due}
-use Rattle.ec_events.specs.Store.{Kept, history_of}
+use Rattle.ec_store.specs.Store.{Kept, history_of}
 use Rattle.ec_points.specs.Clashes.{is_behind}
 use Rattle.ec_parts.specs.declared.tally.Tally.{Tally}
 use Rattle.ec_parts.specs.StandFor.{View}

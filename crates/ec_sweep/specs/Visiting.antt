@@ -10,8 +10,8 @@ use Rattle.ec_terms.specs.Domain.{GroundEntry}
 use Rattle.ec_axioms.specs.Calculus.{PlainEvent, Effect}
 use Rattle.ec_axioms.specs.Changes.{change_counts}
 use Rattle.ec_numbered.specs.Due.{Due, has_due}
-use Rattle.ec_props.specs.Table.{KeptProp, prop_of}
-use Rattle.ec_events.specs.Store.{history_of}
+use Rattle.ec_store.specs.Table.{KeptProp, prop_of}
+use Rattle.ec_store.specs.Store.{history_of}
 use Rattle.ec_numbered.specs.PropSet.{has_number}
 use Rattle.ec_parts.specs.declared.tally.Tally.{Tally}
 use Rattle.ec_parts.specs.StandFor.{View}

@@ -2,7 +2,7 @@
 ghost use Rattle.std.specs.Prelude.{◌≡◌, ◌+◌, ◌≤◌, ◌+ℤ◌, pos, ℤ, Bool, List, IfOk, OnOk};
 ghost use Rattle.ec_axioms.specs.Calculus.{PlainEvent, Effect};
 ghost use Rattle.ec_numbered.specs.Due.{Due};
-ghost use Rattle.ec_events.specs.Store.{history_of};
+ghost use Rattle.ec_store.specs.Store.{history_of};
 ghost use Rattle.ec_delta.specs.declared.delta.Planned.{Planned};
 ghost use Rattle.ec_parts.specs.declared.tally.Tally.{Tally as PartsTally};
 ghost use Rattle.ec_parts.specs.StandFor.{view_of};

@@ -2,7 +2,7 @@
 ghost use Rattle.std.specs.Prelude.{◌≡◌, ◌+◌, ◌*◌, ◌≤◌, List, IfOk, IfErr, flat_map, length};
 ghost use Rattle.ec_axioms.specs.Calculus.{PlainEvent};
 ghost use Rattle.ec_axioms.specs.Changes.{change_counts};
-ghost use Rattle.ec_events.specs.Store.{history_of};
+ghost use Rattle.ec_store.specs.Store.{history_of};
 ghost use Rattle.ec_parts.specs.declared.tally.Tally.{Tally as PartsTally};
 ghost use Rattle.ec_parts.specs.StandFor.{StandForBoth, view_of};
 ghost use Rattle.ec_delta.specs.Ready.{IsReady};

@@ -4,7 +4,7 @@ ghost use Rattle.ec_exclusive.specs.Added.{is_added};
 ghost use Rattle.ec_exclusive.specs.Forms.{breaks_by_initiation as may_break};
 ghost use Rattle.ec_exclusive.specs.Neighbours.{AreNeighbours};
 ghost use Rattle.ec_points.specs.Changes.{has_change};
-ghost use Rattle.ec_props.specs.Table.{KeptProp, term_at};
+ghost use Rattle.ec_store.specs.Table.{KeptProp, term_at};
 ghost use Rattle.ec_rows.specs.Marks.{is_counted};
 ghost use Rattle.ec_revise.specs.Tallied.{HasRoomFor};
 ghost use Rattle.ec_terms.specs.declared.ground.Ground.{Ground};

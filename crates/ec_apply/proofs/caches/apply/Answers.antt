@@ -4,7 +4,7 @@ use Rattle.ec_points.specs.Clashes.{clashes_at}
 use Rattle.ec_parts.proofs.ListedInitials.{lists_initials}
 use Rattle.ec_parts.specs.StandFor.{view_of}
 use Rattle.ec_axioms.specs.Changes.{change_counts}
-use Rattle.ec_events.specs.Store.{history_of}
+use Rattle.ec_store.specs.Store.{history_of}
 use Rattle.ec_apply.proofs.Standing.{seen-same}
 use Rattle.ec_apply.proofs.Whole.{all-new, mendable-new, no_clashes, props-are, starts-new}
 use Rattle.ec_apply.proofs.caches.apply.Goals as goal

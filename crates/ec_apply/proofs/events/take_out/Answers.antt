@@ -1,6 +1,6 @@
 use Rattle.std.proofs.Common.{◌≡◌, [], ◌∷◌, cond, None, IsSome, IsTrue, length, length-append, sym, subst, ap, ◌∙◌, arith}
 use Rattle.std.specs.List.{All}
-use Rattle.ec_events.specs.Store.{event_at}
+use Rattle.ec_store.specs.Store.{event_at}
 use Rattle.ec_numbered.specs.ByNumber.{kept_at}
 use Rattle.ec_revise.specs.Change.{has_slot}
 use Rattle.ec_apply.specs.Events.{are_slots_apart, without_slots}

@@ -2,7 +2,7 @@ use Rattle.std.proofs.Common.{◌≡◌, ℕ, ◌+◌, ◌≤◌, None, IsSome, 
 use Rattle.std.specs.Prelude.{if◌then◌else◌}
 use Rattle.std.specs.List.{All}
 use Rattle.ec_terms.specs.declared.ids.Slot.{Slot}
-use Rattle.ec_events.specs.Store.{event_at}
+use Rattle.ec_store.specs.Store.{event_at}
 use Rattle.ec_numbered.specs.ByNumber.{kept_at}
 use Rattle.ec_entries.specs.Dependents.{room_of}
 use Rattle.ec_revise.specs.Change.{has_slot}

@@ -1,7 +1,7 @@
 -- Under the key of the rule its places are found, and under other keys what was.
 use Rattle.std.proofs.Common.{ℕ, List, ◌∷◌, Some, sym, ap₂, ◌∙◌}
-use Rattle.ec_props.specs.ByText.{found_at}
-use Rattle.ec_props.proofs.ByTextLemmas.{found_at-updates}
+use Rattle.ec_store.specs.ByText.{found_at}
+use Rattle.ec_store.proofs.ByTextLemmas.{found_at-updates}
 use Rattle.ec_context.specs.RulePlaces.{places_for}
 use Rattle.ec_context.proofs.IndexLemmas.{exact-added, is_for-added, is_for-found, none-added}
 use Rattle.ec_context.proofs.rules.add.Goals as goal

@@ -1,6 +1,6 @@
 -- What is found is right, and where nothing is found no rule so far is for such events.
 use Rattle.std.proofs.Common.{◌≡◌, ℕ, List, [], ◌∷◌, None, IsSome, take}
-use Rattle.ec_props.specs.ByText.{found_at}
+use Rattle.ec_store.specs.ByText.{found_at}
 use Rattle.ec_context.specs.RulePlaces.{listed, places_for}
 use Rattle.ec_context.proofs.rules.index_of.Given as goal
 

@@ -6,8 +6,8 @@ use Rattle.ec_axioms.specs.declared.event.Cut.TheVariants.{Duplicate, FullEvents
 use Rattle.ec_axioms.specs.Calculus.{PlainEvent}
 use Rattle.ec_axioms.specs.Changes.{has_id}
 use Rattle.ec_axioms.specs.Links.{most_events}
-use Rattle.ec_events.specs.Store.{history_of, plain_of}
-use Rattle.ec_events.proofs.KeptLemmas.{has_id-slot_of}
+use Rattle.ec_store.specs.Store.{history_of, plain_of}
+use Rattle.ec_store.proofs.EventLemmas.{has_id-slot_of}
 use Rattle.ec_engine.proofs.Arrivals.{may_want_alone, refused_alone}
 use Rattle.ec_engine.proofs.WalkSteps.{may_want-asserted, refused_full, refused_present}
 use Rattle.ec_engine.proofs.arriving.arrive.Goals as goal

@@ -2,7 +2,7 @@
 use Rattle.std.proofs.Common.{ap, ◌∙◌}
 use Rattle.ec_axioms.specs.Changes.{with_event}
 use Rattle.ec_axioms.specs.Events.{event_of}
-use Rattle.ec_events.specs.Store.{history_of}
+use Rattle.ec_store.specs.Store.{history_of}
 use Rattle.ec_parts.specs.StandFor.{view_of}
 use Rattle.ec_engine.proofs.Arrivals.{LeadsTo-arrived, made_alone, may_want_alone}
 use Rattle.ec_engine.proofs.WalkSteps.{asked_limits, may_want-asserted}

@@ -5,7 +5,7 @@ use Rattle.ec_terms.specs.Domain.{entries_of}
 use Rattle.ec_axioms.specs.Changes.{with_event}
 use Rattle.ec_axioms.specs.Events.{event_of}
 use Rattle.ec_axioms.specs.Links.{mentions_of, most_mentions}
-use Rattle.ec_events.specs.Store.{history_of}
+use Rattle.ec_store.specs.Store.{history_of}
 use Rattle.ec_numbered.specs.PropSet.{has_number}
 use Rattle.ec_parts.specs.declared.parts.Parts.{Parts}
 use Rattle.ec_parts.specs.StandFor.{StandFor, StandForBoth, view_of}

@@ -1,7 +1,7 @@
 -- The walk goes through, or is undone.
 use Rattle.std.proofs.Common.{map, sym, ap, subst}
 use Rattle.ec_axioms.specs.Events.{plain_update}
-use Rattle.ec_events.specs.Store.{history_of}
+use Rattle.ec_store.specs.Store.{history_of}
 use Rattle.ec_parts.specs.StandFor.{view_of}
 use Rattle.ec_engine.specs.Walk.{HasWalked, HasWalkedTo}
 use Rattle.ec_engine.proofs.Attempts.{walked_until}

@@ -3,7 +3,7 @@ use Rattle.std.proofs.Common.{sym, ap, ◌∙◌}
 use Rattle.std.specs.Prelude.{bytes_eq}
 use Rattle.std.specs.Map.{lookup}
 use Rattle.std.proofs.lemmas.List.{length-map}
-use Rattle.ec_events.specs.Store.{plain_of}
+use Rattle.ec_store.specs.Store.{plain_of}
 use Rattle.ec_parts.specs.StandFor.{view_of}
 use Rattle.ec_engine.proofs.Attempts.{HasWalkedTo-start}
 use Rattle.ec_engine.proofs.attempt.start.Goals as goal

@@ -1,7 +1,7 @@
 -- The walk begins at no event.
 use Rattle.std.proofs.Common.{◌≡◌, [], map, sym, ap, subst, ◌∙◌, arith}
 use Rattle.ec_axioms.specs.Events.{event_of}
-use Rattle.ec_events.specs.Store.{history_of}
+use Rattle.ec_store.specs.Store.{history_of}
 use Rattle.ec_parts.specs.StandFor.{StandFor, view_of}
 use Rattle.ec_engine.specs.Build.{history_from}
 use Rattle.ec_engine.specs.Limits.{IsWithinLimits}

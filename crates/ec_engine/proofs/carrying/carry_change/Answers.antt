@@ -1,6 +1,6 @@
 -- The change is made, and what nothing mentions is forgotten; or the tables go back.
 use Rattle.std.proofs.Common.{length, sym, ap, subst, arith}
-use Rattle.ec_events.specs.Store.{history_of}
+use Rattle.ec_store.specs.Store.{history_of}
 use Rattle.ec_numbered.specs.PropSet.{has_number}
 use Rattle.ec_parts.specs.StandFor.{StandFor, StandForBoth, view_of}
 use Rattle.ec_revise.specs.declared.change.Change.{Change}

@@ -1,7 +1,7 @@
 -- The plan is made.
 use Rattle.std.proofs.Common.{length, ap, subst, ◌∙◌, arith}
 use Rattle.ec_axioms.specs.Changes.{change_counts}
-use Rattle.ec_events.specs.Store.{history_of}
+use Rattle.ec_store.specs.Store.{history_of}
 use Rattle.ec_parts.specs.StandFor.{StandForBoth, view_of}
 use Rattle.ec_revise.specs.declared.change.Change.{Change}
 use Rattle.ec_engine.proofs.Carried.{planned-ready, planned-stands}

@@ -4,7 +4,7 @@ use Rattle.ec_axioms.specs.Calculus.{PlainEvent}
 use Rattle.ec_numbered.specs.PropSet.{has_number}
 use Rattle.ec_parts.specs.declared.tally.Tally.{Tally}
 use Rattle.ec_parts.specs.StandFor.{StandForBoth, view_of}
-use Rattle.ec_props.specs.Table.{mentions_at, term_at}
+use Rattle.ec_store.specs.Table.{mentions_at, term_at}
 use Rattle.ec_engine.proofs.idle.forget_idle.Given as goal
 
 abbrev pub invariant-loop-p : goal.invariant-loop-p

@@ -1,8 +1,8 @@
 -- What is not kept stays so, and what is mentioned stays too.
 use Rattle.std.proofs.Common.{◌≡◌, Some, None, is_some, sym, ap, ◌∙◌}
 use Rattle.std.proofs.lemmas.Bool.{false≢true}
-use Rattle.ec_props.specs.Table.{prop_at}
-use Rattle.ec_props.proofs.KeptLemmas.{prop_at-without_itself}
+use Rattle.ec_store.specs.Table.{prop_at}
+use Rattle.ec_store.proofs.PropLemmas.{prop_at-without_itself}
 use Rattle.ec_parts.proofs.Forgotten.{unmentioned-not_live}
 use Rattle.ec_engine.proofs.Forgetting.{none_mentioned}
 use Rattle.ec_engine.proofs.idle.forget_one.Goals as goal

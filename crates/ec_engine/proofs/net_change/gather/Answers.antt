@@ -1,7 +1,7 @@
 -- One touched identity more.
 use Rattle.std.proofs.Common.{◌≡◌, ◌+◌, ◌++◌, [], ◌∷◌, filter_map, reverse, sym, ap, subst, ◌∙◌, IfSome, IsSome, All, arith}
 use Rattle.indexmap.specs.IndexMap.{index_map_len}
-use Rattle.ec_events.specs.Store.{event_at}
+use Rattle.ec_store.specs.Store.{event_at}
 use Rattle.ec_engine.specs.NetChange.{HasRoom, coming, going}
 use Rattle.ec_engine.proofs.NetChanges.{All-in_front, gathered-next}
 use Rattle.ec_engine.proofs.net_change.gather.Goals as goal

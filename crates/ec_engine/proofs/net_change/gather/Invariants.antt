@@ -1,7 +1,7 @@
 -- What is gathered, with what is left in the nets, is what is to be gathered.
 use Rattle.std.proofs.Common.{◌≡◌, ◌≤◌, ◌+◌, ◌++◌, filter_map, reverse, IfSome, IsSome, All}
 use Rattle.indexmap.specs.IndexMap.{index_map_len}
-use Rattle.ec_events.specs.Store.{event_at}
+use Rattle.ec_store.specs.Store.{event_at}
 use Rattle.ec_engine.specs.NetChange.{HasRoom, coming, going}
 use Rattle.ec_engine.proofs.net_change.gather.Given as goal
 

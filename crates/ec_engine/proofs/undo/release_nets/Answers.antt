@@ -3,7 +3,7 @@ use Rattle.std.proofs.Common.{◌≡◌, ◌≤◌, Some, length, take, refl, sy
 use Rattle.std.specs.Prelude.{slice_get}
 use Rattle.std.proofs.lemmas.List.{take_all}
 use Rattle.ec_apply.proofs.MendedRows.{take_next}
-use Rattle.ec_events.specs.Store.{history_of}
+use Rattle.ec_store.specs.Store.{history_of}
 use Rattle.ec_parts.specs.declared.parts.Parts.{Parts}
 use Rattle.ec_parts.specs.StandFor.{StandForBoth, view_of}
 use Rattle.ec_engine.specs.declared.net.Net.{Net}

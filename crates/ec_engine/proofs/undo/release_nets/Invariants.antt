@@ -1,8 +1,8 @@
 use Rattle.std.proofs.Common.{◌≡◌, ℕ, List, take}
 use Rattle.ec_axioms.specs.Calculus.{PlainEvent}
-use Rattle.ec_events.specs.Store.{history_of}
+use Rattle.ec_store.specs.Store.{history_of}
 use Rattle.ec_parts.specs.StandFor.{StandForBoth, view_of}
-use Rattle.ec_props.specs.Table.{term_at}
+use Rattle.ec_store.specs.Table.{term_at}
 use Rattle.ec_engine.specs.Net.{net_in}
 use Rattle.ec_engine.specs.Undo.{LeadTo, untouched}
 use Rattle.ec_engine.proofs.undo.release_nets.Given as goal

@@ -1,7 +1,7 @@
 use Rattle.std.proofs.Common.{◌≡◌, ◌≤◌, ◌+◌, ℕ, drop}
-use Rattle.ec_events.specs.Store.{history_of}
+use Rattle.ec_store.specs.Store.{history_of}
 use Rattle.ec_parts.specs.StandFor.{StandForBoth, view_of}
-use Rattle.ec_props.specs.Table.{term_at}
+use Rattle.ec_store.specs.Table.{term_at}
 use Rattle.ec_engine.specs.Undo.{untouched}
 use Rattle.ec_engine.proofs.undo.restore_nets.Given as goal
 

@@ -4,7 +4,7 @@ use Rattle.ec_axioms.specs.Links.{mentions_of, most_mentions}
 use Rattle.ec_context.specs.Entries.{IsKeptEntry}
 use Rattle.ec_context.proofs.Shown.{IsKeptEntry-shown}
 use Rattle.ec_entries.specs.declared.event_entries.EventEntries.{EventEntries}
-use Rattle.ec_events.specs.Store.{history_of}
+use Rattle.ec_store.specs.Store.{history_of}
 use Rattle.ec_parts.specs.Mentions.{TakeEventIn, list_props}
 use Rattle.ec_parts.specs.StandFor.{StandForBoth, view_of}
 use Rattle.ec_engine.specs.Undo.{put_back}

@@ -1,7 +1,7 @@
 -- What the walk put in goes, what it took out comes back, and what it entered is forgotten.
 use Rattle.std.proofs.Common.{◌≡◌, ◌||◌, ℕ, IsTrue, sym, ap, subst, ◌∙◌}
 use Rattle.ec_axioms.specs.Links.{is_live}
-use Rattle.ec_events.specs.Store.{history_of}
+use Rattle.ec_store.specs.Store.{history_of}
 use Rattle.ec_numbered.specs.PropSet.{has_number}
 use Rattle.ec_parts.specs.declared.parts.Parts.{Parts}
 use Rattle.ec_parts.specs.StandFor.{StandForBoth, view_of}

@@ -5,7 +5,7 @@ use Rattle.std.proofs.lemmas.List.{take_all}
 use Rattle.std.proofs.lemmas.Option.{slice_get-get_or}
 use Rattle.ec_axioms.specs.declared.event.Event.{Event}
 use Rattle.ec_context.proofs.Shown.{IsKeptEntry-shown}
-use Rattle.ec_events.specs.Store.{history_of}
+use Rattle.ec_store.specs.Store.{history_of}
 use Rattle.ec_parts.specs.declared.parts.Parts.{Parts}
 use Rattle.ec_parts.specs.Mentions.{AreOfEventsWith, TakeEventOut}
 use Rattle.ec_parts.specs.StandFor.{StandForBoth, view_of}

@@ -1,9 +1,9 @@
 -- The tables are those of the list to come without the added events so far.
 use Rattle.std.proofs.Common.{◌≡◌, ℕ, List, take}
 use Rattle.ec_axioms.specs.Calculus.{PlainEvent}
-use Rattle.ec_events.specs.Store.{history_of}
+use Rattle.ec_store.specs.Store.{history_of}
 use Rattle.ec_parts.specs.StandFor.{StandForBoth, view_of}
-use Rattle.ec_props.specs.Table.{term_at}
+use Rattle.ec_store.specs.Table.{term_at}
 use Rattle.ec_engine.specs.Undo.{untouched}
 use Rattle.ec_engine.specs.UndoChange.{IsLedTo, events_by_id}
 use Rattle.ec_engine.proofs.undo_change.release_added.Given as goal

@@ -6,7 +6,7 @@ use Rattle.std.proofs.lemmas.Option.{slice_get-get_or}
 use Rattle.ec_lists.proofs.Places.{slice_get-map_at}
 use Rattle.ec_axioms.specs.Links.{most_mentions}
 use Rattle.ec_axioms.proofs.Members.{IsMember-slice_get}
-use Rattle.ec_events.specs.Store.{history_of}
+use Rattle.ec_store.specs.Store.{history_of}
 use Rattle.ec_parts.specs.declared.parts.Parts.{Parts}
 use Rattle.ec_parts.specs.StandFor.{StandForBoth, view_of}
 use Rattle.ec_revise.specs.declared.change.Removal.{Removal}

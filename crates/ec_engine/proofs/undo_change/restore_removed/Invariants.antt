@@ -1,8 +1,8 @@
 -- The tables are those of the list of the store without the removed events that are left.
 use Rattle.std.proofs.Common.{◌≡◌, ◌≤◌, ◌+◌, ℕ, drop}
-use Rattle.ec_events.specs.Store.{history_of}
+use Rattle.ec_store.specs.Store.{history_of}
 use Rattle.ec_parts.specs.StandFor.{StandForBoth, view_of}
-use Rattle.ec_props.specs.Table.{term_at}
+use Rattle.ec_store.specs.Table.{term_at}
 use Rattle.ec_engine.specs.Undo.{untouched}
 use Rattle.ec_engine.specs.UndoChange.{removals_by_id}
 use Rattle.ec_engine.proofs.undo_change.restore_removed.Given as goal

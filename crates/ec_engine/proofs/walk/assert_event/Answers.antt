@@ -7,7 +7,7 @@ use Rattle.ec_axioms.specs.Changes.{has_id, with_event}
 use Rattle.ec_axioms.specs.Events.{event_of}
 use Rattle.ec_axioms.specs.Links.{most_events, most_mentions, mentions_of}
 use Rattle.ec_context.specs.Entries.{shown_entries}
-use Rattle.ec_events.specs.Store.{history_of, slot_of}
+use Rattle.ec_store.specs.Store.{history_of, slot_of}
 use Rattle.ec_numbered.specs.PropSet.{has_number}
 use Rattle.ec_parts.specs.declared.parts.Parts.{Parts}
 use Rattle.ec_parts.specs.StandFor.{StandForBoth, view_of}

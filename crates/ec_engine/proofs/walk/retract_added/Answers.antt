@@ -4,7 +4,7 @@ use Rattle.std.proofs.Common.{is_some}
 use Rattle.ec_engine.specs.Net.{net_in}
 use Rattle.ec_axioms.specs.Events.{event_of}
 use Rattle.ec_context.proofs.Shown.{IsKeptEntry-shown}
-use Rattle.ec_events.specs.Store.{history_of}
+use Rattle.ec_store.specs.Store.{history_of}
 use Rattle.ec_parts.specs.declared.parts.Parts.{Parts}
 use Rattle.ec_engine.proofs.FoundEvents.{found-has_event, has_id-found}
 use Rattle.ec_engine.proofs.WalkSteps.{stays, goes_out_by, added_found, added_shown, present, AreOfEventsWith-found, some_events, put_as, net_of, refused_absent, retracted_present, may_want-retracted}

@@ -3,7 +3,7 @@ use Rattle.std.proofs.Common.{◌≡◌, ◌≤◌, ◌++◌, All, None, IfSome,
 use Rattle.ec_context.specs.Entries.{IsKeptEntry}
 use Rattle.ec_context.proofs.Shown.{IsKeptEntry-shown}
 use Rattle.ec_entries.specs.declared.event_entries.EventEntries.{EventEntries}
-use Rattle.ec_events.specs.Store.{history_of}
+use Rattle.ec_store.specs.Store.{history_of}
 use Rattle.ec_parts.specs.declared.parts.Parts.{Parts}
 use Rattle.ec_parts.specs.Mentions.{AreOfEventsWith, TakeEventOut, list_props}
 use Rattle.ec_parts.specs.StandFor.{StandForBoth, view_of}

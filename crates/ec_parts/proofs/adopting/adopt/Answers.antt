@@ -3,7 +3,7 @@ use Rattle.std.proofs.Common.{◌≡◌, [], refl, sym, ap, subst, ◌∙◌, ru
 use Rattle.ec_terms.specs.declared.theory.Theory.{Theory}
 use Rattle.ec_context.specs.Widened.{without_props}
 use Rattle.ec_context.proofs.Keepings.{unmentioned-last, AreUnmentioned-pop}
-use Rattle.ec_props.specs.Table.{mentions_at, prop_at}
+use Rattle.ec_store.specs.Table.{mentions_at, prop_at}
 use Rattle.ec_parts.specs.declared.parts.Parts.{Parts}
 use Rattle.ec_parts.specs.Adoption.{MayJoin, HasJoined, HasStayed}
 use Rattle.ec_parts.specs.StandFor.{view_of}

@@ -10,7 +10,7 @@ use Rattle.ec_context.specs.Widened.{is_among}
 use Rattle.ec_context.proofs.Keepings.{forgotten, IsWidened-kept}
 use Rattle.ec_context.proofs.Tables.{prop_at-without_props}
 use Rattle.ec_numbered.specs.PropSet.{has_number}
-use Rattle.ec_props.specs.Table.{KeptProp, prop_at}
+use Rattle.ec_store.specs.Table.{KeptProp, prop_at}
 use Rattle.ec_parts.specs.Adoption.{HasEntered}
 use Rattle.ec_parts.specs.StandFor.{StandForBoth, view_of}
 use Rattle.ec_parts.proofs.Entered.{HasEntered-none}

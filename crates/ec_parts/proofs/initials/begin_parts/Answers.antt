@@ -4,7 +4,7 @@ use Rattle.ec_axioms.specs.Links.{initial_properties}
 use Rattle.ec_exclusive.specs.Added.{added_props}
 use Rattle.ec_exclusive.specs.Neighbours.{AreNeighbours}
 use Rattle.ec_numbered.specs.PropSet.{has_number}
-use Rattle.ec_props.specs.Table.{prop_at}
+use Rattle.ec_store.specs.Table.{prop_at}
 use Rattle.ec_parts.specs.declared.initials.InitialTables.{InitialTables}
 use Rattle.ec_parts.specs.Initials.{HaveFirstIntervals, KeepsOnce}
 use Rattle.ec_parts.proofs.initials.begin_parts.Goals as goal

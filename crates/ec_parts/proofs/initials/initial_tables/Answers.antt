@@ -2,7 +2,7 @@ use Rattle.std.proofs.Common.{IsSome, get_or, sym, subst, ◌∙◌}
 use Rattle.std.specs.List.{All}
 use Rattle.ec_exclusive.proofs.InTurn.{has_number-at}
 use Rattle.ec_terms.specs.declared.ids.PropId.{PropId}
-use Rattle.ec_props.specs.Table.{prop_at}
+use Rattle.ec_store.specs.Table.{prop_at}
 use Rattle.ec_parts.proofs.initials.initial_tables.Goals as goal
 
 pub neighbours_of-requires-clause-kept : goal.neighbours_of-requires-clause-kept

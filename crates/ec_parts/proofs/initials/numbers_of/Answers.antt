@@ -2,7 +2,7 @@ use Rattle.std.proofs.Common.{ap, sym, ◌∙◌, arith}
 use Rattle.std.specs.Prelude.{◌==◌}
 use Rattle.std.specs.List.{list_any}
 use Rattle.std.proofs.lemmas.List.{take_all}
-use Rattle.ec_props.specs.Table.{KeptProp}
+use Rattle.ec_store.specs.Table.{KeptProp}
 use Rattle.ec_numbered.specs.PropSet.{with_number}
 use Rattle.ec_parts.proofs.InitialTables.{kept-any, number-more}
 use Rattle.ec_parts.proofs.initials.numbers_of.Goals as goal

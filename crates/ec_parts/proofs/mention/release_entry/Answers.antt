@@ -1,7 +1,7 @@
 use Rattle.std.proofs.Common.{ℕ, ◌<◌, List, IsSome, ◌∷◌, [], map, length, get_or, refl, ap, subst, sym}
 use Rattle.ec_context.specs.declared.entry.EntryLiteral.{EntryLiteral}
 use Rattle.ec_parts.specs.Mentions.{entry_props}
-use Rattle.ec_props.specs.Table.{prop_at}
+use Rattle.ec_store.specs.Table.{prop_at}
 use Rattle.ec_parts.proofs.Mentioned.{kept-same, HasReleased-then, AreSomeTables-front, AreSomeTables-released}
 use Rattle.ec_parts.proofs.mention.release_entry.Goals as goal
 

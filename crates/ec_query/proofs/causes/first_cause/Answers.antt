@@ -8,7 +8,7 @@ use Rattle.ec_axioms.specs.declared.event.Event.{Event}
 use Rattle.ec_axioms.specs.Calculus.{PlainCause}
 use Rattle.ec_axioms.specs.Events.{event_of}
 use Rattle.ec_axioms.specs.Plain.{events_at}
-use Rattle.ec_events.specs.Store.{history_of}
+use Rattle.ec_store.specs.Store.{history_of}
 use Rattle.ec_query.specs.Sought.{is_sought}
 use Rattle.ec_query.proofs.EventWalks.{is_from}
 use Rattle.ec_query.proofs.FirstCauses.{first_among, first_among-at, first_among-first, first_among-none}

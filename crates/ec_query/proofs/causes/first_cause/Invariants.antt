@@ -4,7 +4,7 @@ use Rattle.std.specs.List.{list_all}
 use Rattle.ec_terms.specs.declared.ground.Ground.{Ground}
 use Rattle.ec_axioms.specs.Calculus.{PlainEvent, first_cause}
 use Rattle.ec_axioms.specs.Plain.{events_at}
-use Rattle.ec_events.specs.Store.{history_of}
+use Rattle.ec_store.specs.Store.{history_of}
 use Rattle.ec_parts.specs.StandFor.{view_of}
 use Rattle.ec_query.specs.Sought.{is_sought}
 use Rattle.ec_query.specs.Standing.{AreOn}

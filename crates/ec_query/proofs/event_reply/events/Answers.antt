@@ -3,7 +3,7 @@ use Rattle.std.proofs.Common.{◌+◌, ◌++◌, drop, map, refl, sym, ap, ap₂
 use Rattle.std.specs.Prelude.{decimal}
 use Rattle.ec_outside.specs.Streams.{Appended}
 use Rattle.ec_axioms.specs.QueryTexts.{counted_text, event_text}
-use Rattle.ec_events.specs.Store.{history_of, plain_of}
+use Rattle.ec_store.specs.Store.{history_of, plain_of}
 use Rattle.ec_query.specs.Members.{members_text, kept_text}
 use Rattle.ec_query.proofs.EventLemmas.{events_reply-of}
 use Rattle.ec_query.proofs.KeptWalks.{IsNext, next-found, next-none, next-read}

@@ -1,6 +1,6 @@
 -- Each run is the next of what is to be listed.
 use Rattle.std.proofs.Common.{map, take, sym, arith}
-use Rattle.ec_props.specs.Table.{number_of}
+use Rattle.ec_store.specs.Table.{number_of}
 use Rattle.ec_axioms.specs.Timeline.{is_held_at}
 use Rattle.ec_intervals.specs.Table.{members_at, plain_intervals}
 use Rattle.ec_query.specs.Holding.{held_numbers}

@@ -1,6 +1,6 @@
 -- Those that hold among the numbers before the place are listed.
 use Rattle.std.proofs.Common.{◌-◌, ◌≤◌, length, map, take}
-use Rattle.ec_props.specs.Table.{number_of}
+use Rattle.ec_store.specs.Table.{number_of}
 use Rattle.ec_query.specs.Holding.{held_numbers}
 use Rattle.ec_query.specs.Listed.{Lists}
 use Rattle.ec_query.proofs.held_list.list_held.Given as goal

@@ -1,7 +1,7 @@
 -- What the numbers say is what holds, in term order.
 use Rattle.std.proofs.Common.{◌++◌, length, map, refl, sym, ap, ◌∙◌}
 use Rattle.std.specs.Prelude.{decimal}
-use Rattle.ec_props.specs.Table.{number_of}
+use Rattle.ec_store.specs.Table.{number_of}
 use Rattle.ec_query.specs.Holding.{held_numbers, number_text}
 use Rattle.ec_query.specs.Members.{members_text}
 use Rattle.ec_query.proofs.HoldingLemmas.{at_reply-held}

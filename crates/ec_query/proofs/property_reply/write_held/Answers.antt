@@ -2,7 +2,7 @@
 use Rattle.std.proofs.Common.{◌+◌, drop, length, map, ap, ◌∙◌}
 use Rattle.ec_axioms.specs.Timeline.{is_held_at}
 use Rattle.ec_intervals.specs.Table.{members_at, plain_intervals}
-use Rattle.ec_props.specs.Table.{number_of}
+use Rattle.ec_store.specs.Table.{number_of}
 use Rattle.ec_query.specs.Holding.{held_numbers, number_text}
 use Rattle.ec_query.specs.Members.{members_text}
 use Rattle.ec_query.proofs.HoldingLemmas.{filter-next_run}

@@ -1,6 +1,6 @@
 -- What holds among the numbers from the place on is left to write.
 use Rattle.std.proofs.Common.{◌-◌, drop, length, map}
-use Rattle.ec_props.specs.Table.{number_of}
+use Rattle.ec_store.specs.Table.{number_of}
 use Rattle.ec_query.specs.Holding.{held_numbers, number_text}
 use Rattle.ec_query.specs.Members.{members_text}
 use Rattle.ec_query.proofs.WritingLemmas.{IsLeft}

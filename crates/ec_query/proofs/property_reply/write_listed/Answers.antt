@@ -2,7 +2,7 @@
 use Rattle.std.proofs.Common.{All, IsSome, map, refl, ap, sym, subst, ◌∙◌}
 use Rattle.std.specs.Prelude.{List}
 use Rattle.ec_terms.specs.declared.ids.PropId.{PropId}
-use Rattle.ec_props.specs.Table.{number_of, prop_at}
+use Rattle.ec_store.specs.Table.{number_of, prop_at}
 use Rattle.ec_query.specs.Holding.{held_numbers, number_text}
 use Rattle.ec_query.specs.Members.{members_text}
 use Rattle.ec_query.proofs.HoldingLemmas.{held_numbers-kept}

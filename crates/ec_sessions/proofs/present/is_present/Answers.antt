@@ -3,7 +3,7 @@ use Rattle.std.proofs.Common.{sym, ap, ◌∙◌, List}
 use Rattle.std.specs.Prelude.{is_some}
 use Rattle.ec_axioms.specs.Calculus.{PlainEvent}
 use Rattle.ec_axioms.specs.Changes.{has_id}
-use Rattle.ec_events.proofs.KeptLemmas.{has_id-slot_of}
+use Rattle.ec_store.proofs.EventLemmas.{has_id-slot_of}
 use Rattle.ec_sessions.proofs.present.is_present.Goals as goal
 
 pub returns : goal.returns

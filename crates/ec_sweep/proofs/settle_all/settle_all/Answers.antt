@@ -1,7 +1,7 @@
 -- What is settled by numbers is settled by terms.
 use Rattle.std.proofs.Common.{◌*◌, ◌≤◌, length, arith}
 use Rattle.ec_axioms.specs.declared.limits.TheConstants.{MOST_MENTIONS}
-use Rattle.ec_events.specs.Store.{history_of}
+use Rattle.ec_store.specs.Store.{history_of}
 use Rattle.ec_parts.specs.StandFor.{view_of}
 use Rattle.ec_sweep.proofs.Oks.{then_ok}
 use Rattle.ec_sweep.proofs.SettledTerms.{added-rows, has_settled, room}

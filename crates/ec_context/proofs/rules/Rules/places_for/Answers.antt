@@ -1,7 +1,7 @@
 -- What the index has under the key.
 use Rattle.std.proofs.Common.{length, None, Some, ap, ◌∙◌, arith}
 use Rattle.ec_terms.specs.declared.theory.Theory.{Theory}
-use Rattle.ec_props.specs.ByText.{found_at}
+use Rattle.ec_store.specs.ByText.{found_at}
 use Rattle.ec_context.specs.RulePlaces.{places_for}
 use Rattle.ec_context.proofs.IndexLemmas.{listed-found}
 use Rattle.ec_context.proofs.Limits.{few_places}

@@ -4,7 +4,7 @@ use Rattle.std.specs.Prelude.{Ok, Err}
 use Rattle.ec_terms.specs.Term.{ground_of}
 use Rattle.ec_axioms.specs.Calculus.{PlainEvent}
 use Rattle.ec_axioms.specs.Changes.{asserting, with_event}
-use Rattle.ec_events.specs.Store.{history_of}
+use Rattle.ec_store.specs.Store.{history_of}
 use Rattle.ec_parts.specs.StandFor.{StandFor, view_of}
 use Rattle.ec_engine.specs.declared.refusal.Refusal.TheVariants.{Memory}
 use Rattle.ec_engine.specs.Limits.{IsWithinLimits}

@@ -3,7 +3,7 @@ use Rattle.std.proofs.Common.{◌≡◌, map, sym, ap, subst, ◌∙◌, arith}
 use Rattle.std.specs.Prelude.{Ok, Err}
 use Rattle.std.proofs.lemmas.List.{length-map}
 use Rattle.ec_axioms.specs.Events.{plain_update}
-use Rattle.ec_events.specs.Store.{history_of}
+use Rattle.ec_store.specs.Store.{history_of}
 use Rattle.ec_parts.specs.StandFor.{StandFor, view_of}
 use Rattle.ec_replies.specs.Updates.{updated_by}
 use Rattle.ec_engine.specs.declared.refusal.Refusal.TheVariants.{Memory}

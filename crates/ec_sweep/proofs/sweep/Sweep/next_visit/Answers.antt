@@ -1,7 +1,7 @@
 -- The earliest of the first times of three lists in order.
 use Rattle.ec_sweep.proofs.NextVisit.{NothingLeft-none, NothingLeftBefore-next, first_time-is, has_visit_at-next, if_none}
 use Rattle.ec_sweep.proofs.sweep.Sweep.next_visit.Goals as goal
-use Rattle.ec_props.proofs.FoundLemmas.{IfSome-from}
+use Rattle.ec_store.proofs.FoundLemmas.{IfSome-from}
 
 pub returns-clause-first : goal.returns-clause-first
 returns-clause-first g c =

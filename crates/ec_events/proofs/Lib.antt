@@ -1,4 +1,0 @@
-pub mod HeldLemmas
-pub mod IdentityLemmas
-pub mod KeptLemmas
-pub mod StoreLemmas

@@ -1,0 +1,12 @@
+pub mod SlotLemmas
+pub mod HeldLemmas
+pub mod PropLemmas
+pub mod TableLemmas
+pub mod TableChangeLemmas
+pub mod CompareLemmas
+pub mod ByTextLemmas
+pub mod FoundLemmas
+pub mod EventRecordLemmas
+pub mod IdentityLemmas
+pub mod EventLemmas
+pub mod StoreLemmas
