@@ -29,15 +29,18 @@ fn tells_both(touches: &Touches<Tick>) -> bool {
         && touches.row(1).0 == PropId(1)
 }
 
+/// Notes a change of a property.
+fn note(rt: &impl Abort, touches: &mut Touches<Tick>, p: PropId, touch: &Touch<Tick>) {
+    let noted = touches.note(p, touch);
+    noted.expect(rt, "memory");
+}
+
 /// Notes two changes of one property and one of another, and reads them.
 fn notes_and_reads(rt: &impl Abort, alloc: Global) -> bool {
     let mut touches = Touches::new(alloc);
-    let first = touches.note(PropId(3), &touch(5, true, false));
-    first.expect(rt, "memory");
-    let second = touches.note(PropId(3), &touch(9, false, true));
-    second.expect(rt, "memory");
-    let other = touches.note(PropId(1), &touch(7, true, false));
-    other.expect(rt, "memory");
+    note(rt, &mut touches, PropId(3), &touch(5, true, false));
+    note(rt, &mut touches, PropId(3), &touch(9, false, true));
+    note(rt, &mut touches, PropId(1), &touch(7, true, false));
     touches.get(PropId(2)).is_none() && tells_both(&touches)
 }
 

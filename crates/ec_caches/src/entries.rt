@@ -2,9 +2,10 @@
 ghost use Rattle.std.specs.Prelude.{◌≡◌, ◌<◌, length};
 
 use crate::fixtures::boxed;
+use crate::points::time_of;
 use ec_axioms::Steps;
 use ec_context::{Entry, EntryList, EntryLiteral, EntryLiterals, MOST_LITERALS};
-use ec_entries::{Entries, EntryLists};
+use ec_entries::{Dependent, Entries, EntryLists};
 use ec_layers::tables::row_of;
 use ec_moment::Tick;
 use ec_terms::{Kind, PropId, Slot};
@@ -157,15 +158,18 @@ fn is_next(entries: &Entries<Tick>, p: PropId, at: Tick, next: Option<Tick>) -> 
         && entries.dependents_after(p, at, 0).is_empty() == next.is_none()
 }
 
+/// The same of the property and the time that are spelt as `1 4`, and the next time, or `none`.
+fn is_next_told(rt: &impl Abort, entries: &Entries<Tick>, told: &str, wanted: &str) -> bool {
+    let (p, at) = pair_of(rt, told);
+    is_next(entries, PropId(p), Tick(at), time_of(wanted))
+}
+
 /// Sees that the next dependents are those of a table.
 fn expect_next(rt: &impl Abort, entries: &Entries<Tick>, table: &str) {
     for line in table.lines() {
-        let Some((told, wanted)) = row_of(line) else {
-            continue;
-        };
-        let (p, at) = pair_of(rt, told);
-        let next = wanted.parse::<i64>().ok().map(Tick);
-        assert!(rt; is_next(entries, PropId(p), Tick(at), next), "{line}");
+        if let Some((told, wanted)) = row_of(line) {
+            assert!(rt; is_next_told(rt, entries, told, wanted), "{line}");
+        }
     }
 }
 
@@ -174,6 +178,14 @@ fn entry_of(rt: &impl Abort, spelt: &str) -> Option<(Slot, u8)> {
     let (slot, place) = spelt.split_once(' ')?;
     let slot = slot.parse::<usize>().expect(rt, spelt);
     Some((Slot(slot), place.parse::<u8>().expect(rt, spelt)))
+}
+
+/// Whether a dependent is that of a slot and a place, or there is neither.
+fn is_entry(dependent: Option<&Dependent<Tick>>, wanted: Option<(Slot, u8)>) -> bool {
+    match dependent {
+        Some(dependent) => wanted == Some((dependent.slot, dependent.place)),
+        None => wanted.is_none(),
+    }
 }
 
 /// Whether the dependent of this number in the run at an instant, if there is a run, is the one that is wanted.
@@ -186,10 +198,7 @@ fn is_in_run(
 ) -> bool {
     let mut near = 1;
     match entries.dependents_at(p, at, &mut near) {
-        Some(run) => run
-            .get(k)
-            .map(|dependent| (dependent.slot, dependent.place))
-            == wanted,
+        Some(run) => is_entry(run.get(k), wanted),
         None => true,
     }
 }

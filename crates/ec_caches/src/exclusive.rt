@@ -50,22 +50,28 @@ fn leave(theory: &Theory, tables: &mut Tables, p: PropId) -> bool
     true
 }
 
-/// Whether the neighbours of a property are those at the places that are spelt as `0 3`, or `none`.
-fn has_neighbours(neighbours: &Neighbours, ids: &[PropId], p: PropId, places: &str) -> bool {
-    if !neighbours.is_added(p) {
-        return false;
-    }
-    let mut list = neighbours.of(p).iter();
+/// Whether a list has at a place what stands at another place among the properties.
+fn is_at(list: &[PropId], i: usize, ids: &[PropId], place: usize) -> bool {
+    i < list.len() && place < ids.len() && list[i] == ids[place]
+}
+
+/// Whether a list has the properties at the places that are spelt as `0 3`, or `none`.
+fn are_at(list: &[PropId], ids: &[PropId], places: &str) -> bool {
+    let mut count: usize = 0;
     for place in places.split_whitespace() {
-        let Ok(place) = place.parse::<usize>() else {
-            continue;
-        };
-        match (list.next(), ids.get(place)) {
-            (Some(q), Some(wanted)) if q == wanted => (),
-            _ => return false,
+        if let Ok(place) = place.parse::<usize>() {
+            if !is_at(list, count, ids, place) {
+                return false;
+            }
+            count = count.wrapping_add(1);
         }
     }
-    list.next().is_none()
+    count == list.len()
+}
+
+/// Whether the neighbours of a property are those at the places that are spelt as `0 3`, or `none`.
+fn has_neighbours(neighbours: &Neighbours, ids: &[PropId], p: PropId, places: &str) -> bool {
+    neighbours.is_added(p) && are_at(neighbours.of(p), ids, places)
 }
 
 /// Keeps the terms of a text, adds them one by one, and gives their numbers.

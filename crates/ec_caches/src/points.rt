@@ -156,7 +156,7 @@ fn count_at(rt: &impl Abort, spelt: &str, place: usize) -> u32 {
 }
 
 /// The time that a word spells. `None`: it spells none.
-fn time_of(word: &str) -> Option<Tick> {
+pub(crate) fn time_of(word: &str) -> Option<Tick> {
     let at = word.parse::<i64>().ok()?;
     Some(Tick(at))
 }
@@ -305,6 +305,14 @@ fn is_read_from<M: MarkRow<Tick>>(
     reading.mark == points.mark_at(p, at) && reading.is_current == is_current(points, p, at)
 }
 
+/// Whether a mark is at a time, or there is neither.
+fn is_at(mark: &Option<Mark<Tick>>, at: Option<Tick>) -> bool {
+    match mark {
+        Some(mark) => at == Some(mark.at),
+        None => at.is_none(),
+    }
+}
+
 /// Whether it finds as many marks before the time as are told, and the next mark at the time that is told.
 fn is_next_from<M: MarkRow<Tick>>(
     points: &Points<Tick, M>,
@@ -314,8 +322,7 @@ fn is_next_from<M: MarkRow<Tick>>(
     (before, next): (&str, &str),
 ) -> bool {
     let reading = points.read(p, at, near);
-    let next_at = reading.next.map(|mark| mark.at);
-    before.parse::<usize>() == Ok(reading.place) && next_at == time_of(next)
+    before.parse::<usize>() == Ok(reading.place) && is_at(&reading.next, time_of(next))
 }
 
 /// Whether searches from a first, a middle and a far place find what the other calls answer.
@@ -428,11 +435,15 @@ fn make_initial_calls<M: MarkRow<Tick>>(rt: &impl Abort, alloc: Global, calls: &
     make_calls(rt, alloc, &mut boxed(rt, alloc, points), calls);
 }
 
+/// Makes the calls of all tables.
+fn make_all_calls<M: MarkRow<Tick>>(rt: &impl Abort, alloc: Global) {
+    make_initial_calls::<M>(rt, alloc, INITIALS);
+    for calls in [CURRENCY, CHANGES, CLASHES, BEHIND] {
+        make_new_calls::<M>(rt, alloc, calls);
+    }
+}
+
 #[test]
 fn points_answer_through_their_bounds(rt: HostRuntime) {
-    make_new_calls::<VecMarks<Tick>>(&rt, rt.alloc(), CURRENCY);
-    make_initial_calls::<VecMarks<Tick>>(&rt, rt.alloc(), INITIALS);
-    make_new_calls::<VecMarks<Tick>>(&rt, rt.alloc(), CHANGES);
-    make_new_calls::<VecMarks<Tick>>(&rt, rt.alloc(), CLASHES);
-    make_new_calls::<VecMarks<Tick>>(&rt, rt.alloc(), BEHIND);
+    make_all_calls::<VecMarks<Tick>>(&rt, rt.alloc());
 }

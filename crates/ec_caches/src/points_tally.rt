@@ -170,21 +170,24 @@ fn blocks_of(
 
 /// How many blocks two lists of blocks have in common at the front.
 fn common_front(blocks: &[Vec<Mark<Tick>>], others: &[Vec<Mark<Tick>>]) -> usize {
-    blocks
-        .iter()
-        .zip(others)
-        .take_while(|(a, b)| a == b)
-        .count()
+    let count = blocks.len().min(others.len());
+    for i in 0..count {
+        if blocks[i] != others[i] {
+            return i;
+        }
+    }
+    count
 }
 
 /// How many blocks two lists of blocks have in common at the back.
 fn common_back(blocks: &[Vec<Mark<Tick>>], others: &[Vec<Mark<Tick>>]) -> usize {
-    blocks
-        .iter()
-        .rev()
-        .zip(others.iter().rev())
-        .take_while(|(a, b)| a == b)
-        .count()
+    let count = blocks.len().min(others.len());
+    for i in 0..count {
+        if blocks[blocks.len() - 1 - i] != others[others.len() - 1 - i] {
+            return i;
+        }
+    }
+    count
 }
 
 /// How many blocks of the second list are not as in the first.
