@@ -14,7 +14,7 @@ pub const MOST_LITERALS: usize = ec_check::MOST_LITERALS;
 pub const MOST_ENTRIES: usize = ec_check::MOST_EVENT_RULES;
 
 /// A literal of an entry: that a property is current, or, where not `positive`, that it is not.
-#[derive(Clone, Copy, Debug, PartialEq, Eq)]
+#[derive(Clone, Copy)]
 pub struct EntryLiteral {
     pub positive: bool,
     pub prop: PropId,

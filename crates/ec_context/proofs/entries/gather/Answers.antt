@@ -74,3 +74,13 @@ pub returns-clause-shown : goal.returns-clause-shown
 returns-clause-shown c =
     c.loop-place.invariant.shown
     ∙ ap Some (entries_at-all (ground_of c.args.event.now) c.args.theory.now.rules c.args.places.now c.requires.places c.loop-place.place-index c.loop-place-test.false)
+
+pub returns-in_err-entry-clause-kept : goal.returns-in_err-entry-clause-kept
+returns-in_err-entry-clause-kept c =
+    HasKept-then c.args.props.now c.loop-place.props c.entry_of.new.props c.args.added.now.items c.loop-place.added.items c.entry_of.new.added.items
+    c.loop-place.invariant.kept c.entry_of.ensures.kept
+
+pub returns-in_err-push-clause-kept : goal.returns-in_err-push-clause-kept
+returns-in_err-push-clause-kept c =
+    HasKept-then c.args.props.now c.loop-place.props c.entry_of.new.props c.args.added.now.items c.loop-place.added.items c.entry_of.new.added.items
+    c.loop-place.invariant.kept c.in_ok-entry.ensures.kept

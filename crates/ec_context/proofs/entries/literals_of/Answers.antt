@@ -40,3 +40,13 @@ loop-literal-preserved c = record {
   added = AddsOnly-literal c.args.added.now.items c.loop-literal.added.items c.literal_of.new.added.items c.loop-literal.literals c.push.new.self c.in_ok-literal_of.field-0
       c.in_ok-push.ensures.ok c.loop-literal.invariant.added c.in_ok-literal_of.ensures.added;
 }
+
+pub returns-in_err-literal_of-clause-kept : goal.returns-in_err-literal_of-clause-kept
+returns-in_err-literal_of-clause-kept c =
+    HasKept-then c.args.props.now c.loop-literal.props c.literal_of.new.props c.args.added.now.items c.loop-literal.added.items c.literal_of.new.added.items
+    c.loop-literal.invariant.kept c.literal_of.ensures.kept
+
+pub returns-in_err-push-clause-kept : goal.returns-in_err-push-clause-kept
+returns-in_err-push-clause-kept c =
+    HasKept-then c.args.props.now c.loop-literal.props c.literal_of.new.props c.args.added.now.items c.loop-literal.added.items c.literal_of.new.added.items
+    c.loop-literal.invariant.kept c.in_ok-literal_of.ensures.kept
