@@ -1,5 +1,6 @@
 -- The count and the members follow one another.
 use Rattle.std.proofs.Common.{◌≡◌, ◌++◌, length, map, refl, ap, ◌∙◌, arith}
+use Rattle.std.proofs.lemmas.Grind.{common_steps}
 use Rattle.std.specs.Prelude.{decimal}
 use Rattle.ec_axioms.specs.Marks.{broken_spans_of}
 use Rattle.ec_axioms.specs.QueryTexts.{broken_text, counted_text}
@@ -31,3 +32,12 @@ returns-clause-part g c = λ few.
     (counted_text-of text all ∙ ap (λ n. decimal n ++ members_text text all) count))
     refl c.in_ok-write_count.ensures.written c.in_ok-write_count.ensures.quiet)
     refl c.write_members.ensures.part
+
+pub returns-in_err-write_count-clause-part : goal.returns-in_err-write_count-clause-part
+returns-in_err-write_count-clause-part c = grind (arith, common_steps)
+
+pub returns-clause-failed : goal.returns-clause-failed
+returns-clause-failed c = grind (arith, common_steps)
+
+pub returns-clause-quiet : goal.returns-clause-quiet
+returns-clause-quiet c = grind (arith, common_steps)

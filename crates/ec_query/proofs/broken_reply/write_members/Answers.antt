@@ -1,5 +1,6 @@
 -- Each begin that is found is the first of those that are left.
 use Rattle.std.proofs.Common.{◌++◌, length, option_map, None, Some, sym, ap, ◌∙◌, arith}
+use Rattle.std.proofs.lemmas.Grind.{common_steps}
 use Rattle.ec_axioms.specs.Marks.{broken_spans_of}
 use Rattle.ec_axioms.specs.QueryTexts.{broken_text}
 use Rattle.ec_rows.specs.PlainMarks.{plain_marks}
@@ -50,3 +51,6 @@ returns-clause-written g c =
     let text = broken_text g.T.Moment.canon in
     let all = broken_spans_of (plain_marks rank (g.M.MarkRow.marks c.args.row.now)) c.args.strong c.args.is_initial in
     IsLeft-end c.loop-found.invariant (ap (members_text text) (left_behind-none (option_map (plain_begin rank) c.loop-found.after) all c.in_default.ensures))
+
+pub returns-in_err-write_all-clause-counted : goal.returns-in_err-write_all-clause-counted
+returns-in_err-write_all-clause-counted c = grind (arith, common_steps)

@@ -1,5 +1,6 @@
 -- The walk goes over the events at the time, and stops at the first that has a cause.
 use Rattle.std.proofs.Common.{◌≡◌, ◌+◌, ℕ, true, false, List, Option, Some, drop, length, sym, ap, ◌∙◌, arith}
+use Rattle.std.proofs.lemmas.Grind.{common_steps}
 use Rattle.std.specs.List.{list_all}
 use Rattle.std.specs.Option.{option_or}
 use Rattle.std.specs.Ordering.{int_eq}
@@ -136,3 +137,12 @@ returns-clause-cause g c = λ events p on.
     ∙ ap (first_among theory events wanted)
     (sym (walk-end rank (rank c.args.at) kept c.loop-found.cursor (next-none kept c.loop-found.cursor c.next.result c.in_default.is c.next.ensures.next)))
     ∙ c.loop-found.invariant.cause events p on
+
+pub first_rule_in-requires-clause-on : goal.first_rule_in-requires-clause-on
+first_rule_in-requires-clause-on c = grind (arith, common_steps)
+
+pub returns-then-not-here-clause-steps : goal.returns-then-not-here-clause-steps
+returns-then-not-here-clause-steps c = grind (arith, common_steps)
+
+pub returns-clause-steps : goal.returns-clause-steps
+returns-clause-steps c = grind (arith, common_steps)

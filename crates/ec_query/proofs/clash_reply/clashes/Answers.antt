@@ -1,5 +1,6 @@
 -- The times that the marks tell are those of the calculus; their count and they themselves follow one another.
 use Rattle.std.proofs.Common.{◌≡◌, ◌++◌, length, map, refl, ap, ◌∙◌, arith}
+use Rattle.std.proofs.lemmas.Grind.{common_steps}
 use Rattle.std.specs.Prelude.{decimal}
 use Rattle.ec_axioms.specs.Calculus.{clashes_of}
 use Rattle.ec_axioms.specs.QueryTexts.{counted_text}
@@ -60,3 +61,9 @@ returns-clause-part g c = λ events marked.
     (counted_text-of canon times ∙ ap (λ n. decimal n ++ members_text canon times) count))
     refl c.in_ok-write_count.ensures.written c.in_ok-write_count.ensures.quiet)
     refl (c.write_members.ensures.part times are))
+
+pub returns-clause-quiet : goal.returns-clause-quiet
+returns-clause-quiet c = grind (arith, common_steps)
+
+pub returns-clause-failed : goal.returns-clause-failed
+returns-clause-failed c = grind (arith, common_steps)

@@ -1,5 +1,6 @@
 -- Each clash that is found is the first of those that are left.
-use Rattle.std.proofs.Common.{◌++◌, None, Some, refl, sym, ap, ◌∙◌}
+use Rattle.std.proofs.Common.{◌++◌, None, Some, refl, sym, ap, ◌∙◌, arith}
+use Rattle.std.proofs.lemmas.Grind.{common_steps}
 use Rattle.ec_query.specs.Members.{members_text}
 use Rattle.ec_query.proofs.ClashSearch.{left_behind, left_behind-all, left_behind-next, left_behind-none, fewer_behind}
 use Rattle.ec_query.proofs.WritingLemmas.{IsLeft-start, IsLeft-next, IsLeft-part, IsLeft-end, OnErr-anyway}
@@ -42,3 +43,9 @@ pub returns-clause-written : goal.returns-clause-written
 returns-clause-written g c = λ times are.
     IsLeft-end (c.loop-at.invariant.left times are)
     (ap (members_text g.T.Moment.canon) (left_behind-none g.T.Moment.rank c.args.points.now times are c.loop-at.after c.in_default.ensures.none))
+
+pub returns-in_err-write_all-clause-failed : goal.returns-in_err-write_all-clause-failed
+returns-in_err-write_all-clause-failed c = grind (arith, common_steps)
+
+pub returns-in_err-write_all-clause-counted : goal.returns-in_err-write_all-clause-counted
+returns-in_err-write_all-clause-counted c = grind (arith, common_steps)

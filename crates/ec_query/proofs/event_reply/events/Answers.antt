@@ -1,5 +1,6 @@
 -- Each event is the next of what is left.
 use Rattle.std.proofs.Common.{◌+◌, ◌++◌, drop, map, refl, sym, ap, ap₂, subst, ◌∙◌, arith}
+use Rattle.std.proofs.lemmas.Grind.{common_steps}
 use Rattle.std.specs.Prelude.{decimal}
 use Rattle.ec_outside.specs.Streams.{Appended}
 use Rattle.ec_axioms.specs.QueryTexts.{counted_text, event_text}
@@ -95,3 +96,21 @@ returns-clause-written g c = λ events are.
     subst (λ text. Appended g.K.Sink.stands c.args.out.now c.loop-found.out text) (events_reply-of rank canon kept events are)
     (IsLeft-end c.loop-found.invariant.left (members_text-end (kept_text rank canon) kept c.loop-found.cursor
     (next-none kept c.loop-found.cursor c.next.result c.in_default.is c.next.ensures.next)))
+
+pub returns-in_err-write_all-clause-counted : goal.returns-in_err-write_all-clause-counted
+returns-in_err-write_all-clause-counted c = grind (arith, common_steps)
+
+pub returns-in_err-write_count-clause-failed : goal.returns-in_err-write_count-clause-failed
+returns-in_err-write_count-clause-failed c = grind (arith, common_steps)
+
+pub returns-clause-counted : goal.returns-clause-counted
+returns-clause-counted c = grind (arith, common_steps)
+
+pub returns-clause-steps : goal.returns-clause-steps
+returns-clause-steps c = grind (arith, common_steps)
+
+pub returns-clause-quiet : goal.returns-clause-quiet
+returns-clause-quiet c = grind (arith, common_steps)
+
+pub returns-in_err-write_count-clause-counted : goal.returns-in_err-write_count-clause-counted
+returns-in_err-write_count-clause-counted c = grind (arith, common_steps)

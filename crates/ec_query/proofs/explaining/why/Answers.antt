@@ -1,5 +1,6 @@
 -- What is not kept is not live, and never began.
-use Rattle.std.proofs.Common.{sym}
+use Rattle.std.proofs.Common.{sym, arith}
+use Rattle.std.proofs.lemmas.Grind.{common_steps}
 use Rattle.ec_terms.specs.Term.{ground_of}
 use Rattle.ec_parts.specs.StandFor.{view_of}
 use Rattle.ec_query.proofs.ToldReasons.{reason_of-unkept}
@@ -12,3 +13,9 @@ returns-in-Some-clause-reason g c = λ events stand.
 pub returns-in-None-clause-reason : goal.returns-in-None-clause-reason
 returns-in-None-clause-reason g c = λ events stand.
     reason_of-unkept g.T.Moment.rank c.args.parts.now.checked events (view_of c.args.parts.now) stand (ground_of c.args.p.now) (g.T.Moment.rank c.args.at) (sym c.in-None.ensures.number)
+
+pub why_kept-requires : goal.why_kept-requires
+why_kept-requires c = grind (arith, common_steps)
+
+pub returns-in-None-clause-steps : goal.returns-in-None-clause-steps
+returns-in-None-clause-steps c = grind (arith, common_steps)

@@ -1,5 +1,6 @@
 -- Each run is the next of what is to be listed.
 use Rattle.std.proofs.Common.{map, take, sym, arith}
+use Rattle.std.proofs.lemmas.Grind.{common_steps}
 use Rattle.ec_store.specs.Table.{number_of}
 use Rattle.ec_axioms.specs.Timeline.{is_held_at}
 use Rattle.ec_intervals.specs.Table.{members_at, plain_intervals}
@@ -20,3 +21,15 @@ loop-i-preserved g c =
           (c.list_run.ensures.listed (held_numbers rank intervals t (take c.loop-i.i ns)) c.loop-i.invariant.listed);
       within = omega (arith, c.list_run.ensures.within, c.loop-i.invariant.within);
     }
+
+pub list_run-requires-clause-count : goal.list_run-requires-clause-count
+list_run-requires-clause-count c = grind (arith, common_steps)
+
+pub overflow_add-i : goal.overflow_add-i
+overflow_add-i c = grind (arith, common_steps)
+
+pub list_run-requires-clause-near : goal.list_run-requires-clause-near
+list_run-requires-clause-near c = grind (arith, common_steps)
+
+pub returns : goal.returns
+returns c = grind (arith, common_steps)

@@ -1,5 +1,6 @@
 -- The count, the front and the spans follow one another.
-use Rattle.std.proofs.Common.{◌++◌, map, refl, sym, ap₂, ◌∙◌}
+use Rattle.std.proofs.Common.{◌++◌, map, refl, sym, ap₂, ◌∙◌, arith}
+use Rattle.std.proofs.lemmas.Grind.{common_steps}
 use Rattle.std.specs.Prelude.{decimal}
 use Rattle.ec_axioms.specs.QueryTexts.{counted_text, interval_text}
 use Rattle.ec_intervals.specs.Table.{front_at, front_members, members_at, plain_interval, plain_intervals, spans_at}
@@ -59,3 +60,15 @@ returns-clause-part g c =
     refl c.in_ok-write_count.ensures.written c.in_ok-write_count.ensures.quiet)
     refl c.in_ok-write_front.ensures.written c.in_ok-write_front.ensures.quiet)
     refl c.write_begun.ensures.part
+
+pub returns-clause-quiet : goal.returns-clause-quiet
+returns-clause-quiet c = grind (arith, common_steps)
+
+pub returns-clause-failed : goal.returns-clause-failed
+returns-clause-failed c = grind (arith, common_steps)
+
+pub returns-clause-counted : goal.returns-clause-counted
+returns-clause-counted c = grind (arith, common_steps)
+
+pub returns-in_err-write_count-clause-part : goal.returns-in_err-write_count-clause-part
+returns-in_err-write_count-clause-part c = grind (arith, common_steps)

@@ -1,5 +1,6 @@
 -- Each member is the next of what is left.
 use Rattle.std.proofs.Common.{◌+◌, ◌++◌, length, drop, refl, sym, ap, ◌∙◌, arith}
+use Rattle.std.proofs.lemmas.Grind.{common_steps}
 use Rattle.std.proofs.lemmas.Option.{slice_get_read}
 use Rattle.ec_query.specs.Members.{members_text, span_text}
 use Rattle.ec_query.proofs.WritingLemmas.{IsLeft-next, IsLeft-part, OnErr-anyway, members_text-next}
@@ -25,3 +26,6 @@ loop-span-preserved g c =
     (slice_get_read c.args.run.now (length c.args.run.now) c.loop-span.span-index c.span-item.result refl (omega arith) c.span-item.is)
     ∙ ap (λ bytes. bytes ++ more) (sym (c.as_bytes.ensures ∙ c.set_interval.ensures)))
     c.in_ok-write_all.ensures.written c.in_ok-write_all.ensures.quiet
+
+pub returns-clause-written : goal.returns-clause-written
+returns-clause-written c = grind (arith, common_steps)

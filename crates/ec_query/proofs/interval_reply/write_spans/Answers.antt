@@ -1,5 +1,6 @@
 -- Each run is the next of what is left.
-use Rattle.std.proofs.Common.{◌+◌, length, drop}
+use Rattle.std.proofs.Common.{◌+◌, length, drop, arith}
+use Rattle.std.proofs.lemmas.Grind.{common_steps}
 use Rattle.ec_query.specs.Members.{members_text, span_text}
 use Rattle.ec_query.proofs.WritingLemmas.{IsLeft-next, IsLeft-part, OnErr-anyway, members_text-run}
 use Rattle.ec_query.proofs.interval_reply.write_spans.Goals as goal
@@ -18,3 +19,9 @@ loop-i-preserved g c =
     let spans = g.I.SpanRow.spans c.args.spans.now in
     IsLeft-next (members_text text c.run-run.result.now) (members_text text (drop (c.loop-i.i + length c.run-run.result.now) spans)) c.loop-i.invariant
     (members_text-run text spans c.run-run.result.now c.loop-i.i c.run-run.ensures.run) c.in_ok-write_run.ensures.written c.in_ok-write_run.ensures.quiet
+
+pub returns-clause-written : goal.returns-clause-written
+returns-clause-written c = grind (arith, common_steps)
+
+pub overflow_add-i : goal.overflow_add-i
+overflow_add-i c = grind (arith, common_steps)

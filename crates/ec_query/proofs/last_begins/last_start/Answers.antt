@@ -1,5 +1,6 @@
 -- Behind the last start that is left, none of the initiations starts the property.
 use Rattle.std.proofs.Common.{◌≡◌, ◌+◌, ◌-◌, None, option_map, take, sym, ap, ◌∙◌, arith}
+use Rattle.std.proofs.lemmas.Grind.{common_steps}
 use Rattle.std.specs.Prelude.{int_lt}
 use Rattle.std.specs.List.{last_or}
 use Rattle.ec_lists.proofs.Filters.{length-filter_le}
@@ -60,3 +61,9 @@ loop-i-preserved g c =
           ∙ ap (λ n. last_or None (starts_of rank (timeline_of theory events p) (take n marks))) again
           ∙ c.loop-i.invariant.last events p on breaks;
     }
+
+pub overflow_sub-i-in-loop-i : goal.overflow_sub-i-in-loop-i
+overflow_sub-i-in-loop-i c = grind (arith, common_steps)
+
+pub loop-i-smaller : goal.loop-i-smaller
+loop-i-smaller c = grind (arith, common_steps)

@@ -1,5 +1,6 @@
 -- What the numbers say is what holds, in term order.
-use Rattle.std.proofs.Common.{◌++◌, length, map, refl, sym, ap, ◌∙◌}
+use Rattle.std.proofs.Common.{◌++◌, length, map, refl, sym, ap, ◌∙◌, arith}
+use Rattle.std.proofs.lemmas.Grind.{common_steps}
 use Rattle.std.specs.Prelude.{decimal}
 use Rattle.ec_store.specs.Table.{number_of}
 use Rattle.ec_query.specs.Holding.{held_numbers, number_text}
@@ -48,3 +49,12 @@ returns-clause-part g c = λ theory events held lists.
     (ap (λ n. decimal n ++ members_text (number_text table) numbers) (sym (c.count.ensures ∙ c.list_held-list.ensures.count))))
     refl c.in_ok-write_count.ensures.written c.in_ok-write_count.ensures.quiet)
     refl c.write_listed.ensures.part)
+
+pub returns-clause-failed : goal.returns-clause-failed
+returns-clause-failed c = grind (arith, common_steps)
+
+pub returns-in_err-write_count-clause-failed : goal.returns-in_err-write_count-clause-failed
+returns-in_err-write_count-clause-failed c = grind (arith, common_steps)
+
+pub returns-clause-quiet : goal.returns-clause-quiet
+returns-clause-quiet c = grind (arith, common_steps)

@@ -1,5 +1,6 @@
 -- Each run is the next of what is left.
-use Rattle.std.proofs.Common.{◌+◌, drop, length, map, ap, ◌∙◌}
+use Rattle.std.proofs.Common.{◌+◌, drop, length, map, ap, ◌∙◌, arith}
+use Rattle.std.proofs.lemmas.Grind.{common_steps}
 use Rattle.ec_axioms.specs.Timeline.{is_held_at}
 use Rattle.ec_intervals.specs.Table.{members_at, plain_intervals}
 use Rattle.ec_store.specs.Table.{number_of}
@@ -37,3 +38,15 @@ loop-i-preserved g c =
     IsLeft-next (members_text text here) (members_text text behind) c.loop-i.invariant
     (ap (members_text text) (filter-next_run (λ p. is_held_at (plain_intervals rank (members_at p.0 intervals)) t) ns run c.loop-i.i c.run_in_order-run.ensures.run) ∙ members_text-append text here behind)
     c.in_ok-write_run.ensures.written c.in_ok-write_run.ensures.quiet
+
+pub overflow_add-i : goal.overflow_add-i
+overflow_add-i c = grind (arith, common_steps)
+
+pub returns-in_err-write_run-clause-failed : goal.returns-in_err-write_run-clause-failed
+returns-in_err-write_run-clause-failed c = grind (arith, common_steps)
+
+pub returns-clause-written : goal.returns-clause-written
+returns-clause-written c = grind (arith, common_steps)
+
+pub returns-in_err-write_run-clause-counted : goal.returns-in_err-write_run-clause-counted
+returns-in_err-write_run-clause-counted c = grind (arith, common_steps)

@@ -1,5 +1,6 @@
 -- Each number is the next of what is left.
 use Rattle.std.proofs.Common.{◌+◌, ◌∷◌, [], ◌++◌, drop, get_or, ap, sym, ◌∙◌, append-nil, arith}
+use Rattle.std.proofs.lemmas.Grind.{common_steps}
 use Rattle.std.proofs.lemmas.Option.{slice_get-get_or}
 use Rattle.ec_terms.specs.declared.ids.PropId.{PropId}
 use Rattle.ec_query.specs.Holding.{number_text}
@@ -27,3 +28,6 @@ loop-p-preserved g c =
     (members_text-next text c.args.numbers.now c.loop-p.p-index item (slice_get-get_or c.args.numbers.now c.loop-p.p-index (record { 0 = 0 }) (omega arith))
     ∙ ap (λ bytes. bytes ++ members_text text behind) (sym (append-nil (32 ∷ text item))))
     c.in_ok-write_member.ensures.written c.in_ok-write_member.ensures.quiet
+
+pub returns-clause-written : goal.returns-clause-written
+returns-clause-written c = grind (arith, common_steps)

@@ -1,5 +1,6 @@
 -- Each number is the next of what is left.
 use Rattle.std.proofs.Common.{◌+◌, ◌∷◌, [], drop, get_or, ap, ◌∙◌, arith}
+use Rattle.std.proofs.lemmas.Grind.{common_steps}
 use Rattle.std.proofs.lemmas.Option.{slice_get-get_or}
 use Rattle.ec_terms.specs.declared.ids.PropId.{PropId}
 use Rattle.ec_axioms.specs.Timeline.{is_held_at}
@@ -40,3 +41,12 @@ loop-p-preserved g c =
     (slice_get-get_or c.args.run.now c.loop-p.p-index (record { 0 = 0 }) (omega arith)))
     ∙ members_text-append text here behind)
     c.in_ok-write_one.ensures.written c.in_ok-write_one.ensures.quiet
+
+pub returns-clause-written : goal.returns-clause-written
+returns-clause-written c = grind (arith, common_steps)
+
+pub loop-p-init : goal.loop-p-init
+loop-p-init c = grind (arith, common_steps)
+
+pub returns-in_err-write_one-clause-counted : goal.returns-in_err-write_one-clause-counted
+returns-in_err-write_one-clause-counted c = grind (arith, common_steps)

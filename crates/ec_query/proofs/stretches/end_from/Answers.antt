@@ -1,5 +1,6 @@
 -- The first span from the time on begins at it, or else none does.
 use Rattle.std.proofs.Common.{◌≡◌, false, length, sym, ap, subst, ◌∙◌, arith}
+use Rattle.std.proofs.lemmas.Grind.{common_steps}
 use Rattle.std.specs.Prelude.{IfSome, int_lt, slice_get}
 use Rattle.std.specs.List.{list_any}
 use Rattle.std.specs.Ordering.{int_eq, is_eq}
@@ -43,3 +44,9 @@ returns-else-is_eq-clause-none g c =
     ∙ no_begin-at rank spans (rank c.args.at) (by_time-from_row rank spans c.count_before-place.ensures.row)
     (subst (λ o. IfSome o (λ s. int_eq (rank s.from) (rank c.args.at) ≡ false)) (sym (ap (slice_get spans) (sym c.count_before-place.ensures.count) ∙ c.get-span.ensures.span))
     (sym (c.is_eq.ensures ∙ ap is_eq c.order.ensures.order) ∙ c.if-is_eq.false))
+
+pub returns-in_err-spans-clause-some : goal.returns-in_err-spans-clause-some
+returns-in_err-spans-clause-some c = grind (arith, common_steps)
+
+pub returns-in_err-spans-clause-none : goal.returns-in_err-spans-clause-none
+returns-in_err-spans-clause-none c = grind (arith, common_steps)

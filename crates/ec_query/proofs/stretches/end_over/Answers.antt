@@ -1,5 +1,6 @@
 -- The front covers the time, or else a span does.
-use Rattle.std.proofs.Common.{sym, ap, ◌∙◌, subst}
+use Rattle.std.proofs.Common.{sym, ap, ◌∙◌, subst, arith}
+use Rattle.std.proofs.lemmas.Grind.{common_steps}
 use Rattle.std.specs.Prelude.{IfSome}
 use Rattle.ec_axioms.specs.Timeline.{is_held_at}
 use Rattle.ec_intervals.specs.Table.{front_at, front_members, members_at, plain_end, plain_intervals, spans_at, plain_spans}
@@ -29,3 +30,6 @@ returns-clause-none g c =
     (held-parts rank (front_at c.args.id.0 c.args.intervals.now) (spans_at c.args.id.0 c.args.intervals.now) (rank c.args.at)
     (ap (λ front. is_held_at (plain_intervals rank (front_members front)) (rank c.args.at)) (sym c.front-front.ensures) ∙ sym c.front_covers.ensures ∙ c.if-front_covers.false))
     c.end_of_span_over.ensures.none
+
+pub returns-then-front_covers-clause-none : goal.returns-then-front_covers-clause-none
+returns-then-front_covers-clause-none c = grind (arith, common_steps)

@@ -1,5 +1,6 @@
 -- The reason is told as the reply.
-use Rattle.std.proofs.Common.{List, OnErr, OnOk, subst}
+use Rattle.std.proofs.Common.{List, OnErr, OnOk, subst, arith}
+use Rattle.std.proofs.lemmas.Grind.{common_steps}
 use Rattle.std.specs.Prelude.{ℕ}
 use Rattle.ec_terms.specs.Term.{ground_of}
 use Rattle.ec_outside.specs.Streams.{Appended, AppendedPart}
@@ -17,3 +18,6 @@ returns-clause-part g c = λ events stand.
     subst (λ (text : List ℕ). OnErr c.write_reason.result (AppendedPart g.K.Sink.stands c.args.out.now c.write_reason.new.out text))
     (told-reply g.T.Moment.rank g.T.Moment.canon c.args.parts.now.checked events (ground_of c.args.p.now) (g.T.Moment.rank c.args.at) c.why-reason.result (c.why-reason.ensures.reason events stand))
     c.write_reason.ensures.part
+
+pub returns-clause-steps : goal.returns-clause-steps
+returns-clause-steps c = grind (arith, common_steps)

@@ -1,4 +1,5 @@
-use Rattle.std.proofs.Common.{subst}
+use Rattle.std.proofs.Common.{subst, arith}
+use Rattle.std.proofs.lemmas.Grind.{common_steps}
 use Rattle.ec_theory.specs.Reader.{left_of, HasKeyword}
 use Rattle.ec_theory.specs.Walk.{Beginning, PatternAt, StrongNameAt, Event, Left, Initial}
 use Rattle.ec_theory.proofs.WalkSteps.{goes_from}
@@ -23,3 +24,6 @@ returns-in-Some-Initially-default-clause-goes c =
 
 pub returns-in-None-clause-goes : goal.returns-in-None-clause-goes
 returns-in-None-clause-goes c = no_clause c.args.cursor.rest.now c.args.cursor.end _ c.requires c.in-None.ensures.none c.fault.ensures
+
+pub returns-in-Some-Rule-default-clause-takes : goal.returns-in-Some-Rule-default-clause-takes
+returns-in-Some-Rule-default-clause-takes c = grind (arith, common_steps)

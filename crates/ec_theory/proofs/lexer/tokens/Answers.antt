@@ -1,4 +1,5 @@
 use Rattle.std.proofs.Common.{◌<◌, length, get_or, is_ok, sym, ap, ◌∙◌, arith, false-eqb, true-eqb}
+use Rattle.std.proofs.lemmas.Grind.{common_steps}
 use Rattle.std.proofs.ResultArms.{chosen}
 use Rattle.ec_theory.specs.Tokens.{piece_length}
 use Rattle.ec_theory.proofs.PieceEnds.{behind_piece}
@@ -51,3 +52,9 @@ loop-rest-preserved c =
 
 pub returns-clause-ok : goal.returns-clause-ok
 returns-clause-ok c = cut_end _ _ _ _ c.loop-rest.invariant (true-eqb _ 0 c.loop-rest-test.ensures)
+
+pub bounds-rest-0 : goal.bounds-rest-0
+bounds-rest-0 c = grind (arith, common_steps)
+
+pub behind-place-requires-clause-line : goal.behind-place-requires-clause-line
+behind-place-requires-clause-line c = grind (arith, common_steps)

@@ -1,3 +1,5 @@
+use Rattle.std.proofs.Common.{arith}
+use Rattle.std.proofs.lemmas.Grind.{common_steps}
 use Rattle.std.proofs.lemmas.Result.{err_from_is_err_and}
 use Rattle.ec_theory.specs.Walk.{ArgumentAt, AfterPattern}
 use Rattle.ec_theory.specs.Reader.{left_of}
@@ -24,3 +26,12 @@ returns-in-None-clause-takes c = rw c.in_ok-push.ensures.ok (argument_last c.loo
 
 pub returns-in-None-clause-goes : goal.returns-in-None-clause-goes
 returns-in-None-clause-goes c = λ part. argument_closes c.loop-args.invariant c.in_ok-arg.ensures.takes part _ c.in_ok-rest-in-None.ensures.ok
+
+pub same-args-in-None : goal.same-args-in-None
+same-args-in-None c = grind (arith, common_steps)
+
+pub loop-args-init : goal.loop-args-init
+loop-args-init c = grind (arith, common_steps)
+
+pub loop-args-smaller : goal.loop-args-smaller
+loop-args-smaller c = grind (arith, common_steps)

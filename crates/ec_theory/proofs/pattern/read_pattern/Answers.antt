@@ -1,4 +1,5 @@
-use Rattle.std.proofs.Common.{refl, ◌∙◌}
+use Rattle.std.proofs.Common.{refl, ◌∙◌, arith}
+use Rattle.std.proofs.lemmas.Grind.{common_steps}
 use Rattle.std.proofs.lemmas.Result.{err_from_is_err_and}
 use Rattle.ec_theory.specs.Sign.{Word, is_word}
 use Rattle.ec_theory.specs.Walk.{PatternAt, AfterName, AfterPattern, moves, first_move}
@@ -23,3 +24,6 @@ pub returns-clause-goes : goal.returns-clause-goes
 unfolding moves first_move
 returns-clause-goes c = λ part.
     step_goes (PatternAt part) (AfterName part) (left_of c.args.cursor) (Word c.in-Some.text.now) (left_of c.in-Some.behind) c.in-Some.ensures.some refl ∙ c.in_ok-args.ensures.goes part
+
+pub returns-clause-takes : goal.returns-clause-takes
+returns-clause-takes c = grind (arith, common_steps)

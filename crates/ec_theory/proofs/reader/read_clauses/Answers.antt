@@ -1,4 +1,5 @@
 use Rattle.std.proofs.Common.{map, ap, subst, arith}
+use Rattle.std.proofs.lemmas.Grind.{common_steps}
 use Rattle.ec_theory.specs.Lexeme.{Lexemes, lexeme_of}
 use Rattle.ec_theory.specs.Sign.{sign_of, signs_of}
 use Rattle.ec_theory.specs.Grammar.{ReadsFrom}
@@ -16,3 +17,9 @@ pub returns-clause-ok : goal.returns-clause-ok
 returns-clause-ok c =
     subst (λ (l : Lexemes). ReadsFrom 1 (signs_of l) c.loop-next.theory) c.new-next.ensures
     (clauses_all c.loop-next.invariant (ap (λ t. map sign_of (map lexeme_of t)) (c.is_at_end.ensures.0 c.loop-next-test.false)))
+
+pub overflow_add-number : goal.overflow_add-number
+overflow_add-number c = grind (arith, common_steps)
+
+pub read_clause-requires : goal.read_clause-requires
+read_clause-requires c = grind (arith, common_steps)
