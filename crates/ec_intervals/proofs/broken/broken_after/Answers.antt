@@ -1,5 +1,6 @@
 -- The first run with a mark that breaks a begin which passes gives it.
 use Rattle.std.proofs.Common.{◌≡◌, ◌+◌, is_some, length, drop, option_map, ap, sym, subst, ◌∙◌, arith}
+use Rattle.std.proofs.lemmas.Grind.{common_steps}
 use Rattle.std.specs.Prelude.{IfNone}
 use Rattle.ec_rows.specs.PlainMarks.{plain_marks}
 use Rattle.ec_intervals.specs.Steps.{open_through}
@@ -38,3 +39,6 @@ returns g c =
     first_of-none c.args.strong (option_map (plain_begin g.T.Moment.rank) c.args.after) (option_map (plain_begin g.T.Moment.rank) c.loop-i.begun) (drop c.loop-i.i (plain_marks g.T.Moment.rank (g.M.MarkRow.marks c.args.row.now)))
     (marks-none g.T.Moment.rank (g.M.MarkRow.marks c.args.row.now) c.loop-i.i (omega (arith, c.len.ensures.len)))
     ∙ c.loop-i.invariant ∙ first_of-row g.T.Moment.rank (g.M.MarkRow.marks c.args.row.now) c.args.strong c.args.is_initial (option_map (plain_begin g.T.Moment.rank) c.args.after) c.len.ensures.row
+
+pub overflow_add-i : goal.overflow_add-i
+overflow_add-i c = grind (arith, common_steps)

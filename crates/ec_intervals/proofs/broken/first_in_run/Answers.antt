@@ -1,5 +1,6 @@
 -- The first mark that breaks a begin which passes gives it.
 use Rattle.std.proofs.Common.{◌+◌, is_some, length, take, drop, option_map, refl, ap, sym, ◌∙◌, arith}
+use Rattle.std.proofs.lemmas.Grind.{common_steps}
 use Rattle.std.proofs.lemmas.Option.{slice_get_read}
 use Rattle.ec_rows.specs.PlainMarks.{plain_mark, plain_marks}
 use Rattle.ec_intervals.specs.Steps.{open_through, broken_through}
@@ -47,3 +48,12 @@ loop-mark-preserved g c =
           (option_map (plain_begin g.T.Moment.rank) c.open_behind.result) c.open_behind.ensures
           ∙ sym (ap (open_through c.args.strong (option_map (plain_begin g.T.Moment.rank) c.args.begun.now)) taken);
     }
+
+pub returns-clause-behind : goal.returns-clause-behind
+returns-clause-behind c = grind (arith, common_steps)
+
+pub returns-then-is_some-clause-behind : goal.returns-then-is_some-clause-behind
+returns-then-is_some-clause-behind c = grind (arith, common_steps)
+
+pub returns-clause-found : goal.returns-clause-found
+returns-clause-found c = grind (arith, common_steps)

@@ -1,5 +1,6 @@
 -- The row that has more room stands in its place.
-use Rattle.std.proofs.Common.{◌≤◌, Some, is_some, refl, sym, ap, subst}
+use Rattle.std.proofs.Common.{◌≤◌, Some, is_some, refl, sym, ap, subst, arith}
+use Rattle.std.proofs.lemmas.Grind.{common_steps}
 use Rattle.std.specs.Prelude.{option_map, slice_set}
 use Rattle.std.proofs.lemmas.Result.{on_ok_weaker}
 use Rattle.ec_numbered.specs.ByNumber.{kept_at}
@@ -31,3 +32,12 @@ returns-in-Some-clause-there g c =
     let row : KeptRow _ _ = record { front = c.in-Some.kept.now.front; spans = c.reserve.new.self } in
     let here = kept_at-set c.args.rows.now c.args.p.0 c.in-Some.kept.now row c.in-Some.ensures.kept in
     on_ok_weaker c.reserve.result (λ ok. ap is_some here) c.reserve.ensures.ok
+
+pub returns-in-Some-clause-err : goal.returns-in-Some-clause-err
+returns-in-Some-clause-err c = grind (arith, common_steps)
+
+pub add_row-requires : goal.add_row-requires
+add_row-requires c = grind (arith, common_steps)
+
+pub returns-in-None-clause-others : goal.returns-in-None-clause-others
+returns-in-None-clause-others c = grind (arith, common_steps)

@@ -1,5 +1,6 @@
 -- The draft stands for the spans of the window, and with them for all that the row spells.
 use Rattle.std.proofs.Common.{◌≡◌, option_map, drop, ap, sym, ◌∙◌, arith}
+use Rattle.std.proofs.lemmas.Grind.{common_steps}
 use Rattle.std.proofs.lemmas.Bool.{false≢true}
 use Rattle.ec_axioms.proofs.Ranks.{le_int_le}
 use Rattle.ec_rows.specs.PlainMarks.{plain_marks}
@@ -39,3 +40,6 @@ returns-clause-intervals g c =
     c.find_start-start.ensures.ended c.find_start-start.ensures.lasting
     (c.draft_rest-end.ensures.spelt ∙ ap (λ begun. spelt_through c.args.strong (option_map (plain_begin g.T.Moment.rank) begun) (drop c.count_before-first.result (plain_marks g.T.Moment.rank (g.M.MarkRow.marks c.args.row.now)))) c.start.ensures.begun)
     other (c.draft_rest-end.ensures.starts (λ is. other (ap (option_map (plain_begin g.T.Moment.rank)) (sym c.start.ensures.begun) ∙ is)))
+
+pub draft_rest-end-requires-clause-old : goal.draft_rest-end-requires-clause-old
+draft_rest-end-requires-clause-old c = grind (arith, common_steps)

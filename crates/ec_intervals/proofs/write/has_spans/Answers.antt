@@ -1,5 +1,6 @@
 -- The spans are the same as far as they have been compared, and where two differ the lists do.
 use Rattle.std.proofs.Common.{◌-◌, length, length-drop, map, take, drop, refl, sym, ap, ◌∙◌, arith}
+use Rattle.std.proofs.lemmas.Grind.{common_steps}
 use Rattle.std.proofs.lemmas.Bool.{false≢true}
 use Rattle.std.proofs.lemmas.List.{length-map, length-take-le}
 use Rattle.std.proofs.lemmas.Option.{slice_get_read}
@@ -40,3 +41,6 @@ loop-i-preserved g c =
     (slice_get-drop (g.I.SpanRow.spans c.args.spans.now) c.args.from c.loop-i.i c.get.result c.get.ensures.span)
     (slice_get_read c.args.with.now (length c.args.with.now) c.loop-i.i c.index-with-i.result refl (omega arith) c.index-with-i.is) c.loop-i.invariant
     (c.is_same_span.ensures.0 c.if-not-is_same_span.false)
+
+pub returns : goal.returns
+returns c = grind (arith, common_steps)

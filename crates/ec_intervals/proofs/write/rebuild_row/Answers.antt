@@ -1,5 +1,6 @@
 -- What is drafted of the whole row is what it spells, and it stands in place of all spans.
 use Rattle.std.proofs.Common.{◌≡◌, ◌++◌, None, length, map, option_map, drop, ap, sym, subst, ◌∙◌, arith}
+use Rattle.std.proofs.lemmas.Grind.{common_steps}
 use Rattle.std.proofs.lemmas.List.{length-map, append-nil}
 use Rattle.std.proofs.Math.ListN.{drop_of_length-le}
 use Rattle.ec_rows.specs.PlainMarks.{plain_mark, plain_marks}
@@ -42,3 +43,6 @@ returns-clause-intervals g c =
     ap (λ spans. plain_intervals g.T.Moment.rank (front_members c.close.new.self.front ++ map span_interval spans)) (c.splice.ensures.spans ∙ written)
     ∙ rebuilt g.T.Moment.rank (g.M.MarkRow.marks c.args.row.now) c.read_row.ensures.row c.args.strong c.args.initial c.start.new.self c.read_row.new.self c.close.new.self c.start.ensures.intervals
     (ap (option_map (plain_begin g.T.Moment.rank)) c.start.ensures.begun ∙ c.first_open.ensures) c.read_row.ensures.read c.close.ensures.intervals
+
+pub returns-clause-room : goal.returns-clause-room
+returns-clause-room c = grind (arith, common_steps)

@@ -1,5 +1,6 @@
 -- What is written is what the row spells.
 use Rattle.std.proofs.Common.{◌++◌, length, map, refl, sym, ap, subst, ◌∙◌, arith}
+use Rattle.std.proofs.lemmas.Grind.{common_steps}
 use Rattle.std.proofs.lemmas.Bool.{false≢true}
 use Rattle.std.specs.List.{splice}
 use Rattle.ec_rows.specs.Spans.{IsSpanRow}
@@ -49,3 +50,9 @@ returns-clause-room g c =
     let all = length-spliced g.T.Moment.rank c.draft_window-start.new.draft.front c.draft_window-start.new.draft.front (g.I.SpanRow.spans c.args.kept.now.spans) c.deref.result.now c.draft_window-start.result.0 c.draft_window-start.result.1 c.draft_window-start.ensures.ordered c.draft_window-start.ensures.within in
     let new = ap length c.splice.ensures.spans in
     omega (arith, all, new, c.splice.ensures.spare, c.draft_window-start.ensures.ordered, c.draft_window-start.ensures.within)
+
+pub splice-requires-clause-within : goal.splice-requires-clause-within
+splice-requires-clause-within c = grind (arith, common_steps)
+
+pub splice-requires-clause-ordered : goal.splice-requires-clause-ordered
+splice-requires-clause-ordered c = grind (arith, common_steps)

@@ -1,5 +1,6 @@
 -- The last of those that wait joins, or it and the others that wait are forgotten.
-use Rattle.std.proofs.Common.{◌≡◌, [], refl, sym, ap, subst, ◌∙◌, rules}
+use Rattle.std.proofs.Common.{◌≡◌, [], refl, sym, ap, subst, ◌∙◌, rules, arith}
+use Rattle.std.proofs.lemmas.Grind.{common_steps}
 use Rattle.ec_terms.specs.declared.theory.Theory.{Theory}
 use Rattle.ec_context.specs.Widened.{without_props}
 use Rattle.ec_context.proofs.Keepings.{unmentioned-last, AreUnmentioned-pop}
@@ -87,3 +88,24 @@ returns-clause-entered g c =
     let none : c.loop-p.waiting.items ≡ [] = search rules in
     (AreDone-all g.T.Moment.rank c.args.parts.now.checked c.args.waiting.now.items (view_of c.args.parts.now) c.args.fresh.now.items c.loop-p.waiting.items (view_of c.loop-p.parts) c.loop-p.fresh.items none
     c.loop-p.invariant.adopted).entered
+
+pub returns-clause-store : goal.returns-clause-store
+returns-clause-store c = grind (arith, common_steps)
+
+pub returns-clause-table : goal.returns-clause-table
+returns-clause-table c = grind (arith, common_steps)
+
+pub returns-in-Err-clause-store : goal.returns-in-Err-clause-store
+returns-in-Err-clause-store c = grind (arith, common_steps)
+
+pub returns-clause-theory : goal.returns-clause-theory
+returns-clause-theory c = grind (arith, common_steps)
+
+pub returns-in-Err-clause-table : goal.returns-in-Err-clause-table
+returns-in-Err-clause-table c = grind (arith, common_steps)
+
+pub returns-in-Err-clause-theory : goal.returns-in-Err-clause-theory
+returns-in-Err-clause-theory c = grind (arith, common_steps)
+
+pub loop-p-smaller : goal.loop-p-smaller
+loop-p-smaller c = grind (arith, common_steps)

@@ -1,5 +1,6 @@
 -- Without the new numbers the table is what it was, so the parts stood without them.
-use Rattle.std.proofs.Common.{◌≡◌, ℕ, true, List, None, is_some, IsSome, IsTrue, sym, ap, subst, ◌∙◌, ⊎_elim}
+use Rattle.std.proofs.Common.{◌≡◌, ℕ, true, List, None, is_some, IsSome, IsTrue, sym, ap, subst, ◌∙◌, ⊎_elim, arith}
+use Rattle.std.proofs.lemmas.Grind.{common_steps}
 use Rattle.std.specs.Prelude.{◌==◌}
 use Rattle.std.specs.List.{All}
 use Rattle.std.proofs.lemmas.Bool.{cases_Bool, false≢true, or_right}
@@ -75,3 +76,45 @@ returns-clause-entered g c =
 
 pub returns-clause-fresh : goal.returns-clause-fresh
 returns-clause-fresh g c = fresh-has c.args.parts.now.props c.adopt.new.parts.props c.args.fresh.now.items c.adopt.new.fresh.items (returns-clause-entered g c)
+
+pub returns-clause-more : goal.returns-clause-more
+returns-clause-more c = grind (arith, common_steps)
+
+pub returns-clause-theory : goal.returns-clause-theory
+returns-clause-theory c = grind (arith, common_steps)
+
+pub returns-clause-before : goal.returns-clause-before
+returns-clause-before c = grind (arith, common_steps)
+
+pub returns-in_err-adopt-clause-entries : goal.returns-in_err-adopt-clause-entries
+returns-in_err-adopt-clause-entries c = grind (arith, common_steps)
+
+pub returns-in_err-adopt-clause-kept : goal.returns-in_err-adopt-clause-kept
+returns-in_err-adopt-clause-kept c = grind (arith, common_steps)
+
+pub returns-in_err-adopt-clause-events : goal.returns-in_err-adopt-clause-events
+returns-in_err-adopt-clause-events c = grind (arith, common_steps)
+
+pub returns-in_err-adopt-clause-theory : goal.returns-in_err-adopt-clause-theory
+returns-in_err-adopt-clause-theory c = grind (arith, common_steps)
+
+pub returns-clause-events : goal.returns-clause-events
+returns-clause-events c = grind (arith, common_steps)
+
+pub adopt-requires-clause-unmentioned : goal.adopt-requires-clause-unmentioned
+adopt-requires-clause-unmentioned c = grind (arith, common_steps)
+
+pub returns-in_err-list-clause-fresh : goal.returns-in_err-list-clause-fresh
+returns-in_err-list-clause-fresh c = grind (arith, common_steps)
+
+pub returns-clause-entries : goal.returns-clause-entries
+returns-clause-entries c = grind (arith, common_steps)
+
+pub returns-in_err-adopt-clause-more : goal.returns-in_err-adopt-clause-more
+returns-in_err-adopt-clause-more c = grind (arith, common_steps)
+
+pub returns-clause-widened : goal.returns-clause-widened
+returns-clause-widened c = grind (arith, common_steps)
+
+pub returns-in_err-list-clause-both : goal.returns-in_err-list-clause-both
+returns-in_err-list-clause-both c = grind (arith, common_steps)

@@ -1,5 +1,6 @@
 -- The marks in the order of time are those that were collected.
 use Rattle.std.proofs.Common.{◌≡◌, ◌∷◌, [], ℤ, ◌<◌, List, length, refl, sym, subst, ◌∙◌, arith}
+use Rattle.std.proofs.lemmas.Grind.{common_steps}
 use Rattle.std.specs.List.{All}
 use Rattle.std.specs.List.Sorted.{IsPermutation}
 use Rattle.std.proofs.lemmas.List.Sorted.{All-permutation}
@@ -47,3 +48,33 @@ returns-clause-gathered g c =
     AreGathered-permuted g.T.Moment.rank (marks_under c.args.initiations.now c.args.list.now) c.as_slice.result.now (marks_at c.args.p.0 c.reserve.new.self)
     (sorted (marks_under c.args.initiations.now c.args.list.now) c.in_ok-marks.marks.items c.sort_by_time.new.marks.items c.as_slice.result.now c.in_ok-marks.ensures c.sort_by_time.ensures.same c.as_slice.ensures.value)
     (AreGathered-none g.T.Moment.rank c.as_slice.result.now (marks_at c.args.p.0 c.reserve.new.self) (nothing c.as_slice.result.now c.in-empty.len_below) (c.in_ok-reserve.ensures.grown.marks ∙ c.requires.none))
+
+pub scale_in_slice-rest : goal.scale_in_slice-rest
+scale_in_slice-rest c = grind (arith, common_steps)
+
+pub returns-clause-initials : goal.returns-clause-initials
+returns-clause-initials c = grind (arith, common_steps)
+
+pub slice_bounds-rest-start : goal.slice_bounds-rest-start
+slice_bounds-rest-start c = grind (arith, common_steps)
+
+pub bounds-first-0 : goal.bounds-first-0
+bounds-first-0 c = grind (arith, common_steps)
+
+pub push_clashes-requires-clause-none : goal.push_clashes-requires-clause-none
+push_clashes-requires-clause-none c = grind (arith, common_steps)
+
+pub returns-in-len1-up-clause-initials : goal.returns-in-len1-up-clause-initials
+returns-in-len1-up-clause-initials c = grind (arith, common_steps)
+
+pub returns-clause-others : goal.returns-clause-others
+returns-clause-others c = grind (arith, common_steps)
+
+pub push_clashes-requires-clause-order : goal.push_clashes-requires-clause-order
+push_clashes-requires-clause-order c = grind (arith, common_steps)
+
+pub returns-in-len1-up-clause-others : goal.returns-in-len1-up-clause-others
+returns-in-len1-up-clause-others c = grind (arith, common_steps)
+
+pub slice_bounds-rest-count : goal.slice_bounds-rest-count
+slice_bounds-rest-count c = grind (arith, common_steps)

@@ -1,5 +1,6 @@
 -- What is in the box are the tables that were made.
-use Rattle.std.proofs.Common.{◌≡◌, ℕ, is_some, ap, subst, sym, ◌∙◌}
+use Rattle.std.proofs.Common.{◌≡◌, ℕ, is_some, ap, subst, sym, ◌∙◌, arith}
+use Rattle.std.proofs.lemmas.Grind.{common_steps}
 use Rattle.ec_axioms.specs.Links.{initial_properties}
 use Rattle.ec_exclusive.specs.Added.{added_props}
 use Rattle.ec_exclusive.specs.Neighbours.{AreNeighbours}
@@ -39,3 +40,36 @@ pub returns-clause-intervals : goal.returns-clause-intervals
 returns-clause-intervals g c =
     let seen : c.deref-kept.result.now ≡ c.in_ok-tables.tables.value = cc in
     subst (λ (k : InitialTables). HaveFirstIntervals g.T.Moment.rank k.neighbours k.numbers.items c.in_ok-rows.rows.intervals.value) seen c.in_ok-rows.ensures.intervals
+
+pub returns-clause-initiations : goal.returns-clause-initiations
+returns-clause-initiations c = grind (arith, common_steps)
+
+pub returns-in_err-new-clause-initials : goal.returns-in_err-new-clause-initials
+returns-in_err-new-clause-initials c = grind (arith, common_steps)
+
+pub returns-in_err-new-clause-intervals : goal.returns-in_err-new-clause-intervals
+returns-in_err-new-clause-intervals c = grind (arith, common_steps)
+
+pub returns-in_err-new-clause-added : goal.returns-in_err-new-clause-added
+returns-in_err-new-clause-added c = grind (arith, common_steps)
+
+pub returns-clause-marks : goal.returns-clause-marks
+returns-clause-marks c = grind (arith, common_steps)
+
+pub returns-in_err-new-clause-marks : goal.returns-in_err-new-clause-marks
+returns-in_err-new-clause-marks c = grind (arith, common_steps)
+
+pub returns-in_err-new-clause-initiations : goal.returns-in_err-new-clause-initiations
+returns-in_err-new-clause-initiations c = grind (arith, common_steps)
+
+pub returns-in_err-new-clause-events : goal.returns-in_err-new-clause-events
+returns-in_err-new-clause-events c = grind (arith, common_steps)
+
+pub returns-in_err-new-clause-neighbours : goal.returns-in_err-new-clause-neighbours
+returns-in_err-new-clause-neighbours c = grind (arith, common_steps)
+
+pub returns-in_err-new-clause-numbers : goal.returns-in_err-new-clause-numbers
+returns-in_err-new-clause-numbers c = grind (arith, common_steps)
+
+pub returns-in_err-new-clause-once : goal.returns-in_err-new-clause-once
+returns-in_err-new-clause-once c = grind (arith, common_steps)

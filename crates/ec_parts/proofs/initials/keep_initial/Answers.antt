@@ -1,4 +1,5 @@
-use Rattle.std.proofs.Common.{◌≡◌, ◌++◌, ◌∷◌, [], refl, ap, subst, ◌∙◌}
+use Rattle.std.proofs.Common.{◌≡◌, ◌++◌, ◌∷◌, [], refl, ap, subst, ◌∙◌, arith}
+use Rattle.std.proofs.lemmas.Grind.{common_steps}
 use Rattle.ec_terms.specs.Matching.{filled}
 use Rattle.ec_terms.specs.Term.{ground_of}
 use Rattle.ec_parts.specs.Initials.{KeepsOnce, initial_term}
@@ -36,3 +37,6 @@ returns-else-mentions-eq0 c terms once =
       counted = c.mentions.ensures;
     })
     c.if-mentions-eq0.false refl once)
+
+pub mention-requires-clause-room : goal.mention-requires-clause-room
+mention-requires-clause-room c = grind (arith, common_steps)

@@ -1,5 +1,6 @@
 -- What is put together are parts of no event.
-use Rattle.std.proofs.Common.{[], ap, refl, subst, sym}
+use Rattle.std.proofs.Common.{[], ap, refl, subst, sym, arith}
+use Rattle.std.proofs.lemmas.Grind.{common_steps}
 use Rattle.std.specs.List.{All}
 use Rattle.ec_terms.specs.declared.theory.Theory.{Theory}
 use Rattle.ec_axioms.specs.Links.{initial_properties}
@@ -39,3 +40,15 @@ returns-clause-stand g c =
 
 pub returns-clause-theory : goal.returns-clause-theory
 returns-clause-theory g c = ap (λ (parts : Parts _ _ _ _). parts.checked) c.assembled-parts.ensures
+
+pub returns-in_err-made-clause-stand : goal.returns-in_err-made-clause-stand
+returns-in_err-made-clause-stand c = grind (arith, common_steps)
+
+pub begin_parts-requires-clause-matchable : goal.begin_parts-requires-clause-matchable
+begin_parts-requires-clause-matchable c = grind (arith, common_steps)
+
+pub returns-in_err-made-clause-tally : goal.returns-in_err-made-clause-tally
+returns-in_err-made-clause-tally c = grind (arith, common_steps)
+
+pub returns-in_err-made-clause-theory : goal.returns-in_err-made-clause-theory
+returns-in_err-made-clause-theory c = grind (arith, common_steps)

@@ -1,4 +1,5 @@
 use Rattle.std.proofs.Common.{ap, sym, ◌∙◌, arith}
+use Rattle.std.proofs.lemmas.Grind.{common_steps}
 use Rattle.std.specs.Prelude.{◌==◌}
 use Rattle.std.specs.List.{list_any}
 use Rattle.std.proofs.lemmas.List.{take_all}
@@ -15,3 +16,6 @@ loop-i-preserved c =
 pub returns : goal.returns
 returns c id =
     c.loop-i.invariant id ∙ ap (list_any (λ (kept : KeptProp). kept.id == id)) (take_all c.loop-i.i c.args.props.now (omega (arith, c.loop-i-test.false, c.len-i-end.ensures.len))) ∙ sym (kept-any c.args.props.now id)
+
+pub insert-requires : goal.insert-requires
+insert-requires c = grind (arith, common_steps)

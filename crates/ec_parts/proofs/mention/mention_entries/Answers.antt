@@ -1,4 +1,5 @@
 use Rattle.std.proofs.Common.{◌++◌, [], length, take, refl, ap, subst, sym, ◌∙◌, arith}
+use Rattle.std.proofs.lemmas.Grind.{common_steps}
 use Rattle.ec_parts.specs.Mentions.{entry_props, list_props}
 use Rattle.ec_context.specs.Entries.{IsKeptEntry}
 use Rattle.ec_parts.proofs.Mentioned.{IsKeptEntry-same, HasMentioned-none, HasMentioned-then, AreSomeTables-mentioned, flat_map-take_more, list_props-room}
@@ -25,3 +26,6 @@ loop-entry-preserved g c =
     HasMentioned-then (list_props (take c.loop-entry.entry-index c.args.entries.now)) (entry_props c.entry-item.result) _
     (flat_map-take_more entry_props c.args.entries.now c.loop-entry.entry-index c.entry-item.result c.loop-entry-test.true
     ∙ ap (λ e. list_props (take c.loop-entry.entry-index c.args.entries.now) ++ entry_props e) (sym c.entry-item.is)) c.loop-entry.invariant c.mention_entry.ensures
+
+pub returns : goal.returns
+returns c = grind (arith, common_steps)

@@ -1,4 +1,5 @@
-use Rattle.std.proofs.Common.{[], map, take, refl, subst}
+use Rattle.std.proofs.Common.{[], map, take, refl, subst, arith}
+use Rattle.std.proofs.lemmas.Grind.{common_steps}
 use Rattle.std.proofs.lemmas.List.{take_all}
 use Rattle.ec_context.specs.declared.entry.EntryLiteral.{EntryLiteral}
 use Rattle.ec_parts.specs.Mentions.{HasMentioned}
@@ -20,3 +21,9 @@ pub returns : goal.returns
 returns g c =
     subst (λ ls. HasMentioned c.args.neighbours.now c.args.points.now (map (λ (l : EntryLiteral). l.prop) ls) c.args.props.now c.args.tally.now c.loop-literal.props c.loop-literal.tally)
     (take_all c.loop-literal.literal-index c.args.literals.now c.loop-literal-test.false) c.loop-literal.invariant
+
+pub mention-requires-clause-few : goal.mention-requires-clause-few
+mention-requires-clause-few c = grind (arith, common_steps)
+
+pub mention-requires-clause-kept : goal.mention-requires-clause-kept
+mention-requires-clause-kept c = grind (arith, common_steps)

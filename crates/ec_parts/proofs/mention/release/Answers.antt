@@ -1,4 +1,5 @@
 use Rattle.std.proofs.Common.{arith}
+use Rattle.std.proofs.lemmas.Grind.{common_steps}
 use Rattle.ec_parts.proofs.LinksByNumber.{IsOneToOne}
 use Rattle.ec_parts.proofs.OneMention.{AreListed}
 use Rattle.ec_parts.proofs.Mentioned.{count-some, mentions-some, AreNeighbours-released, links-within, HasReleased-one}
@@ -36,3 +37,6 @@ returns g c =
     let some = mentions-some _ _ _ _ c.args.p c.requires.kept c.requires.tables in
     HasReleased-one _ _ _ _ c.args.p c.requires.kept c.requires.tables _ one listed _ c.release.ensures.props _ c.mentions-fresh.result c.mentions-fresh.ensures
     (omega (arith, some)) (omega (arith, within, c.links_with-links.ensures))
+
+pub overflow_sub-tally : goal.overflow_sub-tally
+overflow_sub-tally c = grind (arith, common_steps)

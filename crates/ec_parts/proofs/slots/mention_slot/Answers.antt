@@ -1,5 +1,6 @@
 -- The entries in the slot are mentioned as any others.
-use Rattle.std.proofs.Common.{◌+◌, ◌≤◌, ◌^◌, All, length, sym, subst}
+use Rattle.std.proofs.Common.{◌+◌, ◌≤◌, ◌^◌, All, length, sym, subst, arith}
+use Rattle.std.proofs.lemmas.Grind.{common_steps}
 use Rattle.ec_context.specs.Entries.{IsKeptEntry}
 use Rattle.ec_numbered.specs.ByNumber.{kept_at}
 use Rattle.ec_parts.specs.Mentions.{HasMentioned, TakeEventIn, list_props}
@@ -36,3 +37,6 @@ returns-clause-both g c =
     StandForBoth-counted g.T.Moment.rank c.args.parts.now.checked now soon _ (view_of c.args.parts.now) c.args.tally.now c.mention_entries.new.tally c.mention_entries.new.props one step.terms
     (AreTables-with_event soon event c.list-list.result.now (lists_initials c.args.parts.now.checked c.theory.ensures.well_formed c.theory.ensures.matchable) shown step stand.tables)
     stand)
+
+pub returns-clause-terms : goal.returns-clause-terms
+returns-clause-terms c = grind (arith, common_steps)

@@ -1,5 +1,6 @@
 -- The entries in the slot are released as any others.
-use Rattle.std.proofs.Common.{All, sym, subst}
+use Rattle.std.proofs.Common.{All, sym, subst, arith}
+use Rattle.std.proofs.lemmas.Grind.{common_steps}
 use Rattle.ec_context.specs.Entries.{IsKeptEntry}
 use Rattle.ec_numbered.specs.ByNumber.{kept_at}
 use Rattle.ec_parts.specs.Mentions.{AreOfEventsWith, AreSomeTables, HasReleased, TakeEventOut, list_props}
@@ -35,3 +36,36 @@ returns-clause-both g c =
     StandForBoth-counted g.T.Moment.rank c.args.parts.now.checked now soon _ (view_of c.args.parts.now) c.args.tally.now c.release_entries.new.tally c.release_entries.new.props one step.terms
     (AreTables-without_event soon event c.list-list.result.now (lists_initials c.args.parts.now.checked c.theory.ensures.well_formed c.theory.ensures.matchable) shown step history there stand.tables)
     stand)
+
+pub returns-in_err-note_props-clause-noted : goal.returns-in_err-note_props-clause-noted
+returns-in_err-note_props-clause-noted c = grind (arith, common_steps)
+
+pub returns-clause-steps : goal.returns-clause-steps
+returns-clause-steps c = grind (arith, common_steps)
+
+pub returns-clause-terms : goal.returns-clause-terms
+returns-clause-terms c = grind (arith, common_steps)
+
+pub returns-in_err-note_props-clause-both : goal.returns-in_err-note_props-clause-both
+returns-in_err-note_props-clause-both c = grind (arith, common_steps)
+
+pub returns-in_err-note_props-clause-terms : goal.returns-in_err-note_props-clause-terms
+returns-in_err-note_props-clause-terms c = grind (arith, common_steps)
+
+pub returns-in_err-note_props-clause-err : goal.returns-in_err-note_props-clause-err
+returns-in_err-note_props-clause-err c = grind (arith, common_steps)
+
+pub returns-clause-more : goal.returns-clause-more
+returns-clause-more c = grind (arith, common_steps)
+
+pub returns-in_err-note_props-clause-more : goal.returns-in_err-note_props-clause-more
+returns-in_err-note_props-clause-more c = grind (arith, common_steps)
+
+pub returns-clause-noted : goal.returns-clause-noted
+returns-clause-noted c = grind (arith, common_steps)
+
+pub returns-clause-rest : goal.returns-clause-rest
+returns-clause-rest c = grind (arith, common_steps)
+
+pub returns-in_err-note_props-clause-steps : goal.returns-in_err-note_props-clause-steps
+returns-in_err-note_props-clause-steps c = grind (arith, common_steps)

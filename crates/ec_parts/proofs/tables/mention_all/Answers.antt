@@ -1,4 +1,5 @@
-use Rattle.std.proofs.Common.{subst}
+use Rattle.std.proofs.Common.{subst, arith}
+use Rattle.std.proofs.lemmas.Grind.{common_steps}
 use Rattle.ec_parts.specs.Mentions.{HasMentioned, list_props}
 use Rattle.ec_parts.specs.StandFor.{view_of}
 use Rattle.ec_parts.proofs.CachesKept.{StandForBoth-counted}
@@ -26,3 +27,12 @@ returns-clause-both g c now soon event shown stand =
     StandForBoth-counted g.T.Moment.rank c.args.parts.now.checked now soon _ (view_of c.args.parts.now) c.args.tally.now c.mention_entries.new.tally c.mention_entries.new.props one step.terms
     (AreTables-with_event soon event c.args.list.now (lists_initials c.args.parts.now.checked c.theory.ensures.well_formed c.theory.ensures.matchable) shown step stand.tables)
     stand
+
+pub mention_entries-requires-clause-few : goal.mention_entries-requires-clause-few
+mention_entries-requires-clause-few c = grind (arith, common_steps)
+
+pub mention_entries-requires-clause-kept : goal.mention_entries-requires-clause-kept
+mention_entries-requires-clause-kept c = grind (arith, common_steps)
+
+pub returns-clause-mentioned : goal.returns-clause-mentioned
+returns-clause-mentioned c = grind (arith, common_steps)

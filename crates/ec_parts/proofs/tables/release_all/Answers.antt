@@ -1,4 +1,5 @@
-use Rattle.std.proofs.Common.{subst, sym}
+use Rattle.std.proofs.Common.{subst, sym, arith}
+use Rattle.std.proofs.lemmas.Grind.{common_steps}
 use Rattle.ec_parts.specs.Mentions.{HasReleased, AreSomeTables, list_props}
 use Rattle.ec_parts.specs.StandFor.{view_of}
 use Rattle.ec_parts.proofs.CachesKept.{StandForBoth-counted}
@@ -29,3 +30,9 @@ returns-clause-both g c now soon event shown history there stand =
     StandForBoth-counted g.T.Moment.rank c.args.parts.now.checked now soon _ (view_of c.args.parts.now) c.args.tally.now c.release_entries.new.tally c.release_entries.new.props one step.terms
     (AreTables-without_event soon event c.args.list.now (lists_initials c.args.parts.now.checked c.theory.ensures.well_formed c.theory.ensures.matchable) shown step history there stand.tables)
     stand
+
+pub returns-clause-released : goal.returns-clause-released
+returns-clause-released c = grind (arith, common_steps)
+
+pub release_entries-requires-clause-kept : goal.release_entries-requires-clause-kept
+release_entries-requires-clause-kept c = grind (arith, common_steps)

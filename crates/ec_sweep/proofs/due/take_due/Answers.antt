@@ -1,5 +1,6 @@
 -- One that is due is taken out more; while something is due first, the agenda is not empty.
-use Rattle.std.proofs.Common.{◌≡◌, ◌||◌, true, refl, ap, sym, subst, ◌∙◌}
+use Rattle.std.proofs.Common.{◌≡◌, ◌||◌, true, refl, ap, sym, subst, ◌∙◌, arith}
+use Rattle.std.proofs.lemmas.Grind.{common_steps}
 use Rattle.ec_lists.proofs.Integers.{int_eq-same}
 use Rattle.ec_numbered.specs.Due.{has_due}
 use Rattle.ec_numbered.specs.PropSet.{has_number}
@@ -29,3 +30,12 @@ loop-at-preserved-in-Continue-1 g c =
 
 pub loop-at-smaller : goal.loop-at-smaller
 loop-at-smaller g c = absurd (not-empty g.T.Moment.rank (g.T.Moment.rank c.args.at) c.loop-at.agenda c.in_default.ensures.none (c.loop-at-test.ensures.some refl))
+
+pub loop-at-smaller-in-Continue-1 : goal.loop-at-smaller-in-Continue-1
+loop-at-smaller-in-Continue-1 c = grind (arith, common_steps)
+
+pub loop-at-preserved : goal.loop-at-preserved
+loop-at-preserved c = grind (arith, common_steps)
+
+pub loop-at-init : goal.loop-at-init
+loop-at-init c = grind (arith, common_steps)

@@ -1,5 +1,6 @@
 -- Dependents are taken in one by one, but for those of events that are to be taken out.
-use Rattle.std.proofs.Common.{◌&&◌, ◌||◌, not, sym, ap, subst, ◌∙◌}
+use Rattle.std.proofs.Common.{◌&&◌, ◌||◌, not, sym, ap, subst, ◌∙◌, arith}
+use Rattle.std.proofs.lemmas.Grind.{common_steps}
 use Rattle.std.specs.List.{IsDistinct, list_any}
 use Rattle.ec_entries.specs.Dependents.{dependents_at, dependents_of, is_from}
 use Rattle.ec_revise.specs.Change.{has_slot}
@@ -35,3 +36,6 @@ loop-k-preserved g c =
         once = λ before. subst (IsDistinct same_hit) (sym w.hits-is) (c.loop-k.invariant.once before);
       }
     ]
+
+pub loop-k-init : goal.loop-k-init
+loop-k-init c = grind (arith, common_steps)

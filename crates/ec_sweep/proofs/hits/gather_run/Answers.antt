@@ -1,5 +1,6 @@
 -- Dependents are taken in one by one, but for those of events that are to be taken out.
-use Rattle.std.proofs.Common.{length, refl, sym, ap, subst, ◌∙◌}
+use Rattle.std.proofs.Common.{length, refl, sym, ap, subst, ◌∙◌, arith}
+use Rattle.std.proofs.lemmas.Grind.{common_steps}
 use Rattle.std.specs.Prelude.{option_map}
 use Rattle.std.specs.List.{IsDistinct}
 use Rattle.std.proofs.lemmas.Option.{slice_get_read}
@@ -31,3 +32,6 @@ loop-dependent-preserved g c =
         once = λ before. subst (IsDistinct same_hit) (sym w.hits-is) (c.loop-dependent.invariant.once before);
       }
     ]
+
+pub returns-clause-hits : goal.returns-clause-hits
+returns-clause-hits c = grind (arith, common_steps)

@@ -1,5 +1,6 @@
 -- The parts of a change at the instant are those between two counts; what is done with them is the look.
 use Rattle.std.proofs.Common.{◌≤◌, List, arith}
+use Rattle.std.proofs.lemmas.Grind.{common_steps}
 use Rattle.ec_context.specs.declared.entry.Entry.{Entry}
 use Rattle.ec_parts.specs.StandFor.{view_of}
 use Rattle.ec_sweep.proofs.LookBody.{HasLooked-between, added-further, added-ordered, length-between, length-entries, length-flat_map-between, removals-kept, removals-ordered, removed-further}
@@ -97,3 +98,6 @@ returns-clause-steps g c =
     let met = length-between c.args.change.now.remove c.args.progress.now.removed c.count_removals-removed.result removed_on within in
     let shown = length-flat_map-between (λ (entries : List Entry). entries) c.args.change.now.entries c.args.progress.now.added c.count_added-added.result added_on in
     let told = rw (c.between.ensures, c.as_slice-3.ensures, c.between-2.ensures, c.as_slice-4.ensures) at c.in_ok-turns.ensures.steps in omega (arith, told, met, shown)
+
+pub between-requires-clause-within : goal.between-requires-clause-within
+between-requires-clause-within c = grind (arith, common_steps)

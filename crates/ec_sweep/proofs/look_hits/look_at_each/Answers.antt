@@ -1,5 +1,6 @@
 -- One hit more is looked at.
 use Rattle.std.proofs.Common.{◌++◌, sym, arith}
+use Rattle.std.proofs.lemmas.Grind.{common_steps}
 use Rattle.std.proofs.lemmas.Option.{get_or_from_slice_get, slice_get_within}
 use Rattle.std.specs.Prelude.{filter_map}
 use Rattle.ec_sweep.specs.Acting.{turn_at}
@@ -20,3 +21,12 @@ loop-i-preserved g c = record {
       c.look_at.new.words c.get.ensures c.loop-i.invariant.words c.in_ok-look_at.ensures.words;
   counted = let more = c.in_ok-look_at.ensures.steps in let before = c.loop-i.invariant.counted in omega (arith, more, before);
 }
+
+pub returns-in_err-look_at-clause-most : goal.returns-in_err-look_at-clause-most
+returns-in_err-look_at-clause-most c = grind (arith, common_steps)
+
+pub returns-clause-turns : goal.returns-clause-turns
+returns-clause-turns c = grind (arith, common_steps)
+
+pub returns-clause-words : goal.returns-clause-words
+returns-clause-words c = grind (arith, common_steps)

@@ -1,5 +1,6 @@
 -- Each hit has an entry; and the steps so far are within those of the hits, the removed events and the added entries.
 use Rattle.std.proofs.Common.{refl, inl, inr, arith}
+use Rattle.std.proofs.lemmas.Grind.{common_steps}
 use Rattle.ec_sweep.proofs.HitEntries.{hits-have_entries}
 use Rattle.ec_sweep.proofs.looking.look_by_number.Goals as goal
 
@@ -29,3 +30,9 @@ returns-clause-most g c =
     let looked = c.look_at_hits.ensures.most in
     let removed = c.turn_down_removed.ensures.most in
     let added = c.turn_up_added.ensures.most in inr (c.in_ok-hits.hits, c.in_ok-hits.ensures, omega (arith, looked, removed, added))
+
+pub same-hits : goal.same-hits
+same-hits c = grind (arith, common_steps)
+
+pub returns-clause-looked : goal.returns-clause-looked
+returns-clause-looked c = grind (arith, common_steps)

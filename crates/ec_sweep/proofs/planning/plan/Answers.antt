@@ -1,5 +1,6 @@
 -- A sweep that is through has planned the change, in no more steps than it may take.
 use Rattle.std.proofs.Common.{sym, subst, arith}
+use Rattle.std.proofs.lemmas.Grind.{common_steps}
 use Rattle.ec_parts.specs.StandFor.{StandForBoth, view_of}
 use Rattle.ec_sweep.proofs.SameButRoom.{IsPlanned-same, IsReady-planned, StandForBoth-same}
 use Rattle.ec_sweep.proofs.Through.{IsPlanned-through}
@@ -36,3 +37,15 @@ pub returns-clause-stands : goal.returns-clause-stands
 returns-clause-stands g c = λ now soon tally both.
     subst (λ theory. StandForBoth g.T.Moment.rank theory now soon (view_of c.make_room.new.parts) tally) (sym c.make_room.ensures.checked)
     (StandForBoth-same g.T.Moment.rank c.args.parts.now.checked (view_of c.args.parts.now) (view_of c.make_room.new.parts) c.make_room.ensures.same now soon tally both)
+
+pub returns-clause-neighbours : goal.returns-clause-neighbours
+returns-clause-neighbours c = grind (arith, common_steps)
+
+pub returns-clause-events : goal.returns-clause-events
+returns-clause-events c = grind (arith, common_steps)
+
+pub returns-clause-checked : goal.returns-clause-checked
+returns-clause-checked c = grind (arith, common_steps)
+
+pub returns-clause-table : goal.returns-clause-table
+returns-clause-table c = grind (arith, common_steps)

@@ -1,5 +1,6 @@
 -- Once the last room is made, all the room is there.
-use Rattle.std.proofs.Common.{◌≤◌, subst}
+use Rattle.std.proofs.Common.{◌≤◌, subst, arith}
+use Rattle.std.proofs.lemmas.Grind.{common_steps}
 use Rattle.indexmap.proofs.MapLemmas.{OnOk-map}
 use Rattle.ec_parts.specs.StandFor.{view_of}
 use Rattle.ec_sweep.proofs.MadeRooms.{HasRoomForIntervals-made, HasRoomForMarks-made}
@@ -40,3 +41,39 @@ returns-clause-intervals g c =
     c.args.planned.now c.requires.windows c.make_room_for_marks.new.points c.make_room_for_marks.ensures.grown c.reserve_clashes.ensures.rows c.in_ok-make_room_for_marks.ensures.room
     c.in_ok-make_room_for_intervals.ensures.room)
     c.reserve_clashes.ensures.room
+
+pub returns-clause-checked : goal.returns-clause-checked
+returns-clause-checked c = grind (arith, common_steps)
+
+pub returns-in_err-make_room_for_initiations-clause-checked : goal.returns-in_err-make_room_for_initiations-clause-checked
+returns-in_err-make_room_for_initiations-clause-checked c = grind (arith, common_steps)
+
+pub returns-in_err-reserve-clause-same : goal.returns-in_err-reserve-clause-same
+returns-in_err-reserve-clause-same c = grind (arith, common_steps)
+
+pub returns-in_err-make_room_for_marks-clause-checked : goal.returns-in_err-make_room_for_marks-clause-checked
+returns-in_err-make_room_for_marks-clause-checked c = grind (arith, common_steps)
+
+pub returns-in_err-make_room_for_intervals-clause-same : goal.returns-in_err-make_room_for_intervals-clause-same
+returns-in_err-make_room_for_intervals-clause-same c = grind (arith, common_steps)
+
+pub returns-in_err-prepare-clause-checked : goal.returns-in_err-prepare-clause-checked
+returns-in_err-prepare-clause-checked c = grind (arith, common_steps)
+
+pub returns-clause-events : goal.returns-clause-events
+returns-clause-events c = grind (arith, common_steps)
+
+pub returns-clause-same : goal.returns-clause-same
+returns-clause-same c = grind (arith, common_steps)
+
+pub returns-in_err-make_room_for_initiations-clause-same : goal.returns-in_err-make_room_for_initiations-clause-same
+returns-in_err-make_room_for_initiations-clause-same c = grind (arith, common_steps)
+
+pub returns-in_err-make_room_for_intervals-clause-checked : goal.returns-in_err-make_room_for_intervals-clause-checked
+returns-in_err-make_room_for_intervals-clause-checked c = grind (arith, common_steps)
+
+pub returns-in_err-make_room_for_marks-clause-same : goal.returns-in_err-make_room_for_marks-clause-same
+returns-in_err-make_room_for_marks-clause-same c = grind (arith, common_steps)
+
+pub returns-in_err-prepare-clause-same : goal.returns-in_err-prepare-clause-same
+returns-in_err-prepare-clause-same c = grind (arith, common_steps)

@@ -1,5 +1,6 @@
 -- Each row that is passed gets its room, and those that were passed keep theirs.
 use Rattle.std.proofs.Common.{arith, length}
+use Rattle.std.proofs.lemmas.Grind.{common_steps}
 use Rattle.ec_points.specs.Table.{marks_at}
 use Rattle.ec_sweep.specs.Rooms.{HasRoomToMove}
 use Rattle.ec_sweep.proofs.GrownRooms.{AreIntervalsGrown-chain, HasRoomToMove-grown, each_up_to-all, each_up_to-more}
@@ -18,3 +19,9 @@ loop-i-preserved g c = record {
 pub returns-clause-room : goal.returns-clause-room
 returns-clause-room g c n touched is =
     each_up_to-all c.args.touched.now (λ m t. HasRoomToMove m (length (marks_at m c.args.points.now)) t c.loop-i.intervals) n touched (λ k m t lt at. c.loop-i.invariant.room k m t (omega (arith, c.len-i-end.ensures.len)) at) is
+
+pub loop-i-init : goal.loop-i-init
+loop-i-init c = grind (arith, common_steps)
+
+pub returns-in_err-make_room_to_move-clause-grown : goal.returns-in_err-make_room_to_move-clause-grown
+returns-in_err-make_room_to_move-clause-grown c = grind (arith, common_steps)

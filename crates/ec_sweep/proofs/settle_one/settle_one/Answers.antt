@@ -1,5 +1,6 @@
 -- The parts of the settling of a property, put together.
-use Rattle.std.proofs.Common.{sym, ◌∙◌}
+use Rattle.std.proofs.Common.{sym, ◌∙◌, arith}
+use Rattle.std.proofs.lemmas.Grind.{common_steps}
 use Rattle.std.proofs.lemmas.Bool.{false≢true}
 use Rattle.ec_sweep.proofs.SettledNumbers.{LeavesNumber-from, SettlesNumber-from}
 use Rattle.ec_sweep.proofs.settle_one.settle_one.Goals as goal
@@ -38,3 +39,9 @@ returns-else-is_some-clause-leaves g c =
     (record { dirty = c.args.dirty.now; agenda = c.args.agenda.now; planned = c.args.planned.now })
     (record { dirty = c.set.new.self; agenda = c.args.agenda.now; planned = c.plan_mark.new.planned })
     c.in_ok-plan_mark.ensures c.in_ok-set.ensures.ok
+
+pub returns-else-is_some-clause-dues : goal.returns-else-is_some-clause-dues
+returns-else-is_some-clause-dues c = grind (arith, common_steps)
+
+pub returns-in_ok-make_due-clause-dues : goal.returns-in_ok-make_due-clause-dues
+returns-in_ok-make_due-clause-dues c = grind (arith, common_steps)

@@ -1,5 +1,6 @@
 -- One row after the other, each of a property that was not settled yet.
-use Rattle.std.proofs.Common.{◌∙◌}
+use Rattle.std.proofs.Common.{◌∙◌, arith}
+use Rattle.std.proofs.lemmas.Grind.{common_steps}
 use Rattle.ec_sweep.proofs.OwnChanges.{has_change-same}
 use Rattle.ec_sweep.proofs.SettledRows.{LeavesNumber-next, SettlesRows-more}
 use Rattle.ec_sweep.proofs.TallyPlaces.{row_at-place}
@@ -38,3 +39,9 @@ loop-i-preserved g c =
     (record { dirty = c.loop-i.dirty; agenda = c.loop-i.agenda; planned = c.loop-i.planned })
     (record { dirty = c.settle_one.new.dirty; agenda = c.settle_one.new.agenda; planned = c.settle_one.new.planned }) c.loop-i.invariant
     c.in_ok-settle_one.ensures.settles c.in_ok-settle_one.ensures.leaves c.in_ok-settle_one.ensures.dues
+
+pub loop-i-init : goal.loop-i-init
+loop-i-init c = grind (arith, common_steps)
+
+pub returns : goal.returns
+returns c = grind (arith, common_steps)

@@ -1,5 +1,6 @@
 -- The sweep starts before all events of one list alone, and each visit leaves fewer events behind it.
 use Rattle.std.proofs.Common.{◌<◌, ◌-ℤ◌, pos, subst, sym, arith}
+use Rattle.std.proofs.lemmas.Grind.{common_steps}
 use Rattle.std.proofs.lemmas.Int.{ints}
 use Rattle.ec_parts.specs.StandFor.{view_of}
 use Rattle.ec_sweep.specs.Sweeping.{IsSweeping, left_behind}
@@ -45,3 +46,21 @@ pub returns-clause-steps : goal.returns-clause-steps
 returns-clause-steps g c = λ new tally underway.
     let few = sweep-few g.T.Moment.rank c.args.parts.now.checked new (view_of c.args.parts.now) c.args.change.now c.loop-at.sweep (c.loop-at.invariant.sweeping new tally underway) in
     let before = c.loop-at.invariant.steps in omega (arith, few, before)
+
+pub returns-clause-swept : goal.returns-clause-swept
+returns-clause-swept c = grind (arith, common_steps)
+
+pub visit-requires-clause-sweeping : goal.visit-requires-clause-sweeping
+visit-requires-clause-sweeping c = grind (arith, common_steps)
+
+pub loop-at-preserved : goal.loop-at-preserved
+loop-at-preserved c = grind (arith, common_steps)
+
+pub visit-requires-clause-first : goal.visit-requires-clause-first
+visit-requires-clause-first c = grind (arith, common_steps)
+
+pub returns-clause-done : goal.returns-clause-done
+returns-clause-done c = grind (arith, common_steps)
+
+pub visit-requires-clause-leads : goal.visit-requires-clause-leads
+visit-requires-clause-leads c = grind (arith, common_steps)

@@ -1,5 +1,6 @@
 -- One entry more is evaluated.
 use Rattle.std.proofs.Common.{◌≡◌, ◌<◌, ◌≤◌, ◌+◌, ℕ, Bool, true, false, cond, ◌&&◌, List, length, Some, None, sym, ap, ◌∙◌, ⊎_elim, arith}
+use Rattle.std.proofs.lemmas.Grind.{common_steps}
 use Rattle.std.specs.Prelude.{◌==◌, nat_lt, slice_get}
 use Rattle.std.specs.Option.{option_map_or}
 use Rattle.std.proofs.lemmas.Bool.{cases_Bool, eqb-true}
@@ -92,3 +93,12 @@ pub returns-clause-word : goal.returns-clause-word
 returns-clause-word g c = λ j.
     c.loop-k.invariant.bits j
     ∙ bits_whole c.args.list.now c.loop-k.k j (acts (g.C.Current.is_current c.args.current.now) (g.T.Moment.rank c.args.at)) (omega arith)
+
+pub returns-clause-turns : goal.returns-clause-turns
+returns-clause-turns c = grind (arith, common_steps)
+
+pub with_bit-word-requires : goal.with_bit-word-requires
+with_bit-word-requires c = grind (arith, common_steps)
+
+pub returns-in_err-push-clause-most : goal.returns-in_err-push-clause-most
+returns-in_err-push-clause-most c = grind (arith, common_steps)

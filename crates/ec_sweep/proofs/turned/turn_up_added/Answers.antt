@@ -1,5 +1,6 @@
 -- One list more is evaluated.
 use Rattle.std.proofs.Common.{◌<◌, ◌+◌, ◌++◌, length, drop, flat_map, ap, subst, ◌∙◌, length-append, arith}
+use Rattle.std.proofs.lemmas.Grind.{common_steps}
 use Rattle.ec_sweep.specs.Acting.{IsWordOf, added_turns, up_turns}
 use Rattle.ec_sweep.proofs.AddedWords.{AddsWords-next}
 use Rattle.ec_sweep.proofs.Turning.{drop-next, flat_map-next}
@@ -44,3 +45,18 @@ returns-in_err-push-clause-most g c =
     let more = c.turn_up.ensures.most in
     let same = ap length c.as_slice.ensures.items in
     let before = c.loop-list.invariant.counted in omega (arith, more, same, before, rest)
+
+pub returns-clause-turns : goal.returns-clause-turns
+returns-clause-turns c = grind (arith, common_steps)
+
+pub loop-list-init : goal.loop-list-init
+loop-list-init c = grind (arith, common_steps)
+
+pub turn_up-requires : goal.turn_up-requires
+turn_up-requires c = grind (arith, common_steps)
+
+pub returns-clause-bits : goal.returns-clause-bits
+returns-clause-bits c = grind (arith, common_steps)
+
+pub returns-clause-steps : goal.returns-clause-steps
+returns-clause-steps c = grind (arith, common_steps)

@@ -1,5 +1,6 @@
 -- The marks are read one after the other, up to the first one behind the time.
 use Rattle.std.proofs.Common.{◌+◌, length, drop, option_map, refl, sym, subst, ◌∙◌, arith}
+use Rattle.std.proofs.lemmas.Grind.{common_steps}
 use Rattle.std.proofs.lemmas.Option.{slice_get_read}
 use Rattle.ec_rows.specs.PlainMarks.{plain_mark, plain_marks}
 use Rattle.ec_intervals.proofs.Written.{marks-next, marks-none}
@@ -57,3 +58,6 @@ returns-clause-last g c =
     let rank = g.T.Moment.rank in
     first_behind-all rank c.args.strong (option_map rank c.args.until) (plain_marks rank c.args.marks.now) c.args.self.now c.loop-mark.self (drop c.loop-mark.mark-index (plain_marks rank c.args.marks.now))
     (marks-none rank c.args.marks.now c.loop-mark.mark-index (omega arith)) c.loop-mark.invariant.read
+
+pub read-requires-clause-room : goal.read-requires-clause-room
+read-requires-clause-room c = grind (arith, common_steps)

@@ -1,5 +1,6 @@
 -- The row that is cleared is that of the table.
 use Rattle.std.proofs.Common.{is_some, sym, ap, ◌∙◌, arith}
+use Rattle.std.proofs.lemmas.Grind.{common_steps}
 use Rattle.ec_intervals.specs.Table.{front_in, spans_in, room_in, front_at, spans_at, room_at, has_row, row_at}
 use Rattle.ec_intervals.proofs.KeptRows.{written-row, written-others, written-old, row_at-absent, AreFew-emptied}
 use Rattle.std.specs.Prelude.{None, Some}
@@ -59,3 +60,6 @@ returns-clause-row g c = ap is_some (written-row g.I.SpanRow.spans g.I.SpanRow.s
 
 pub returns-clause-others : goal.returns-clause-others
 returns-clause-others g c = written-others g.I.SpanRow.spans g.I.SpanRow.spare c.self.inside.rows c.args.self.now (ap (λ t. t.rows) c.self.view_is) c.args.p.0 c.in-Some.kept.now c.clear_row.new.kept c.in-Some.ensures.kept
+
+pub returns-clause-buffer : goal.returns-clause-buffer
+returns-clause-buffer c = grind (arith, common_steps)

@@ -1,5 +1,6 @@
 -- The row that grows is that of the table.
 use Rattle.std.proofs.Common.{◌≤◌, IsTrue, is_some, OnOk, refl, sym, ap, subst, ◌∙◌, arith}
+use Rattle.std.proofs.lemmas.Grind.{common_steps}
 use Rattle.ec_numbered.specs.ByNumber.{kept_at}
 use Rattle.ec_intervals.specs.Reach.{IsReachOf}
 use Rattle.ec_intervals.specs.RowViews.{rows_seen}
@@ -51,3 +52,9 @@ returns-clause-grown g c = IsGrown-table g.I.SpanRow.spans g.I.SpanRow.spare c.s
 
 pub returns-clause-others : goal.returns-clause-others
 returns-clause-others g c = λ n other. row_at-same g.I.SpanRow.spans g.I.SpanRow.spare c.self.inside.rows c.prepare_row.new.rows c.args.self.now (ap (λ t. t.rows) c.self.view_is) n (c.prepare_row.ensures.others n other)
+
+pub returns-clause-kept : goal.returns-clause-kept
+returns-clause-kept c = grind (arith, common_steps)
+
+pub returns-clause-err : goal.returns-clause-err
+returns-clause-err c = grind (arith, common_steps)

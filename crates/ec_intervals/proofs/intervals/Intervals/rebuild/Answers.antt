@@ -1,5 +1,6 @@
 -- The row that is written is that of the table, and what is written is few.
 use Rattle.std.proofs.Common.{◌+◌, ◌≤◌, subst, is_some, length, sym, ap, ◌∙◌, arith}
+use Rattle.std.proofs.lemmas.Grind.{common_steps}
 use Rattle.std.proofs.lemmas.Bool.{false≢true}
 use Rattle.ec_axioms.specs.Marks.{spans_of}
 use Rattle.ec_rows.specs.PlainMarks.{plain_marks}
@@ -51,3 +52,6 @@ returns-clause-row g c = ap is_some (written-row g.I.SpanRow.spans g.I.SpanRow.s
 
 pub returns-clause-others : goal.returns-clause-others
 returns-clause-others g c = written-others g.I.SpanRow.spans g.I.SpanRow.spare c.self.inside.rows c.args.self.now (ap (λ t. t.rows) c.self.view_is) c.args.p.0 c.in-Some.kept.now c.rebuild_row.new.kept c.in-Some.ensures.kept
+
+pub returns-clause-buffer : goal.returns-clause-buffer
+returns-clause-buffer c = grind (arith, common_steps)

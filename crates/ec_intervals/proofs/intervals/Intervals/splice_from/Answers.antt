@@ -1,5 +1,6 @@
 -- The row that is written is that of the table, and what is written is few.
 use Rattle.std.proofs.Common.{◌+◌, ◌≤◌, subst, is_some, length, sym, ap, ◌∙◌, arith}
+use Rattle.std.proofs.lemmas.Grind.{common_steps}
 use Rattle.std.proofs.lemmas.Bool.{false≢true}
 use Rattle.ec_axioms.specs.Marks.{spans_of}
 use Rattle.ec_rows.specs.PlainMarks.{plain_marks}
@@ -65,3 +66,6 @@ returns-clause-differs g c =
       λ differ same. c.splice_row-differs.ensures.differs.0 differ (sym old ∙ same ∙ new),
       λ differ. c.splice_row-differs.ensures.differs.1 (λ same. differ (old ∙ same ∙ sym new)),
     )
+
+pub returns-clause-buffer : goal.returns-clause-buffer
+returns-clause-buffer c = grind (arith, common_steps)

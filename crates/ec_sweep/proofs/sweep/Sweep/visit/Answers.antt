@@ -1,5 +1,6 @@
 -- A visit: nothing that is due is due before it; the sweep has come up to just before it, and the look and the settling take it up to it.
 use Rattle.std.proofs.Common.{refl, ap, ◌∙◌, arith}
+use Rattle.std.proofs.lemmas.Grind.{common_steps}
 use Rattle.ec_numbered.specs.PropSet.{has_number}
 use Rattle.ec_parts.specs.StandFor.{view_of}
 use Rattle.ec_sweep.proofs.MostSteps.{sweep-few}
@@ -60,3 +61,6 @@ returns-clause-most g c =
     look-takes g.T.Moment.rank c.args.parts.now.checked new (view_of c.args.parts.now) tally c.args.change.now c.args.self.now (g.T.Moment.rank c.args.at)
     c.len.ensures.order c.len-2.ensures.slots underway (c.requires.sweeping new tally underway) c.requires.first c.requires.there
     c.deref.result.now (λ n. ap (has_number n) c.deref.ensures.value ∙ c.in_ok-due.ensures.due n) c.args.steps.now c.look.new.steps c.look.ensures.most
+
+pub returns-clause-last : goal.returns-clause-last
+returns-clause-last c = grind (arith, common_steps)

@@ -1,5 +1,6 @@
 -- The word is put in its own place.
-use Rattle.std.proofs.Common.{◌≡◌, cond, Some, subst}
+use Rattle.std.proofs.Common.{◌≡◌, cond, Some, subst, arith}
+use Rattle.std.proofs.lemmas.Grind.{common_steps}
 use Rattle.std.specs.Prelude.{◌==◌}
 use Rattle.ec_sweep.specs.Words.{word_at}
 use Rattle.ec_sweep.proofs.WordRows.{word_at-other}
@@ -10,3 +11,9 @@ returns-in_ok-insert-clause-others c = λ n apart.
     word_at-other c.args.slot.0 n c.with_bit.result c.args.self.now c.insert.new.self
     (subst (λ rows. word_at n c.insert.new.self ≡ cond (c.args.slot.0 == n) (Some c.with_bit.result) (word_at n rows)) c.self.view_is (c.in_ok-insert.ensures.ok n))
     apart
+
+pub returns-else-has_bit-is_active-clause-here : goal.returns-else-has_bit-is_active-clause-here
+returns-else-has_bit-is_active-clause-here c = grind (arith, common_steps)
+
+pub returns-in_ok-insert-clause-here : goal.returns-in_ok-insert-clause-here
+returns-in_ok-insert-clause-here c = grind (arith, common_steps)

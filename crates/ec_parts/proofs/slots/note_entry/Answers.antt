@@ -1,0 +1,13 @@
+-- What follows from the calls and the tests before it.
+use Rattle.std.proofs.Common.{arith}
+use Rattle.std.proofs.lemmas.Grind.{common_steps}
+use Rattle.ec_parts.proofs.slots.note_entry.Goals as goal
+
+pub returns-clause-ok : goal.returns-clause-ok
+returns-clause-ok c = grind (arith, common_steps)
+
+pub loop-literal-init : goal.loop-literal-init
+loop-literal-init c = grind (arith, common_steps)
+
+pub loop-literal-preserved : goal.loop-literal-preserved
+loop-literal-preserved c = grind (arith, common_steps)
