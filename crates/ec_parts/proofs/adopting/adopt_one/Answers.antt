@@ -37,12 +37,6 @@ returns-in-Err-clause-stayed g c = record {
       (cases_Bool (n == c.args.p.0));
 }
 
-pub returns-in_err-add-clause-stayed : goal.returns-in_err-add-clause-stayed
-returns-in_err-add-clause-stayed c = grind (arith, common_steps)
-
-pub push_reserved-requires : goal.push_reserved-requires
-push_reserved-requires c = grind (arith, common_steps)
-
 pub returns-in_err-reserve-clause-stayed : goal.returns-in_err-reserve-clause-stayed
 returns-in_err-reserve-clause-stayed c = grind (arith, common_steps)
 
@@ -58,17 +52,11 @@ returns-in-Err-clause-rest c = grind (arith, common_steps)
 pub gather-requires-clause-counted : goal.gather-requires-clause-counted
 gather-requires-clause-counted c = grind (arith, common_steps)
 
-pub returns-in-Err-clause-err : goal.returns-in-Err-clause-err
-returns-in-Err-clause-err c = grind (arith, common_steps)
-
 pub returns-in_err-add-clause-rest : goal.returns-in_err-add-clause-rest
 returns-in_err-add-clause-rest c = grind (arith, common_steps)
 
 pub add-requires-clause-kept : goal.add-requires-clause-kept
 add-requires-clause-kept c = grind (arith, common_steps)
-
-pub returns-in_err-add-clause-joined : goal.returns-in_err-add-clause-joined
-returns-in_err-add-clause-joined c = grind (arith, common_steps)
 
 pub returns-clause-fresh : goal.returns-clause-fresh
 returns-clause-fresh c = grind (arith, common_steps)
@@ -82,17 +70,11 @@ gather-requires-clause-none c = grind (arith, common_steps)
 pub returns-clause-joined : goal.returns-clause-joined
 returns-clause-joined c = grind (arith, common_steps)
 
-pub returns-in_err-add-clause-fresh : goal.returns-in_err-add-clause-fresh
-returns-in_err-add-clause-fresh c = grind (arith, common_steps)
-
 pub add-requires-clause-matchable : goal.add-requires-clause-matchable
 add-requires-clause-matchable c = grind (arith, common_steps)
 
 pub of-list-requires : goal.of-list-requires
 of-list-requires c = grind (arith, common_steps)
-
-pub returns-in_err-add-clause-err : goal.returns-in_err-add-clause-err
-returns-in_err-add-clause-err c = grind (arith, common_steps)
 
 pub add-requires-clause-neighbours : goal.add-requires-clause-neighbours
 add-requires-clause-neighbours c = grind (arith, common_steps)

@@ -83,15 +83,6 @@ returns-clause-more c = grind (arith, common_steps)
 pub returns-clause-theory : goal.returns-clause-theory
 returns-clause-theory c = grind (arith, common_steps)
 
-pub returns-clause-before : goal.returns-clause-before
-returns-clause-before c = grind (arith, common_steps)
-
-pub returns-in_err-adopt-clause-entries : goal.returns-in_err-adopt-clause-entries
-returns-in_err-adopt-clause-entries c = grind (arith, common_steps)
-
-pub returns-in_err-adopt-clause-kept : goal.returns-in_err-adopt-clause-kept
-returns-in_err-adopt-clause-kept c = grind (arith, common_steps)
-
 pub returns-in_err-adopt-clause-events : goal.returns-in_err-adopt-clause-events
 returns-in_err-adopt-clause-events c = grind (arith, common_steps)
 
@@ -106,9 +97,6 @@ adopt-requires-clause-unmentioned c = grind (arith, common_steps)
 
 pub returns-in_err-list-clause-fresh : goal.returns-in_err-list-clause-fresh
 returns-in_err-list-clause-fresh c = grind (arith, common_steps)
-
-pub returns-clause-entries : goal.returns-clause-entries
-returns-clause-entries c = grind (arith, common_steps)
 
 pub returns-in_err-adopt-clause-more : goal.returns-in_err-adopt-clause-more
 returns-in_err-adopt-clause-more c = grind (arith, common_steps)

@@ -70,11 +70,5 @@ returns-in-len1-up-clause-initials c = grind (arith, common_steps)
 pub returns-clause-others : goal.returns-clause-others
 returns-clause-others c = grind (arith, common_steps)
 
-pub push_clashes-requires-clause-order : goal.push_clashes-requires-clause-order
-push_clashes-requires-clause-order c = grind (arith, common_steps)
-
-pub returns-in-len1-up-clause-others : goal.returns-in-len1-up-clause-others
-returns-in-len1-up-clause-others c = grind (arith, common_steps)
-
 pub slice_bounds-rest-count : goal.slice_bounds-rest-count
 slice_bounds-rest-count c = grind (arith, common_steps)

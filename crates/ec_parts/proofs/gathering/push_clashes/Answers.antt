@@ -83,14 +83,5 @@ returns-clause-gathered g c =
     (AreGathered-open g.T.Moment.rank (c.args.first ∷ take c.loop-mark.mark-index c.args.rest.now) (marks_at c.args.p.0 c.loop-mark.points) (marks_at c.args.p.0 c.push-2.new.self) c.loop-mark.open pushed
     c.loop-mark.invariant.so_far)) c.push-2.ensures.ok
 
-pub push-requires-2-clause-counted : goal.push-requires-2-clause-counted
-push-requires-2-clause-counted c = grind (arith, common_steps)
-
 pub returns-in_err-push-clause-initials : goal.returns-in_err-push-clause-initials
 returns-in_err-push-clause-initials c = grind (arith, common_steps)
-
-pub returns-in_err-push-clause-others : goal.returns-in_err-push-clause-others
-returns-in_err-push-clause-others c = grind (arith, common_steps)
-
-pub returns-clause-others : goal.returns-clause-others
-returns-clause-others c = grind (arith, common_steps)

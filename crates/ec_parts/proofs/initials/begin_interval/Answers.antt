@@ -6,14 +6,8 @@ use Rattle.ec_parts.proofs.initials.begin_interval.Goals as goal
 pub returns-in-Some-clause-first : goal.returns-in-Some-clause-first
 returns-in-Some-clause-first g c = search rules
 
-pub rebuild-requires-clause-row : goal.rebuild-requires-clause-row
-rebuild-requires-clause-row c = grind (arith, common_steps)
-
 pub returns-in_err-prepare-clause-first : goal.returns-in_err-prepare-clause-first
 returns-in_err-prepare-clause-first c = grind (arith, common_steps)
-
-pub rebuild-requires-clause-room : goal.rebuild-requires-clause-room
-rebuild-requires-clause-room c = grind (arith, common_steps)
 
 pub returns-in_default-clause-others : goal.returns-in_default-clause-others
 returns-in_default-clause-others c = grind (arith, common_steps)

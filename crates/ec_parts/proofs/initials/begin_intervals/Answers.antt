@@ -3,9 +3,6 @@ use Rattle.std.proofs.Common.{arith}
 use Rattle.std.proofs.lemmas.Grind.{common_steps}
 use Rattle.ec_parts.proofs.initials.begin_intervals.Goals as goal
 
-pub loop-p-preserved : goal.loop-p-preserved
-loop-p-preserved c = grind (arith, common_steps)
-
 pub begin_interval-requires-clause-row : goal.begin_interval-requires-clause-row
 begin_interval-requires-clause-row c = grind (arith, common_steps)
 

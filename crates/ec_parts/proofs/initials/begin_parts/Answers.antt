@@ -44,32 +44,5 @@ returns-clause-intervals g c =
 pub returns-clause-initiations : goal.returns-clause-initiations
 returns-clause-initiations c = grind (arith, common_steps)
 
-pub returns-in_err-new-clause-initials : goal.returns-in_err-new-clause-initials
-returns-in_err-new-clause-initials c = grind (arith, common_steps)
-
-pub returns-in_err-new-clause-intervals : goal.returns-in_err-new-clause-intervals
-returns-in_err-new-clause-intervals c = grind (arith, common_steps)
-
-pub returns-in_err-new-clause-added : goal.returns-in_err-new-clause-added
-returns-in_err-new-clause-added c = grind (arith, common_steps)
-
 pub returns-clause-marks : goal.returns-clause-marks
 returns-clause-marks c = grind (arith, common_steps)
-
-pub returns-in_err-new-clause-marks : goal.returns-in_err-new-clause-marks
-returns-in_err-new-clause-marks c = grind (arith, common_steps)
-
-pub returns-in_err-new-clause-initiations : goal.returns-in_err-new-clause-initiations
-returns-in_err-new-clause-initiations c = grind (arith, common_steps)
-
-pub returns-in_err-new-clause-events : goal.returns-in_err-new-clause-events
-returns-in_err-new-clause-events c = grind (arith, common_steps)
-
-pub returns-in_err-new-clause-neighbours : goal.returns-in_err-new-clause-neighbours
-returns-in_err-new-clause-neighbours c = grind (arith, common_steps)
-
-pub returns-in_err-new-clause-numbers : goal.returns-in_err-new-clause-numbers
-returns-in_err-new-clause-numbers c = grind (arith, common_steps)
-
-pub returns-in_err-new-clause-once : goal.returns-in_err-new-clause-once
-returns-in_err-new-clause-once c = grind (arith, common_steps)

@@ -1,6 +1,5 @@
 -- What is in the boxes are the rows that were made.
-use Rattle.std.proofs.Common.{◌≡◌, ap, sym, subst, ◌∙◌, arith}
-use Rattle.std.proofs.lemmas.Grind.{common_steps}
+use Rattle.std.proofs.Common.{◌≡◌, ap, sym, subst, ◌∙◌}
 use Rattle.ec_numbered.specs.PropSet.{has_number}
 use Rattle.ec_points.specs.Table.{has_row, marks_at, row_at}
 use Rattle.ec_parts.specs.Initials.{HaveFirstIntervals}
@@ -29,33 +28,3 @@ pub returns-clause-intervals : goal.returns-clause-intervals
 returns-clause-intervals g c =
     subst (HaveFirstIntervals g.T.Moment.rank c.args.neighbours.now c.args.numbers.now.items) (sym c.in_ok-boxed.ensures)
     (subst (λ ns. HaveFirstIntervals g.T.Moment.rank c.args.neighbours.now ns c.begin_intervals.new.intervals) c.as_slice-2.ensures.items c.in_ok-begin_intervals.ensures)
-
-pub begin_intervals-requires-clause-added : goal.begin_intervals-requires-clause-added
-begin_intervals-requires-clause-added c = grind (arith, common_steps)
-
-pub returns-in_err-begin_intervals-clause-marks : goal.returns-in_err-begin_intervals-clause-marks
-returns-in_err-begin_intervals-clause-marks c = grind (arith, common_steps)
-
-pub returns-in_err-begin_intervals-clause-intervals : goal.returns-in_err-begin_intervals-clause-intervals
-returns-in_err-begin_intervals-clause-intervals c = grind (arith, common_steps)
-
-pub returns-in_err-boxed-clause-intervals : goal.returns-in_err-boxed-clause-intervals
-returns-in_err-boxed-clause-intervals c = grind (arith, common_steps)
-
-pub returns-in_err-boxed-clause-marks : goal.returns-in_err-boxed-clause-marks
-returns-in_err-boxed-clause-marks c = grind (arith, common_steps)
-
-pub returns-in_err-begin_intervals-clause-initiations : goal.returns-in_err-begin_intervals-clause-initiations
-returns-in_err-begin_intervals-clause-initiations c = grind (arith, common_steps)
-
-pub returns-in_err-begin_intervals-clause-initials : goal.returns-in_err-begin_intervals-clause-initials
-returns-in_err-begin_intervals-clause-initials c = grind (arith, common_steps)
-
-pub returns-in_err-boxed-clause-initials : goal.returns-in_err-boxed-clause-initials
-returns-in_err-boxed-clause-initials c = grind (arith, common_steps)
-
-pub returns-in_err-boxed-clause-initiations : goal.returns-in_err-boxed-clause-initiations
-returns-in_err-boxed-clause-initiations c = grind (arith, common_steps)
-
-pub begin_intervals-requires-clause-none : goal.begin_intervals-requires-clause-none
-begin_intervals-requires-clause-none c = grind (arith, common_steps)

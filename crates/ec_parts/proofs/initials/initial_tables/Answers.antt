@@ -17,8 +17,5 @@ same-props c = grind (arith, common_steps)
 pub returns-clause-added : goal.returns-clause-added
 returns-clause-added c = grind (arith, common_steps)
 
-pub returns-clause-neighbours : goal.returns-clause-neighbours
-returns-clause-neighbours c = grind (arith, common_steps)
-
 pub same-numbers : goal.same-numbers
 same-numbers c = grind (arith, common_steps)

@@ -41,14 +41,5 @@ returns-clause-stand g c =
 pub returns-clause-theory : goal.returns-clause-theory
 returns-clause-theory g c = ap (λ (parts : Parts _ _ _ _). parts.checked) c.assembled-parts.ensures
 
-pub returns-in_err-made-clause-stand : goal.returns-in_err-made-clause-stand
-returns-in_err-made-clause-stand c = grind (arith, common_steps)
-
 pub begin_parts-requires-clause-matchable : goal.begin_parts-requires-clause-matchable
 begin_parts-requires-clause-matchable c = grind (arith, common_steps)
-
-pub returns-in_err-made-clause-tally : goal.returns-in_err-made-clause-tally
-returns-in_err-made-clause-tally c = grind (arith, common_steps)
-
-pub returns-in_err-made-clause-theory : goal.returns-in_err-made-clause-theory
-returns-in_err-made-clause-theory c = grind (arith, common_steps)

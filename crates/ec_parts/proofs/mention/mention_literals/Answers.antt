@@ -24,6 +24,3 @@ returns g c =
 
 pub mention-requires-clause-few : goal.mention-requires-clause-few
 mention-requires-clause-few c = grind (arith, common_steps)
-
-pub mention-requires-clause-kept : goal.mention-requires-clause-kept
-mention-requires-clause-kept c = grind (arith, common_steps)

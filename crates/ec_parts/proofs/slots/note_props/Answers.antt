@@ -8,6 +8,3 @@ returns-clause-ok c = grind (arith, common_steps)
 
 pub loop-entry-preserved : goal.loop-entry-preserved
 loop-entry-preserved c = grind (arith, common_steps)
-
-pub returns-in_err-note_entry-clause-more : goal.returns-in_err-note_entry-clause-more
-returns-in_err-note_entry-clause-more c = grind (arith, common_steps)

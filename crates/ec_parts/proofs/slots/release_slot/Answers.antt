@@ -37,23 +37,11 @@ returns-clause-both g c =
     (AreTables-without_event soon event c.list-list.result.now (lists_initials c.args.parts.now.checked c.theory.ensures.well_formed c.theory.ensures.matchable) shown step history there stand.tables)
     stand)
 
-pub returns-in_err-note_props-clause-noted : goal.returns-in_err-note_props-clause-noted
-returns-in_err-note_props-clause-noted c = grind (arith, common_steps)
-
 pub returns-clause-steps : goal.returns-clause-steps
 returns-clause-steps c = grind (arith, common_steps)
 
 pub returns-clause-terms : goal.returns-clause-terms
 returns-clause-terms c = grind (arith, common_steps)
-
-pub returns-in_err-note_props-clause-both : goal.returns-in_err-note_props-clause-both
-returns-in_err-note_props-clause-both c = grind (arith, common_steps)
-
-pub returns-in_err-note_props-clause-terms : goal.returns-in_err-note_props-clause-terms
-returns-in_err-note_props-clause-terms c = grind (arith, common_steps)
-
-pub returns-in_err-note_props-clause-err : goal.returns-in_err-note_props-clause-err
-returns-in_err-note_props-clause-err c = grind (arith, common_steps)
 
 pub returns-clause-more : goal.returns-clause-more
 returns-clause-more c = grind (arith, common_steps)

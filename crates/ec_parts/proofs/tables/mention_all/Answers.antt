@@ -31,8 +31,5 @@ returns-clause-both g c now soon event shown stand =
 pub mention_entries-requires-clause-few : goal.mention_entries-requires-clause-few
 mention_entries-requires-clause-few c = grind (arith, common_steps)
 
-pub mention_entries-requires-clause-kept : goal.mention_entries-requires-clause-kept
-mention_entries-requires-clause-kept c = grind (arith, common_steps)
-
 pub returns-clause-mentioned : goal.returns-clause-mentioned
 returns-clause-mentioned c = grind (arith, common_steps)

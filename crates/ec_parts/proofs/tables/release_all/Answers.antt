@@ -33,6 +33,3 @@ returns-clause-both g c now soon event shown history there stand =
 
 pub returns-clause-released : goal.returns-clause-released
 returns-clause-released c = grind (arith, common_steps)
-
-pub release_entries-requires-clause-kept : goal.release_entries-requires-clause-kept
-release_entries-requires-clause-kept c = grind (arith, common_steps)
