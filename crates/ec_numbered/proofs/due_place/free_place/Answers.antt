@@ -1,5 +1,6 @@
 -- The property stands at the cut, or it would go in there.
-use Rattle.std.proofs.Common.{◌≡◌, not, false, length, refl, sym, ap, ◌∙◌}
+use Rattle.std.proofs.Common.{◌≡◌, not, false, length, refl, sym, ap, ◌∙◌, arith}
+use Rattle.std.proofs.lemmas.Grind.{common_steps}
 use Rattle.std.proofs.lemmas.Option.{slice_get_read}
 use Rattle.ec_numbered.specs.Due.{has_due}
 use Rattle.ec_numbered.proofs.DueLemmas.{insert-with_due, has_due-end, has_due-other}
@@ -31,3 +32,6 @@ returns-else-is_same-clause-some g c = sym (ap not (absent-other g c))
 pub returns-else-is_same-clause-inserted : goal.returns-else-is_same-clause-inserted
 returns-else-is_same-clause-inserted g c =
     insert-with_due g.T.Moment.rank (c.args.at, c.args.p) c.args.dues.now.items c.count_before-place.result c.requires c.count_before-place.ensures.cut (absent-other g c)
+
+pub returns-then-is_same-clause-some : goal.returns-then-is_same-clause-some
+returns-then-is_same-clause-some c = grind (arith, common_steps)

@@ -9,3 +9,6 @@ returns-clause-none g c = lookup-nowhere (g.K.PartialEq.eq c.args.key) c.args.ro
 
 pub returns-then-eq-clause-some : goal.returns-then-eq-clause-some
 returns-then-eq-clause-some g c = grind (arith, common_steps)
+
+pub loop-i-preserved : goal.loop-i-preserved
+loop-i-preserved c = grind (arith, common_steps)

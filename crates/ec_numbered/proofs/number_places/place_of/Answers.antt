@@ -1,5 +1,6 @@
 -- What stands at the place of the number tells whether it has a row.
 use Rattle.std.proofs.Common.{rules, ◌≡◌, None, IfNone, sym, refl, ap, subst, ◌∙◌, arith, nat_eq}
+use Rattle.std.proofs.lemmas.Grind.{common_steps}
 use Rattle.std.specs.Map.{lookup}
 use Rattle.std.proofs.lemmas.Option.{slice_get_past, slice_get_read}
 use Rattle.ec_numbered.proofs.NumberPlaceLemmas.{IsFirst-at, lookup-behind, lookup-no_place, lookup-other}
@@ -30,3 +31,6 @@ returns-else-row-n-clause-none g c =
 
 pub returns-else-row-n-clause-some : goal.returns-else-row-n-clause-some
 returns-else-row-n-clause-some g c = search rules
+
+pub returns-in_err-row-clause-some : goal.returns-in_err-row-clause-some
+returns-in_err-row-clause-some c = grind (arith, common_steps)

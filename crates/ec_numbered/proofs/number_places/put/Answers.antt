@@ -1,5 +1,6 @@
 -- The row of the number is set, or a new one is added.
-use Rattle.std.proofs.Common.{subst}
+use Rattle.std.proofs.Common.{subst, arith}
+use Rattle.std.proofs.lemmas.Grind.{common_steps}
 use Rattle.std.specs.Prelude.{nat_eq}
 use Rattle.std.proofs.lemmas.Cmp.{nat_eq_equiv}
 use Rattle.ec_numbered.specs.KeyedRows.{IsFirst}
@@ -16,3 +17,9 @@ pub returns-in-Some-clause-ok : goal.returns-in-Some-clause-ok
 returns-in-Some-clause-ok g c = λ k.
     lookup-set nat_eq nat_eq_equiv c.args.n c.args.value c.args.rows.now.items c.in-Some.place
     (subst (λ rows. IsFirst (nat_eq c.args.n) rows c.in-Some.place) c.deref.ensures.value c.in-Some.ensures.some) k
+
+pub place_of-requires : goal.place_of-requires
+place_of-requires c = grind (arith, common_steps)
+
+pub add_row-requires-clause-new : goal.add_row-requires-clause-new
+add_row-requires-clause-new c = grind (arith, common_steps)

@@ -1,5 +1,6 @@
 -- The name and the number of arguments decide, or leave it to the arguments.
-use Rattle.std.proofs.Common.{◌≡◌, length, map, sym, ap, ap₂, ◌∙◌}
+use Rattle.std.proofs.Common.{◌≡◌, length, map, sym, ap, ap₂, ◌∙◌, arith}
+use Rattle.std.proofs.lemmas.Grind.{common_steps}
 use Rattle.std.specs.Ordering.{ordering_then}
 use Rattle.std.specs.Cmp.Lexicographic.{slice_cmp}
 use Rattle.ec_terms.specs.Term.{arg_of, arg_cmp}
@@ -28,3 +29,6 @@ returns c =
     ∙ then-left_open c.compare_arity-first.result (slice_cmp arg_cmp c.args.term.now.args (map arg_of c.args.other.now.args)) (sym c.is_ne.ensures ∙ c.if-is_ne.false)
     ∙ ap (λ o. ordering_then o (slice_cmp arg_cmp c.args.term.now.args (map arg_of c.args.other.now.args))) (first at)
     ∙ sym (term_cmp-steps c.args.term.now c.args.other.now)
+
+pub compare_args-requires : goal.compare_args-requires
+compare_args-requires c = grind (arith, common_steps)

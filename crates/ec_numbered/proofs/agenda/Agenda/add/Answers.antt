@@ -1,5 +1,6 @@
 -- A property that is due stands in its place; where memory runs out, all stand as before.
-use Rattle.std.proofs.Common.{Result, Ok, Err, ap, ◌∙◌}
+use Rattle.std.proofs.Common.{Result, Ok, Err, ap, ◌∙◌, arith}
+use Rattle.std.proofs.lemmas.Grind.{common_steps}
 use Rattle.std.specs.Prelude.{OnOk, OnErr}
 use Rattle.ec_numbered.specs.Due.{are_in_order}
 use Rattle.ec_numbered.proofs.DueLemmas.{are_in_order-with_due}
@@ -21,3 +22,12 @@ pub returns-in_ok-insert-clause-order : goal.returns-in_ok-insert-clause-order
 returns-in_ok-insert-clause-order g c =
     ap (are_in_order g.T.Moment.rank) (c.in_ok-insert.ensures.items ∙ c.in-Some.ensures.inserted)
     ∙ are_in_order-with_due g.T.Moment.rank (c.args.at, c.args.p) c.self.inside.dues.items c.self.invariant
+
+pub returns-in_default-clause-ok : goal.returns-in_default-clause-ok
+returns-in_default-clause-ok c = grind (arith, common_steps)
+
+pub returns-in_ok-insert-clause-there : goal.returns-in_ok-insert-clause-there
+returns-in_ok-insert-clause-there c = grind (arith, common_steps)
+
+pub returns-in_ok-insert-clause-ok : goal.returns-in_ok-insert-clause-ok
+returns-in_ok-insert-clause-ok c = grind (arith, common_steps)

@@ -5,3 +5,6 @@ use Rattle.ec_numbered.proofs.agenda.Agenda.first_time.Goals as goal
 
 pub returns-in-Some-clause-some : goal.returns-in-Some-clause-some
 returns-in-Some-clause-some g c = grind (arith, common_steps)
+
+pub returns-in-None-clause-none : goal.returns-in-None-clause-none
+returns-in-None-clause-none c = grind (arith, common_steps)

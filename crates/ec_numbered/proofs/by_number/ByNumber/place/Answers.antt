@@ -1,5 +1,6 @@
 -- The places that are added are empty.
 use Rattle.std.proofs.Common.{rules, arith, ap, ◌∙◌}
+use Rattle.std.proofs.lemmas.Grind.{common_steps}
 use Rattle.ec_numbered.specs.ByNumber.{kept_at}
 use Rattle.ec_numbered.proofs.ByNumberLemmas.{kept_at-AppendsResults}
 use Rattle.ec_numbered.proofs.by_number.ByNumber.place.Goals as goal
@@ -12,3 +13,6 @@ returns-clause-same g c = λ n.
 
 pub returns-clause-place : goal.returns-clause-place
 returns-clause-place g c = omega (arith, c.in_ok-resize_with.ensures.len, c.in-Some.ensures)
+
+pub returns-clause-grown : goal.returns-clause-grown
+returns-clause-grown c = grind (arith, common_steps)

@@ -1,5 +1,6 @@
 -- An event more in the records, the identities and the times is an event more in the store.
-use Rattle.std.proofs.Common.{sym, ap, ◌∙◌}
+use Rattle.std.proofs.Common.{sym, ap, ◌∙◌, arith}
+use Rattle.std.proofs.lemmas.Grind.{common_steps}
 use Rattle.std.specs.List.{insert}
 use Rattle.slab.specs.Slab.{get as record_at}
 use Rattle.ec_axioms.specs.Changes.{with_event}
@@ -65,3 +66,18 @@ returns-clause-history g c =
     (c.put.ensures.times
     ∙ ap (λ id. with_entry g.T.Moment.rank (c.args.event.at, id, record { 0 = c.insert_reserved.result }) (g.X.TimeRow.times c.self.inside.times)) c.copied-id.ensures.same)
     ∙ ap (λ (s : Store _). with_event (event_of g.T.Moment.rank c.args.event) (history_of g.T.Moment.rank s.events)) c.self.view_is
+
+pub insert-requires-clause-room : goal.insert-requires-clause-room
+insert-requires-clause-room c = grind (arith, common_steps)
+
+pub put-requires-clause-room : goal.put-requires-clause-room
+put-requires-clause-room c = grind (arith, common_steps)
+
+pub insert_reserved-requires : goal.insert_reserved-requires
+insert_reserved-requires c = grind (arith, common_steps)
+
+pub returns-clause-places : goal.returns-clause-places
+returns-clause-places c = grind (arith, common_steps)
+
+pub returns-clause-spare : goal.returns-clause-spare
+returns-clause-spare c = grind (arith, common_steps)

@@ -1,5 +1,6 @@
 -- An event less in the records, the identities and the times is an event less in the store.
-use Rattle.std.proofs.Common.{rules, ◌≡◌, Some, IsSome, subst, sym, ap, ◌∙◌}
+use Rattle.std.proofs.Common.{rules, ◌≡◌, Some, IsSome, subst, sym, ap, ◌∙◌, arith}
+use Rattle.std.proofs.lemmas.Grind.{common_steps}
 use Rattle.std.specs.Option.{option_copied}
 use Rattle.ec_axioms.specs.declared.event.Event.{Event}
 use Rattle.slab.specs.Slab.{get as record_at}
@@ -75,3 +76,9 @@ returns-clause-history g c =
 
 pub returns-clause-steps : goal.returns-clause-steps
 returns-clause-steps g c = search rules
+
+pub returns-clause-places : goal.returns-clause-places
+returns-clause-places c = grind (arith, common_steps)
+
+pub returns-clause-spare : goal.returns-clause-spare
+returns-clause-spare c = grind (arith, common_steps)

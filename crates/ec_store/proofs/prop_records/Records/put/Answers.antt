@@ -1,5 +1,6 @@
 -- A property and its number are put in their places.
-use Rattle.std.proofs.Common.{◌≡◌, None, sym, ap, ◌∙◌, subst, true, false, cond, Some}
+use Rattle.std.proofs.Common.{◌≡◌, None, sym, ap, ◌∙◌, subst, true, false, cond, Some, arith}
+use Rattle.std.proofs.lemmas.Grind.{common_steps}
 use Rattle.std.specs.List.{insert}
 use Rattle.std.specs.List.Sorted.{IsPartitionPoint}
 use Rattle.std.specs.Ordering.{is_lt}
@@ -95,3 +96,12 @@ returns-clause-numbers c =
     (record { 0 = c.insert_reserved.result }) c.args.term c.place_of-place.result
     c.insert_reserved.ensures.was_vacant c.insert_reserved.ensures.updates.changed c.insert_reserved.ensures.updates.others c.insert.ensures.items
     (placed (goal.at.returns-clause-numbers c).After-insert))
+
+pub insert-requires-clause-within : goal.insert-requires-clause-within
+insert-requires-clause-within c = grind (arith, common_steps)
+
+pub insert_reserved-requires : goal.insert_reserved-requires
+insert_reserved-requires c = grind (arith, common_steps)
+
+pub insert-requires-clause-room : goal.insert-requires-clause-room
+insert-requires-clause-room c = grind (arith, common_steps)

@@ -1,5 +1,6 @@
 -- Each number of the order has a property.
-use Rattle.std.proofs.Common.{All, IsSome, take, drop, map, length, subst, sym, ap, ◌∙◌}
+use Rattle.std.proofs.Common.{All, IsSome, take, drop, map, length, subst, sym, ap, ◌∙◌, arith}
+use Rattle.std.proofs.lemmas.Grind.{common_steps}
 use Rattle.std.proofs.lemmas.List.Elements.{All-take, All-drop}
 use Rattle.slab.specs.Slab.{get as property_at}
 use Rattle.ec_terms.specs.declared.ids.PropId.{PropId}
@@ -19,3 +20,6 @@ returns-clause-kept c =
     (All-drop IsKept c.args.i c.self.inside.order.items
     (subst (λ ks. All (λ (p : PropId). IsSome (prop_at p.0 ks)) c.self.inside.order.items) (items_is c.self.view_is)
     (all-kept (property_at c.self.inside.properties) c.self.inside.order.items c.self.invariant))))
+
+pub run-requires : goal.run-requires
+run-requires c = grind (arith, common_steps)

@@ -1,5 +1,6 @@
 -- A term that is found is kept; one that is not found is new, and its key finds it from then on.
-use Rattle.std.proofs.Common.{◌≡◌, ◌≤◌, List, Some, None, IsTrue, sym, ap, ap₂, subst, ◌∙◌, is_some, length}
+use Rattle.std.proofs.Common.{◌≡◌, ◌≤◌, List, Some, None, IsTrue, sym, ap, ap₂, subst, ◌∙◌, is_some, length, arith}
+use Rattle.std.proofs.lemmas.Grind.{common_steps}
 use Rattle.std.specs.List.{insert}
 use Rattle.std.proofs.lemmas.Bool.{false≢true}
 use Rattle.ec_terms.specs.Term.{ground_of, names_are_names}
@@ -75,3 +76,12 @@ invariant_of-self-2 c =
     (ap₂ (λ t ks. prop_of t ks) is (c.reserve.ensures.same ∙ c.self.view_is) ∙ new (goal.at.invariant_of-self-2 c).In-Err)
     c.put-p.ensures.free c.put-p.ensures.props c.put-p.ensures.others c.put-p.ensures.term c.put-p.ensures.lookups
     (c.insert.ensures.items ∙ ap (λ n. insert c.reserve-2.new.self.items c.in-Err.place (record { key = n; slot = c.put-p.result.0 })) (c.key_of-key.ensures ∙ ap key_of (sym is)))
+
+pub insert-requires-clause-within : goal.insert-requires-clause-within
+insert-requires-clause-within c = grind (arith, common_steps)
+
+pub put-p-requires-clause-room : goal.put-p-requires-clause-room
+put-p-requires-clause-room c = grind (arith, common_steps)
+
+pub insert-requires-clause-room : goal.insert-requires-clause-room
+insert-requires-clause-room c = grind (arith, common_steps)
