@@ -1,5 +1,6 @@
 -- The head stays under its number while the literals are kept.
-use Rattle.std.proofs.Common.{Some, ap, ◌∙◌}
+use Rattle.std.proofs.Common.{Some, ap, ◌∙◌, arith}
+use Rattle.std.proofs.lemmas.Grind.{common_steps}
 use Rattle.ec_terms.specs.Binding.{values_of}
 use Rattle.ec_axioms.proofs.Givens.{fills-given}
 use Rattle.ec_context.proofs.Shown.{shown_entry-filled, term_at-kept}
@@ -24,3 +25,6 @@ pub returns-clause-added : goal.returns-clause-added
 returns-clause-added c =
     AddsOnly-then (λ id. c.in_ok-head.head.0 == id) (λ id. list_any (is_of id) c.in_ok-literals.literals) c.args.added.now.items c.keep.new.added.items c.literals_of.new.added.items
     c.in_ok-head.ensures.added c.in_ok-literals.ensures.added
+
+pub returns-clause-kept : goal.returns-clause-kept
+returns-clause-kept c = grind (arith, common_steps)

@@ -1,5 +1,6 @@
 -- Each literal is filled in, and the rule has room for no more than are left.
 use Rattle.std.proofs.Common.{rules, length, refl, ap, arith}
+use Rattle.std.proofs.lemmas.Grind.{common_steps}
 use Rattle.ec_terms.specs.Binding.{values_of}
 use Rattle.ec_terms.specs.Domain.{ground_literal_of}
 use Rattle.ec_terms.specs.Matchable.{IsGiven}
@@ -50,3 +51,6 @@ pub returns-in_err-push-clause-kept : goal.returns-in_err-push-clause-kept
 returns-in_err-push-clause-kept c =
     HasKept-then c.args.props.now c.loop-literal.props c.literal_of.new.props c.args.added.now.items c.loop-literal.added.items c.literal_of.new.added.items
     c.loop-literal.invariant.kept c.in_ok-literal_of.ensures.kept
+
+pub returns-clause-shown : goal.returns-clause-shown
+returns-clause-shown c = grind (arith, common_steps)

@@ -1,5 +1,6 @@
 -- At first nothing is found, and one rule more is for no events of which nothing is found.
-use Rattle.std.proofs.Common.{◌∷◌, is_some, sym, ap, ◌∙◌}
+use Rattle.std.proofs.Common.{◌∷◌, is_some, sym, ap, ◌∙◌, arith}
+use Rattle.std.proofs.lemmas.Grind.{common_steps}
 use Rattle.std.proofs.lemmas.Bool.{false≢true}
 use Rattle.ec_context.proofs.IndexLemmas.{found_at-empty}
 use Rattle.ec_context.proofs.PlaceLemmas.{places_for-none, places_for-not_met}
@@ -18,3 +19,6 @@ loop-rule-preserved c = record {
       (c.in_ok-add.ensures.here name arity none)
       ∙ c.loop-rule.invariant.none name arity (c.in_ok-add.ensures.kept name arity none);
 }
+
+pub returns : goal.returns
+returns c = grind (arith, common_steps)

@@ -1,5 +1,6 @@
 -- One rule more has its place, or none.
-use Rattle.std.proofs.Common.{ℕ, Vec, Global, [], ◌∷◌, ◌++◌, sym, ap, ◌∙◌}
+use Rattle.std.proofs.Common.{ℕ, Vec, Global, [], ◌∷◌, ◌++◌, sym, ap, ◌∙◌, arith}
+use Rattle.std.proofs.lemmas.Grind.{common_steps}
 use Rattle.ec_context.proofs.PlaceLemmas.{places_for-met, places_for-none, places_for-not_met}
 use Rattle.ec_context.proofs.rules.places_of.Goals as goal
 use Rattle.ec_context.proofs.rules.places_of.Goals.{then-is_for+in_ok-push, else-is_for}
@@ -20,3 +21,6 @@ loop-i-preserved c =
           ∙ sym (places_for-not_met c.args.name.now c.args.arity c.args.rules.now c.loop-i.i c.index-rules-i.result c.loop-i-test.true c.index-rules-i.is
           (sym c.is_for.ensures ∙ w.if-is_for.false))
     ]
+
+pub returns : goal.returns
+returns c = grind (arith, common_steps)

@@ -5,3 +5,6 @@ use Rattle.ec_exclusive.proofs.group.take_out_under.Goals as goal
 
 pub returns-in-Some-clause-taken : goal.returns-in-Some-clause-taken
 returns-in-Some-clause-taken c = grind (arith, common_steps)
+
+pub returns-in-Some-clause-keys : goal.returns-in-Some-clause-keys
+returns-in-Some-clause-keys c = grind (arith, common_steps)

@@ -1,5 +1,6 @@
 -- The group that is written to, or opened, has the property, and all others are what they were.
-use Rattle.std.proofs.Common.{◌≡◌, ◌≢◌, ℕ, [], None, Some, ◌||◌, cond, sym, ap, ap₂, ◌∙◌}
+use Rattle.std.proofs.Common.{◌≡◌, ◌≢◌, ℕ, [], None, Some, ◌||◌, cond, sym, ap, ap₂, ◌∙◌, arith}
+use Rattle.std.proofs.lemmas.Grind.{common_steps}
 use Rattle.std.specs.Prelude.{◌==◌, bytes_eq, option_map, Result, Ok, Err, OnOk}
 use Rattle.std.specs.List.{insert}
 use Rattle.slab.specs.Slab.{Slab}
@@ -51,3 +52,9 @@ returns-in_ok-group-in-Err-clause-ok c =
     in_group-opened (group_at c.groups.inside.records) c.groups.inside.slots.items c.groups.invariant (group_at c.insert_reserved-slot.new.self) c.insert_reserved-slot.result (others d)
     c.args.key.now c.insert.new.self.items c.in-Err.place c.in-Err.ensures.within c.in-Err.ensures.cut c.in-Err.ensures.absent (free d) c.args.p (there d) (inserted d) k n
     ∙ ap (λ gs. cond (bytes_eq c.args.key.now k) ((c.args.p.0 == n) || in_group gs k n) (in_group gs k n)) c.groups.view_is
+
+pub insert-requires-clause-within : goal.insert-requires-clause-within
+insert-requires-clause-within c = grind (arith, common_steps)
+
+pub insert-requires-clause-room : goal.insert-requires-clause-room
+insert-requires-clause-room c = grind (arith, common_steps)

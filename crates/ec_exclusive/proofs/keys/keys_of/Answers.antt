@@ -1,5 +1,6 @@
 -- The keys of one declaration more.
 use Rattle.std.proofs.Common.{◌≡◌, ◌<◌, ◌++◌, length, get_or, sym, ap, ◌∙◌, append_assoc, arith}
+use Rattle.std.proofs.lemmas.Grind.{common_steps}
 use Rattle.ec_terms.specs.Term.{ground_of}
 use Rattle.ec_exclusive.specs.Forms.{texts_of}
 use Rattle.ec_exclusive.specs.Keys.{key_if_fits}
@@ -19,3 +20,6 @@ loop-i-preserved c =
     c.in_ok-add_key-2.ensures ∙ ap (λ ks. ks ++ right) (c.in_ok-add_key.ensures ∙ ap (λ ks. ks ++ left) c.loop-i.invariant)
     ∙ append_assoc _ left right
     ∙ sym (keys_from-more c.args.left c.args.right (ground_of c.args.term.now) c.args.theory.now.exclusives c.loop-i.i c.declaration-item.result within here)
+
+pub returns : goal.returns
+returns c = grind (arith, common_steps)

@@ -1,5 +1,6 @@
 -- A place that is shared adds its value, and any other adds nothing.
 use Rattle.std.proofs.Common.{◌≡◌, ◌<◌, ◌∙◌, ap, sym, length, [], ◌∷◌, get_or, arith, length-append}
+use Rattle.std.proofs.lemmas.Grind.{common_steps}
 use Rattle.std.proofs.lemmas.Bool.{and_from}
 use Rattle.ec_terms.specs.Binding.{values_of}
 use Rattle.ec_terms.specs.Term.{names_are_names}
@@ -41,3 +42,12 @@ unfolding names_are_names
 returns-clause-named c =
     let bytes = c.as_bytes.ensures.bytes in
     and_from _ _ (rw bytes c.as_bytes.ensures.name) c.loop-place.invariant.named
+
+pub push-requires : goal.push-requires
+push-requires c = grind (arith, common_steps)
+
+pub shared_value-requires : goal.shared_value-requires
+shared_value-requires c = grind (arith, common_steps)
+
+pub returns-clause-term : goal.returns-clause-term
+returns-clause-term c = grind (arith, common_steps)

@@ -1,5 +1,6 @@
 -- The next list is what it was.
-use Rattle.std.proofs.Common.{◌≡◌, sym, subst, ◌∙◌}
+use Rattle.std.proofs.Common.{◌≡◌, sym, subst, ◌∙◌, arith}
+use Rattle.std.proofs.lemmas.Grind.{common_steps}
 use Rattle.ec_numbered.specs.PropSet.{with_number}
 use Rattle.ec_numbered.specs.ByNumber.{kept_at}
 use Rattle.ec_exclusive.specs.Kept.{HasRoom}
@@ -25,3 +26,9 @@ loop-q-preserved c = record {
       (prop_at_place c.args.props.now c.loop-q.q-index) c.loop-q.invariant.edited c.requires.ascends c.loop-q-test.true
       (read_at_place c.args.props.now c.loop-q.q-index c.loop-q-test.true) c.put_in.ensures.put c.put_in.ensures.others;
 }
+
+pub returns-clause-others : goal.returns-clause-others
+returns-clause-others c = grind (arith, common_steps)
+
+pub returns-clause-put : goal.returns-clause-put
+returns-clause-put c = grind (arith, common_steps)

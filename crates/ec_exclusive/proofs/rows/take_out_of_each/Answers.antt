@@ -1,5 +1,6 @@
 -- The next list is what it was.
-use Rattle.std.proofs.Common.{◌∙◌}
+use Rattle.std.proofs.Common.{◌∙◌, arith}
+use Rattle.std.proofs.lemmas.Grind.{common_steps}
 use Rattle.ec_numbered.specs.PropSet.{without_number}
 use Rattle.ec_exclusive.proofs.InTurn.{AreEdited-more, prop_at_place, read_at_place}
 use Rattle.ec_exclusive.proofs.rows.take_out_of_each.Goals as goal
@@ -11,3 +12,6 @@ loop-q-preserved c = record {
       (prop_at_place c.args.props.now c.loop-q.q-index) c.loop-q.invariant.edited c.requires c.loop-q-test.true
       (read_at_place c.args.props.now c.loop-q.q-index c.loop-q-test.true) c.take_out_of.ensures.taken c.take_out_of.ensures.others;
 }
+
+pub returns-clause-taken : goal.returns-clause-taken
+returns-clause-taken c = grind (arith, common_steps)

@@ -1,5 +1,6 @@
 -- The keys of one declaration more.
 use Rattle.std.proofs.Common.{◌≡◌, ◌<◌, ◌&&◌, ◌||◌, false, Bool, List, ℕ, length, get_or, take, sym, ap, ◌∙◌, ◌++◌, arith}
+use Rattle.std.proofs.lemmas.Grind.{common_steps}
 use Rattle.std.specs.List.{list_any}
 use Rattle.std.proofs.lemmas.List.Folds.{list_any-append}
 use Rattle.ec_terms.specs.Term.{ground_of}
@@ -55,3 +56,6 @@ loop-i-preserved c = λ q.
     (ap (λ b. stands so_far || b) (sym (list_any-append (λ key. in_group c.args.groups.now key q.0) left right))
     ∙ sym (list_any-append (λ key. in_group c.args.groups.now key q.0) so_far (left ++ right))
     ∙ ap stands (sym (keys_from-more 1 0 term c.args.theory.now.exclusives c.loop-i.i c.declaration-item.result within here)))
+
+pub returns : goal.returns
+returns c = grind (arith, common_steps)

@@ -1,5 +1,6 @@
 -- The next is found where it is exclusive to the term.
 use Rattle.std.proofs.Common.{◌≡◌, Bool, true, false, not, ◌&&◌, ◌||◌, refl, take, sym, ap, subst, ◌∙◌, arith}
+use Rattle.std.proofs.lemmas.Grind.{common_steps}
 use Rattle.std.specs.Prelude.{◌==◌}
 use Rattle.ec_terms.specs.declared.ids.PropId.{PropId}
 use Rattle.ec_terms.specs.Term.{ground_of}
@@ -42,3 +43,12 @@ loop-q-preserved c = λ r.
           (c.loop-q.invariant r) (λ e. subst (λ s. sought s ≡ false) (same_prop at r e) (sym c.is_sought.ensures ∙ w.if-is_sought.false))
           ∙ ap (λ b. has_number r.0 c.args.found.now.items || (test r && b)) (sym more)
     ]
+
+pub is_sought-requires-clause-kept : goal.is_sought-requires-clause-kept
+is_sought-requires-clause-kept c = grind (arith, common_steps)
+
+pub insert-requires : goal.insert-requires
+insert-requires c = grind (arith, common_steps)
+
+pub returns : goal.returns
+returns c = grind (arith, common_steps)

@@ -11,3 +11,6 @@ returns-in-Some-clause-marks g c = grind (arith, common_steps)
 
 pub returns-in-Some-clause-room : goal.returns-in-Some-clause-room
 returns-in-Some-clause-room g c = grind (arith, common_steps)
+
+pub returns-in_default-clause-marks : goal.returns-in_default-clause-marks
+returns-in_default-clause-marks c = grind (arith, common_steps)

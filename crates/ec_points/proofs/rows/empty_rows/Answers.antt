@@ -1,4 +1,6 @@
 -- The next property gets a row of no marks.
+use Rattle.std.proofs.Common.{arith}
+use Rattle.std.proofs.lemmas.Grind.{common_steps}
 use Rattle.ec_points.proofs.SeenRowLemmas.{has_row-more, no_marks-more}
 use Rattle.ec_points.proofs.rows.empty_rows.Goals as goal
 
@@ -8,3 +10,9 @@ loop-p-preserved g c = record {
       c.loop-p.invariant.rows c.in_ok-reserve_in.ensures.row;
   marks = no_marks-more g.M.MarkRow.marks g.M.MarkRow.spare c.loop-p.rows c.reserve_in.new.rows _ c.loop-p.invariant.marks c.reserve_in.ensures.others c.reserve_in.ensures.grown;
 }
+
+pub loop-p-init : goal.loop-p-init
+loop-p-init c = grind (arith, common_steps)
+
+pub returns-clause-rows : goal.returns-clause-rows
+returns-clause-rows c = grind (arith, common_steps)

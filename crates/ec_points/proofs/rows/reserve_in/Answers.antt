@@ -14,3 +14,27 @@ returns-in-Some-clause-room g c = grind (arith, common_steps)
 
 pub returns-in-Some-clause-err : goal.returns-in-Some-clause-err
 returns-in-Some-clause-err g c = grind (arith, common_steps)
+
+pub returns-clause-row : goal.returns-clause-row
+returns-clause-row c = grind (arith, common_steps)
+
+pub returns-in-Some-clause-others : goal.returns-in-Some-clause-others
+returns-in-Some-clause-others c = grind (arith, common_steps)
+
+pub returns-clause-others : goal.returns-clause-others
+returns-clause-others c = grind (arith, common_steps)
+
+pub returns-clause-grown : goal.returns-clause-grown
+returns-clause-grown c = grind (arith, common_steps)
+
+pub returns-in_err-place-clause-grown : goal.returns-in_err-place-clause-grown
+returns-in_err-place-clause-grown c = grind (arith, common_steps)
+
+pub returns-clause-room : goal.returns-clause-room
+returns-clause-room c = grind (arith, common_steps)
+
+pub returns-in_err-row-clause-grown : goal.returns-in_err-row-clause-grown
+returns-in_err-row-clause-grown c = grind (arith, common_steps)
+
+pub returns-in_err-reserve-clause-grown : goal.returns-in_err-reserve-clause-grown
+returns-in_err-reserve-clause-grown c = grind (arith, common_steps)

@@ -1,6 +1,7 @@
 -- The search finds the neighbours, and the row of the property makes it one of theirs; its form is that of its term, and it
 -- stands in the groups of its keys.
-use Rattle.std.proofs.Common.{◌≡◌, ◌&&◌, ◌||◌, Some, filter, sym, ap, subst, IsTrue, ◌∙◌}
+use Rattle.std.proofs.Common.{◌≡◌, ◌&&◌, ◌||◌, Some, filter, sym, ap, subst, IsTrue, ◌∙◌, arith}
+use Rattle.std.proofs.lemmas.Grind.{common_steps}
 use Rattle.std.specs.Prelude.{◌==◌, option_map, Result, Ok, Err, OnErr}
 use Rattle.ec_terms.specs.declared.ids.PropId.{PropId}
 use Rattle.ec_terms.specs.Term.{ground_of}
@@ -81,3 +82,12 @@ invariant_of-self-2 c =
     (in_group-absent c.self.inside.rows c.self.inside.forms c.self.inside.groups c.self.invariant c.args.self.now c.self.view_is c.args.p c.requires.absent)
     (with_own (goal.at.invariant_of-self-2 c).After-add_row) c.set.ensures.row (λ n other. c.set.ensures.others n other ∙ c.place.ensures.same n)
     (λ key n. c.in_ok-enter.ensures.ok key n ∙ ap (λ keys. ((c.args.p.0 == n) && is_among keys key) || in_group c.self.inside.groups key n) c.as_slice-2.ensures.value)
+
+pub add_row-requires-clause-place : goal.add_row-requires-clause-place
+add_row-requires-clause-place c = grind (arith, common_steps)
+
+pub same-neighbours : goal.same-neighbours
+same-neighbours c = grind (arith, common_steps)
+
+pub add_row-requires-clause-room : goal.add_row-requires-clause-room
+add_row-requires-clause-room c = grind (arith, common_steps)

@@ -25,3 +25,6 @@ returns-else-not-is_empty-clause-stream c = λ stream part.
     let empty : length c.args.self.now.kept ≡ 0 = grind (arith, common_steps) in
     Finishes-end c.args.self.now stream
     (IsEnded-none c.args.self.now (cut_of stream).rest part (ap (λ (f : FeedState). f.is_long) (sym c.self.view_is) ∙ c.if-self.false) empty)
+
+pub returns-else-not-is_empty-clause-line : goal.returns-else-not-is_empty-clause-line
+returns-else-not-is_empty-clause-line c = grind (arith, common_steps)

@@ -21,3 +21,6 @@ returns-then-self-clause-part c = λ taken part. record {
   kept = λ short. absurd (false≢true (sym short));
   long = λ _. elim c.then-self.branch [ then-self-via-then-self w ↦ grind (arith, common_steps) | then-self-via-else-self+then-bytes-len w ↦ grind (arith, common_steps) ];
 }
+
+pub invariant_of-self-2 : goal.invariant_of-self-2
+invariant_of-self-2 c = grind (arith, common_steps)

@@ -1,6 +1,6 @@
 use Rattle.std.proofs.Common.{ℕ, List, ◌++◌, length, take, ◌+◌, sym, ap, ◌∙◌, subst, arith}
 use Rattle.std.proofs.lemmas.List.{length-take-le}
-use Rattle.std.proofs.lemmas.Grind.{get_or_default_zero}
+use Rattle.std.proofs.lemmas.Grind.{get_or_default_zero, common_steps}
 use Rattle.std.proofs.Math.Seq.{take-length}
 use Rattle.std.proofs.lemmas.Bool.{false≢true}
 use Rattle.ec_axioms.specs.Lines.{line_feed, without_return, cut_of}
@@ -46,3 +46,6 @@ returns-in-None-clause-stream c = λ stream part.
     let none = HasNoLineEnd-not_found c.args.piece.now c.in-None.ensures in
     subst (λ (taken : List ℕ). Advances c.keep-in-None.new.self.is_ready c.keep-in-None.new.self stream (stream ++ taken)) (sym (take-length c.args.piece.now))
     (Advances-part c.keep-in-None.new.self stream c.args.piece.now none (c.keep-in-None.ensures.part (cut_of stream).rest part))
+
+pub returns-in-Some-clause-ready : goal.returns-in-Some-clause-ready
+returns-in-Some-clause-ready c = grind (arith, common_steps)

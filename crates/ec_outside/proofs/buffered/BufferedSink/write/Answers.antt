@@ -1,4 +1,5 @@
-use Rattle.std.proofs.Common.{drop}
+use Rattle.std.proofs.Common.{drop, arith}
+use Rattle.std.proofs.lemmas.Grind.{common_steps}
 use Rattle.std.proofs.lemmas.Result.{IfOk-weaker, on_err_weaker}
 use Rattle.ec_outside.specs.BufferedState.{stands_with_waiting}
 use Rattle.ec_outside.proofs.Waiting.{Appended-whole, Appended-waited, Appended-passed, Kept-passed}
@@ -26,3 +27,27 @@ returns-clause-kept g c =
     (λ kept. Kept-passed (drop c.self.inside.sent c.self.inside.buffer.items)
     c.if-keep.ensures.full c.send.ensures.kept c.if-keep-2.ensures.full c.self.view_is kept)
     c.write.ensures.kept
+
+pub returns-clause-counted : goal.returns-clause-counted
+returns-clause-counted c = grind (arith, common_steps)
+
+pub returns-clause-quiet : goal.returns-clause-quiet
+returns-clause-quiet c = grind (arith, common_steps)
+
+pub returns-then-keep-2-clause-bounded : goal.returns-then-keep-2-clause-bounded
+returns-then-keep-2-clause-bounded c = grind (arith, common_steps)
+
+pub returns-clause-failed : goal.returns-clause-failed
+returns-clause-failed c = grind (arith, common_steps)
+
+pub returns-then-keep-2-clause-counted : goal.returns-then-keep-2-clause-counted
+returns-then-keep-2-clause-counted c = grind (arith, common_steps)
+
+pub returns-then-keep-clause-bounded : goal.returns-then-keep-clause-bounded
+returns-then-keep-clause-bounded c = grind (arith, common_steps)
+
+pub returns-then-keep-2-clause-quiet : goal.returns-then-keep-2-clause-quiet
+returns-then-keep-2-clause-quiet c = grind (arith, common_steps)
+
+pub returns-clause-bounded : goal.returns-clause-bounded
+returns-clause-bounded c = grind (arith, common_steps)

@@ -13,3 +13,9 @@ returns-clause-fails c =
 
 pub returns-clause-numbered : goal.returns-clause-numbered
 returns-clause-numbered c = grind (arith, common_steps)
+
+pub invariant_of-self : goal.invariant_of-self
+invariant_of-self c = grind (arith, common_steps)
+
+pub returns-clause-made : goal.returns-clause-made
+returns-clause-made c = grind (arith, common_steps)

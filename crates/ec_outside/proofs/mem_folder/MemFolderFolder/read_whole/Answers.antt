@@ -1,4 +1,5 @@
-use Rattle.std.proofs.Common.{◌≡◌, ◌∙◌, sym, ap, inl, inr, true, is_some, rules}
+use Rattle.std.proofs.Common.{◌≡◌, ◌∙◌, sym, ap, inl, inr, true, is_some, rules, arith}
+use Rattle.std.proofs.lemmas.Grind.{common_steps}
 use Rattle.std.specs.Option.{option_copied}
 use Rattle.std.specs.FinMap.{get}
 use Rattle.ec_outside.specs.Calls.{next_fails}
@@ -53,3 +54,24 @@ returns-clause-missing c = search rules
 
 pub returns-clause-faults : goal.returns-clause-faults
 returns-clause-faults c = search rules
+
+pub returns-clause-quiet : goal.returns-clause-quiet
+returns-clause-quiet c = grind (arith, common_steps)
+
+pub returns-clause-long_without_fault : goal.returns-clause-long_without_fault
+returns-clause-long_without_fault c = grind (arith, common_steps)
+
+pub returns-clause-too_long : goal.returns-clause-too_long
+returns-clause-too_long c = grind (arith, common_steps)
+
+pub returns-clause-bounded : goal.returns-clause-bounded
+returns-clause-bounded c = grind (arith, common_steps)
+
+pub returns-clause-counted : goal.returns-clause-counted
+returns-clause-counted c = grind (arith, common_steps)
+
+pub returns-clause-within : goal.returns-clause-within
+returns-clause-within c = grind (arith, common_steps)
+
+pub returns-clause-unchanged : goal.returns-clause-unchanged
+returns-clause-unchanged c = grind (arith, common_steps)

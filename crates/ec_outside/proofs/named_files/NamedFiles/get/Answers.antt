@@ -1,4 +1,5 @@
-use Rattle.std.proofs.Common.{◌≡◌, ◌∙◌, sym, ap, Some, true, false, nat_eq, string_bytes}
+use Rattle.std.proofs.Common.{◌≡◌, ◌∙◌, sym, ap, Some, true, false, nat_eq, string_bytes, arith}
+use Rattle.std.proofs.lemmas.Grind.{common_steps}
 use lib.Pointwise.{pointwise}
 use Rattle.std.specs.Ordering.{nat_cmp}
 use Rattle.std.specs.Cmp.Lexicographic.{slice_cmp, nat_list_cmp_total}
@@ -24,3 +25,6 @@ loop-file-preserved c =
     let miss : pointwise nat_eq c.args.name.now (string_bytes c.file-item.result.name) ≡ false = cc in
     let here = find-drop _ c.loop-file.file-index c.file-item.result c.args.name.now c.loop-file-test.true c.file-item.is in
     c.loop-file.invariant ∙ (rw miss at here)
+
+pub returns : goal.returns
+returns c = grind (arith, common_steps)

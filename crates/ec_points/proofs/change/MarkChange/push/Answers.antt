@@ -1,5 +1,6 @@
 -- The new change is of another property or time than each before.
-use Rattle.std.proofs.Common.{◌&&◌, IsTrue, [], ◌∷◌, map, subst, sym, ap, ◌∙◌}
+use Rattle.std.proofs.Common.{◌&&◌, IsTrue, [], ◌∷◌, map, subst, sym, ap, ◌∙◌, arith}
+use Rattle.std.proofs.lemmas.Grind.{common_steps}
 use Rattle.std.specs.Prelude.{◌==◌}
 use Rattle.std.specs.Ordering.{int_eq}
 use Rattle.std.proofs.lemmas.List.{map-append}
@@ -17,3 +18,6 @@ invariant_of-self-2 g c =
     (is_ascending-append_one (are_apart g.T.Moment.rank) (map (λ hinted. hinted.change) c.self.inside.changes.items) (c.args.p, c.args.mark) c.self.invariant
     (list_all-none (λ change. change.0.0 == c.args.p.0 && int_eq (g.T.Moment.rank change.1.at) (g.T.Moment.rank c.args.mark.at)) (map (λ hinted. hinted.change) c.self.inside.changes.items)
     (ap (has_change g.T.Moment.rank c.args.p.0 (g.T.Moment.rank c.args.mark.at)) c.self.view_is ∙ c.requires)))
+
+pub returns-clause-ok : goal.returns-clause-ok
+returns-clause-ok c = grind (arith, common_steps)

@@ -1,5 +1,6 @@
 -- The clash goes out at its place.
-use Rattle.std.proofs.Common.{◌&&◌, not, IsTrue, sym, ap, subst, ◌∙◌}
+use Rattle.std.proofs.Common.{◌&&◌, not, IsTrue, sym, ap, subst, ◌∙◌, arith}
+use Rattle.std.proofs.lemmas.Grind.{common_steps}
 use Rattle.ec_rows.specs.Ordered.{Reserved}
 use Rattle.ec_points.specs.Clashes.{are_clashes, has_clash, is_clash_of}
 use Rattle.ec_points.proofs.ClashLemmas.{are_clashes-without, has_clash-without}
@@ -15,3 +16,6 @@ returns-in-Ok-clause-has g c = λ n t.
     ap (has_clash g.T.Moment.rank n t) (c.remove.ensures.items ∙ c.in-Ok.ensures.removed)
     ∙ has_clash-without g.T.Moment.rank (record { at = c.args.at; p = c.args.p }) n t c.self.inside.list.items
     ∙ ap (λ (list : Reserved _). not (is_clash_of g.T.Moment.rank n t (record { at = c.args.at; p = c.args.p })) && has_clash g.T.Moment.rank n t list.items) c.self.view_is
+
+pub returns-in-Ok-clause-spare : goal.returns-in-Ok-clause-spare
+returns-in-Ok-clause-spare c = grind (arith, common_steps)

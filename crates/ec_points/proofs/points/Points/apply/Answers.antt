@@ -1,5 +1,6 @@
 -- The table shows the rows.
 use Rattle.std.proofs.Common.{◌≡◌, ◌+◌, ◌≤◌, is_some, subst, sym, ap, arith}
+use Rattle.std.proofs.lemmas.Grind.{common_steps}
 use Rattle.ec_points.specs.Changes.{changed, growth_of}
 use Rattle.ec_points.specs.Table.{PointTable, marks_in, room_in}
 use Rattle.ec_points.proofs.RowClashes.{AreClashesOf-changed, new_clashes-table}
@@ -49,3 +50,6 @@ pub invariant_of-self : goal.invariant_of-self
 invariant_of-self g c =
     AreClashesOf-changed g.M.MarkRow.marks g.M.MarkRow.spare g.T.Moment.rank c.self.inside.rows c.change_rows.new.rows c.self.inside.clashes.items c.self.invariant
     c.args.change.now c.note_changes.new.noted.items c.note_changes.ensures.apart c.change_rows.ensures.marks c.note_changes.ensures.has
+
+pub returns-clause-others : goal.returns-clause-others
+returns-clause-others c = grind (arith, common_steps)

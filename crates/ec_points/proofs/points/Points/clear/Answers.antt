@@ -1,5 +1,6 @@
 -- The rows of other numbers are kept as they were, and the clashes of this one go.
-use Rattle.std.proofs.Common.{◌≡◌, ap}
+use Rattle.std.proofs.Common.{◌≡◌, ap, arith}
+use Rattle.std.proofs.lemmas.Grind.{common_steps}
 use Rattle.std.specs.Prelude.{option_map}
 use Rattle.ec_points.specs.Table.{PointTable, row_of}
 use Rattle.ec_points.proofs.RowClashes.{AreClashesOf-cleared}
@@ -14,3 +15,15 @@ pub invariant_of-self : goal.invariant_of-self
 invariant_of-self g c =
     AreClashesOf-cleared g.M.MarkRow.marks g.M.MarkRow.spare g.T.Moment.rank c.self.inside.rows c.clear_in.new.rows c.self.inside.clashes.items c.self.invariant c.args.p.0
     c.forget.new.noted.items c.clear_in.ensures.others c.clear_in.ensures.marks c.forget.ensures.has
+
+pub returns-clause-room : goal.returns-clause-room
+returns-clause-room c = grind (arith, common_steps)
+
+pub returns-clause-row : goal.returns-clause-row
+returns-clause-row c = grind (arith, common_steps)
+
+pub returns-clause-clash_room : goal.returns-clause-clash_room
+returns-clause-clash_room c = grind (arith, common_steps)
+
+pub returns-clause-marks : goal.returns-clause-marks
+returns-clause-marks c = grind (arith, common_steps)

@@ -1,5 +1,6 @@
 -- The rows of other numbers are kept as they were, and none clashes that did not.
-use Rattle.std.proofs.Common.{◌≡◌, ap}
+use Rattle.std.proofs.Common.{◌≡◌, ap, arith}
+use Rattle.std.proofs.lemmas.Grind.{common_steps}
 use Rattle.std.specs.Prelude.{option_map}
 use Rattle.ec_points.specs.Table.{PointTable, marks_in, row_of}
 use Rattle.ec_points.specs.SeenRows.{seen_at}
@@ -17,3 +18,18 @@ invariant_of-self g c =
     c.push_in.ensures.others
     (λ t. clashes_in-pushed g.T.Moment.rank t c.push_in.result (marks_in (seen_at g.M.MarkRow.marks g.M.MarkRow.spare c.args.p.0 c.self.inside.rows))
     (marks_in (seen_at g.M.MarkRow.marks g.M.MarkRow.spare c.args.p.0 c.push_in.new.rows)) c.args.mark c.push_in.ensures.ok c.push_in.ensures.err c.requires.no_clash)
+
+pub returns-clause-room : goal.returns-clause-room
+returns-clause-room c = grind (arith, common_steps)
+
+pub returns-clause-err : goal.returns-clause-err
+returns-clause-err c = grind (arith, common_steps)
+
+pub push_in-requires-clause-last : goal.push_in-requires-clause-last
+push_in-requires-clause-last c = grind (arith, common_steps)
+
+pub returns-clause-ok : goal.returns-clause-ok
+returns-clause-ok c = grind (arith, common_steps)
+
+pub returns-clause-row : goal.returns-clause-row
+returns-clause-row c = grind (arith, common_steps)

@@ -1,0 +1,16 @@
+-- What follows from the calls and the tests before it.
+use Rattle.std.proofs.Common.{arith}
+use Rattle.std.proofs.lemmas.Grind.{common_steps}
+use Rattle.ec_lines.proofs.arguments.read_why.Goals as goal
+
+pub returns-in_err-last-clause-names : goal.returns-in_err-last-clause-names
+returns-in_err-last-clause-names c = grind (arith, common_steps)
+
+pub returns-in_err-at-clause-names : goal.returns-in_err-at-clause-names
+returns-in_err-at-clause-names c = grind (arith, common_steps)
+
+pub returns-clause-names : goal.returns-clause-names
+returns-clause-names c = grind (arith, common_steps)
+
+pub returns-in_err-prop-clause-names : goal.returns-in_err-prop-clause-names
+returns-in_err-prop-clause-names c = grind (arith, common_steps)
