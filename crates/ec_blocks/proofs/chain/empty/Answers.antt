@@ -1,5 +1,6 @@
 -- The last block goes, and is a spare one.
 use Rattle.std.proofs.Common.{ap, sym, length, ◌∙◌, ◌-◌, arith}
+use Rattle.std.proofs.lemmas.Grind.{common_steps}
 use Rattle.std.specs.List.{list_all}
 use Rattle.std.specs.Vec.{vec_capacity}
 use Rattle.std.proofs.lemmas.Option.{get_or_from_slice_get}
@@ -26,3 +27,9 @@ loop-blocks-preserved g c =
       blocks_room = c.remove-block.ensures.room ∙ c.loop-blocks.invariant.blocks_room;
       spares_capacity = c.push_reserved.ensures.capacity ∙ c.loop-blocks.invariant.spares_capacity;
     }
+
+pub loop-blocks-smaller : goal.loop-blocks-smaller
+loop-blocks-smaller c = grind (arith, common_steps)
+
+pub returns-clause-none : goal.returns-clause-none
+returns-clause-none c = grind (arith, common_steps)

@@ -1,5 +1,6 @@
 -- One more is copied.
 use Rattle.std.proofs.Common.{◌∷◌, [], ◌++◌, take, append_assoc, sym, ap, ap₂, ◌∙◌, arith}
+use Rattle.std.proofs.lemmas.Grind.{common_steps}
 use Rattle.std.proofs.lemmas.List.{take_more}
 use Rattle.ec_blocks.proofs.chain.fill.Goals as goal
 
@@ -12,3 +13,9 @@ loop-x-preserved g c = record {
   len = omega arith;
   capacity = omega arith;
 }
+
+pub loop-x-init : goal.loop-x-init
+loop-x-init c = grind (arith, common_steps)
+
+pub returns-clause-items : goal.returns-clause-items
+returns-clause-items c = grind (arith, common_steps)

@@ -1,5 +1,6 @@
 -- What stands at the cut is at the time, or nothing is.
 use Rattle.std.proofs.Common.{arith, sym, ap, ◌∙◌}
+use Rattle.std.proofs.lemmas.Grind.{common_steps}
 use Rattle.std.specs.Ordering.{int_eq}
 use Rattle.std.proofs.lemmas.Option.{get_or_from_slice_get, slice_get_within}
 use Rattle.std.proofs.lemmas.List.Folds.{list_any_at}
@@ -37,3 +38,6 @@ pub returns-then-is_at-clause-present : goal.returns-then-is_at-clause-present
 returns-then-is_at-clause-present g c =
     list_any_at (λ x. int_eq (g.T.Moment.rank (g.X.Timed.time x)) (g.T.Moment.rank c.args.at)) c.args.row.now.items c.count_before-place.result c.get.result.now
     (slice_get_within c.args.row.now.items c.count_before-place.result c.get.result.now c.get.ensures) (returns-then-is_at-clause-at g c c.get.result.now)
+
+pub returns-then-is_at-clause-found : goal.returns-then-is_at-clause-found
+returns-then-is_at-clause-found c = grind (arith, common_steps)

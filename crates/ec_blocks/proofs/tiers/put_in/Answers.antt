@@ -1,5 +1,6 @@
 -- A member that comes in at the front takes the place of the last, which lies in front of the first.
 use Rattle.std.proofs.Common.{◌≡◌, ℕ, ◌+◌, ◌%◌, ◌<◌, List, ◌++◌, ◌∷◌, [], length, get_or, set, sym, ap, ap₂, ◌∙◌, length-set, get_or-set_same, arith}
+use Rattle.std.proofs.lemmas.Grind.{common_steps}
 use Rattle.std.specs.List.{insert}
 use Rattle.std.proofs.lemmas.List.{set-set, set-get_or}
 use Rattle.ec_blocks.specs.Tiers.{turned}
@@ -20,3 +21,9 @@ pub returns-then-at-eq0-clause-ring : goal.returns-then-at-eq0-clause-ring
 returns-then-at-eq0-clause-ring g c =
     ring-last c.args.ring.now c.args.head c.args.at c.args.x c.replace.result c.index-ring-last.result c.requires.full c.requires.head c.if-at-eq0.true c.replace.ensures.value
     ∙ ap (λ y. turned ((c.args.head + 63) % 64) (set c.args.ring.now ((c.args.head + 63) % 64) y) ++ c.replace.result ∷ []) (sym c.replace.ensures.after)
+
+pub returns-then-at-eq0-clause-len : goal.returns-then-at-eq0-clause-len
+returns-then-at-eq0-clause-len c = grind (arith, common_steps)
+
+pub offset_bounds-ring-last : goal.offset_bounds-ring-last
+offset_bounds-ring-last c = grind (arith, common_steps)

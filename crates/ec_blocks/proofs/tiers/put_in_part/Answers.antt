@@ -1,5 +1,6 @@
 -- The last of the part is turned to the place, and goes from there.
 use Rattle.std.proofs.Common.{◌-◌, List, ◌++◌, ◌∷◌, [], length, drop, take, set, sym, ap, ◌∙◌, length-drop, arith}
+use Rattle.std.proofs.lemmas.Grind.{common_steps}
 use Rattle.std.proofs.lemmas.List.{take_rest}
 use borrow.Rule.Slice.PartMut.{put_mid}
 use Rattle.ec_blocks.proofs.JoinLemmas.{insert-end}
@@ -18,3 +19,12 @@ returns-clause-part g c =
     (put-is c.args.at (length part - c.args.at) part c.rotate_right.new.self (omega (arith, c.rotate_right.ensures.len, ap length (take_rest part c.args.at), length-drop c.args.at part)))
     c.replace.ensures.value
     ∙ ap (λ y. set put c.args.at y ++ c.replace.result ∷ []) (sym c.replace.ensures.after)
+
+pub returns-clause-len : goal.returns-clause-len
+returns-clause-len c = grind (arith, common_steps)
+
+pub offset_bounds-part-at-2 : goal.offset_bounds-part-at-2
+offset_bounds-part-at-2 c = grind (arith, common_steps)
+
+pub offset_bounds-part-at : goal.offset_bounds-part-at
+offset_bounds-part-at c = grind (arith, common_steps)

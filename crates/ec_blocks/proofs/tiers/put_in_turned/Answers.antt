@@ -1,5 +1,6 @@
 -- The part where the place is takes it in, and hands the last one on.
 use Rattle.std.proofs.Common.{◌≡◌, ℕ, ◌-◌, List, ◌++◌, ◌∷◌, [], length, drop, take, sym, ap, ◌∙◌, length-drop, arith}
+use Rattle.std.proofs.lemmas.Grind.{common_steps}
 use Rattle.std.specs.List.{insert}
 use Rattle.std.proofs.lemmas.List.{length-take-le, take_at, drop_at, take_rest}
 use borrow.Rule.Slice.PartMut.{put_mid}
@@ -36,3 +37,6 @@ returns-clause-ring g c =
     (ap (λ us. insert us 0 c.put_in_part-carried.result) taken ∙ c.put_in_part-2.ensures.part)
     ∙ ap (λ us. turned h us ++ c.put_in_part-2.result ∷ [])
     (sym (front-put h (put_mid h (length ring - h) ring behind) front same ∙ ap (λ us. front ++ us) (ap (drop h) first ∙ drop_at (take h ring) behind h before)))
+
+pub offset_bounds-ring-head : goal.offset_bounds-ring-head
+offset_bounds-ring-head c = grind (arith, common_steps)

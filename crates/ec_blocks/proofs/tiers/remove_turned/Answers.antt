@@ -1,5 +1,6 @@
 -- The last group lies straight, and no member has moved in the list.
 use Rattle.std.proofs.Common.{◌≡◌, ℕ, ◌+◌, ◌*◌, List, ◌++◌, Some, length, get_or, take, drop, refl, sym, ap, ◌∙◌, length-append, arith}
+use Rattle.std.proofs.lemmas.Grind.{common_steps}
 use Rattle.std.specs.Prelude.{slice_get}
 use Rattle.std.specs.List.{remove}
 use Rattle.std.proofs.lemmas.List.{length_push, take-append-drop}
@@ -46,3 +47,9 @@ returns-clause-items g c =
     ap (unrolled hs) (c.remove.ensures.items ∙ ap (λ us. remove us c.args.k) written)
     ∙ remove-straight hs (take n ms ++ turned h (drop n ms)) n refl (omega (arith, count, long)) c.args.k (omega (arith, long, c.requires.last))
     ∙ ap (λ us. remove us c.args.k) same
+
+pub turn_last-requires-clause-head : goal.turn_last-requires-clause-head
+turn_last-requires-clause-head c = grind (arith, common_steps)
+
+pub returns-clause-count : goal.returns-clause-count
+returns-clause-count c = grind (arith, common_steps)

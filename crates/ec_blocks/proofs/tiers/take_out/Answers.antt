@@ -1,5 +1,6 @@
 -- A straight ring lets it go, or the first member of any ring.
 use Rattle.std.proofs.Common.{◌+◌, ◌-◌, ◌%◌, List, ◌++◌, ◌∷◌, [], length, drop, take, set, sym, ap, ◌∙◌, length-drop, arith}
+use Rattle.std.proofs.lemmas.Grind.{common_steps}
 use Rattle.std.specs.List.{insert}
 use Rattle.std.proofs.lemmas.List.{append-nil, take_rest}
 use borrow.Rule.Slice.PartMut.{put_mid}
@@ -22,3 +23,18 @@ returns-clause-ring g c =
     c.replace-2.ensures.value
     ∙ ap (λ y. insert (set put 63 y) c.args.at c.replace-2.result) (sym c.replace-2.ensures.after)
     ∙ ap (λ us. insert us c.args.at c.replace-2.result) (sym (append-nil (set put 63 c.replace-2.new.dest)))
+
+pub offset_bounds-ring : goal.offset_bounds-ring
+offset_bounds-ring c = grind (arith, common_steps)
+
+pub offset_bounds-ring-at : goal.offset_bounds-ring-at
+offset_bounds-ring-at c = grind (arith, common_steps)
+
+pub returns-clause-len : goal.returns-clause-len
+returns-clause-len c = grind (arith, common_steps)
+
+pub returns-then-at-eq0-clause-len : goal.returns-then-at-eq0-clause-len
+returns-then-at-eq0-clause-len c = grind (arith, common_steps)
+
+pub offset_bounds-ring-head : goal.offset_bounds-ring-head
+offset_bounds-ring-head c = grind (arith, common_steps)

@@ -1,5 +1,6 @@
 -- One more member is inserted.
 use Rattle.std.proofs.Common.{◌-◌, length, ap, ap₂, ◌∙◌, arith}
+use Rattle.std.proofs.lemmas.Grind.{common_steps}
 use Rattle.std.specs.List.{insert}
 use Rattle.std.proofs.lemmas.List.Edits.{length-insert}
 use Rattle.ec_blocks.proofs.SpliceLemmas.{insert-splice}
@@ -15,3 +16,9 @@ loop-x-preserved g c = record {
   behind = omega arith;
   spare = omega arith;
 }
+
+pub returns-clause-items : goal.returns-clause-items
+returns-clause-items c = grind (arith, common_steps)
+
+pub loop-x-init : goal.loop-x-init
+loop-x-init c = grind (arith, common_steps)

@@ -1,5 +1,6 @@
 -- One more member is written over.
 use Rattle.std.proofs.Common.{◌-◌, set, length, length-set, ap, ap₂, ◌∙◌, arith}
+use Rattle.std.proofs.lemmas.Grind.{common_steps}
 use Rattle.ec_blocks.proofs.SpliceLemmas.{set-splice}
 use Rattle.ec_blocks.proofs.blocks.Blocks.overwrite.Goals as goal
 
@@ -11,3 +12,9 @@ loop-place-preserved g c = record {
   len = ap length c.set.ensures.items ∙ length-set c.loop-place.self.items c.loop-place.place c.copied.result ∙ c.loop-place.invariant.len;
   spare = omega arith;
 }
+
+pub returns-clause-items : goal.returns-clause-items
+returns-clause-items c = grind (arith, common_steps)
+
+pub loop-place-init : goal.loop-place-init
+loop-place-init c = grind (arith, common_steps)

@@ -1,5 +1,6 @@
 -- One more member is taken out.
 use Rattle.std.proofs.Common.{length, ap, ◌∙◌, arith}
+use Rattle.std.proofs.lemmas.Grind.{common_steps}
 use Rattle.std.specs.List.{remove}
 use Rattle.std.proofs.lemmas.List.Edits.{length-remove}
 use Rattle.ec_blocks.proofs.SpliceLemmas.{remove-splice}
@@ -12,3 +13,9 @@ loop-place-preserved g c = record {
   len = omega (arith, ap length c.remove.ensures.items, length-remove c.loop-place.self.items c.args.from (omega arith));
   spare = omega arith;
 }
+
+pub loop-place-init : goal.loop-place-init
+loop-place-init c = grind (arith, common_steps)
+
+pub returns-clause-items : goal.returns-clause-items
+returns-clause-items c = grind (arith, common_steps)

@@ -1,5 +1,6 @@
 -- One more spare block.
 use Rattle.std.proofs.Common.{ap, length, refl, arith, map, sym}
+use Rattle.std.proofs.lemmas.Grind.{common_steps}
 use Rattle.std.specs.Vec.{vec_capacity}
 use Rattle.ec_blocks.proofs.ChainLemmas.{starts-count, lasts-count}
 use Rattle.ec_blocks.proofs.EditLemmas.{spared}
@@ -26,3 +27,15 @@ invariant_of-self-2 g c =
       },
       counted-same _ _ _ _ (ap (map (λ b. b.items)) (sym c.widen.ensures.blocks)) c.self.invariant.2,
     )
+
+pub returns-clause-blocks : goal.returns-clause-blocks
+returns-clause-blocks c = grind (arith, common_steps)
+
+pub invariant_of-self : goal.invariant_of-self
+invariant_of-self c = grind (arith, common_steps)
+
+pub returns-clause-ok : goal.returns-clause-ok
+returns-clause-ok c = grind (arith, common_steps)
+
+pub returns-clause-err : goal.returns-clause-err
+returns-clause-err c = grind (arith, common_steps)

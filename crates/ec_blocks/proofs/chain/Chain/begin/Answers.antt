@@ -1,5 +1,6 @@
 -- A block more at the end.
 use Rattle.std.proofs.Common.{length-append, ◌++◌, ◌∷◌, [], Some, refl, ap, ◌∙◌, arith, length}
+use Rattle.std.proofs.lemmas.Grind.{common_steps}
 use Rattle.std.specs.Vec.{vec_capacity}
 use Rattle.ec_blocks.proofs.ChainLemmas.{starts-count, lasts-count}
 use Rattle.ec_blocks.proofs.EditLemmas.{appended}
@@ -39,3 +40,12 @@ invariant_of-self g c =
       counted-push (λ b. b.items) c.self.inside.blocks.items _ c.push_reserved.new.self c.self.inside.counts.total c.self.inside.counts.owed _ _ c.self.invariant.2 there
           (omega (arith, c.change.ensures.total, ap length begun)) (omega (arith, c.change.ensures.owed, ap length begun)),
     )
+
+pub returns-clause-spares : goal.returns-clause-spares
+returns-clause-spares c = grind (arith, common_steps)
+
+pub returns-clause-blocks : goal.returns-clause-blocks
+returns-clause-blocks c = grind (arith, common_steps)
+
+pub push_reserved-requires : goal.push_reserved-requires
+push_reserved-requires c = grind (arith, common_steps)

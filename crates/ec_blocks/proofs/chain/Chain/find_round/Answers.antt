@@ -1,5 +1,6 @@
 -- The block shows that what passes ends in it.
 use Rattle.std.proofs.Common.{◌≡◌, ◌+◌, ◌<◌, ℕ, suc, List, true, false, length, sym, ap, subst, arith}
+use Rattle.std.proofs.lemmas.Grind.{common_steps}
 use Rattle.std.specs.List.Sorted.{IsPartitionedBy, IsPartitionPoint}
 use Rattle.ec_blocks.specs.Chain.{joined}
 use Rattle.ec_blocks.proofs.ChainLemmas.{joined-most}
@@ -34,3 +35,15 @@ returns-then-is_enclosed-clause-partitioned g c p computes parted =
     (found-enclosed p c.args.self.now.blocks c.count.ensures.kept parted c.noted-k.result.0 c.in_ok-place.place within
     (c.is_enclosed.ensures.front c.if-is_enclosed.true) (c.is_enclosed.ensures.behind c.if-is_enclosed.true) (omega (arith, c.in_ok-place.ensures.bound, ap length block))
     (subst (λ (xs : List _). IsPartitionPoint (λ x. p x ≡ true) (λ x. p x ≡ false) xs c.in_ok-place.place) block point))
+
+pub is_enclosed-requires-clause-len : goal.is_enclosed-requires-clause-len
+is_enclosed-requires-clause-len c = grind (arith, common_steps)
+
+pub returns-in_err-place-clause-bound : goal.returns-in_err-place-clause-bound
+returns-in_err-place-clause-bound c = grind (arith, common_steps)
+
+pub returns-in_err-place-clause-partitioned : goal.returns-in_err-place-clause-partitioned
+returns-in_err-place-clause-partitioned c = grind (arith, common_steps)
+
+pub start-requires : goal.start-requires
+start-requires c = grind (arith, common_steps)

@@ -1,5 +1,6 @@
 -- A block that gets one more.
 use Rattle.std.proofs.Common.{◌+◌, length, sym, ap, ◌∙◌, arith}
+use Rattle.std.proofs.lemmas.Grind.{common_steps}
 use Rattle.std.specs.Prelude.{nat_eq}
 use Rattle.std.specs.List.{insert}
 use Rattle.std.specs.Vec.{vec_capacity}
@@ -74,3 +75,6 @@ invariant_of-self g c =
           (omega (arith, c.change.ensures.total, ap length (old-list (λ b. b.items) (λ b. vec_capacity b) c.self.inside.blocks.items c.self.inside.starts.items c.self.inside.lasts.items c.self.inside.spares.items c.self.invariant.0 c.args.self.now.blocks (ap (λ v. v.blocks) c.self.view_is) c.args.k c.requires.block c.get_mut-block.result.now c.get_mut-block.ensures.member), length-insert (block_at c.args.k c.args.self.now.blocks) c.args.place c.args.x c.requires.place))
           (omega (arith, c.change.ensures.owed, ap length (old-list (λ b. b.items) (λ b. vec_capacity b) c.self.inside.blocks.items c.self.inside.starts.items c.self.inside.lasts.items c.self.inside.spares.items c.self.invariant.0 c.args.self.now.blocks (ap (λ v. v.blocks) c.self.view_is) c.args.k c.requires.block c.get_mut-block.result.now c.get_mut-block.ensures.member), length-insert (block_at c.args.k c.args.self.now.blocks) c.args.place c.args.x c.requires.place)),
     )
+
+pub returns-clause-spares : goal.returns-clause-spares
+returns-clause-spares c = grind (arith, common_steps)

@@ -1,5 +1,6 @@
 -- A new block, or one more in the last.
 use Rattle.std.proofs.Common.{◌≡◌, ◌-◌, ◌≤◌, suc, ◌∷◌, [], refl, length, ap, ◌∙◌, arith}
+use Rattle.std.proofs.lemmas.Grind.{common_steps}
 use Rattle.std.specs.List.{insert}
 use Rattle.std.proofs.lemmas.List.Edits.{length-insert}
 use Rattle.ec_blocks.specs.Chain.{joined, block_at, start_of, debt}
@@ -39,3 +40,18 @@ returns-else-is_last_full-clause-debt g c =
       debt-set c.args.self.now.blocks (c.count-last.result - 1) 1 (insert (block_at (c.count-last.result - 1) c.args.self.now.blocks) (length c.block-place.result.now) c.args.x) (omega arith)
           (omega (arith, length-insert (block_at (c.count-last.result - 1) c.args.self.now.blocks) (length c.block-place.result.now) c.args.x (omega arith))),
     )
+
+pub insert-requires-clause-place : goal.insert-requires-clause-place
+insert-requires-clause-place c = grind (arith, common_steps)
+
+pub insert-requires-clause-block : goal.insert-requires-clause-block
+insert-requires-clause-block c = grind (arith, common_steps)
+
+pub insert-requires-clause-room : goal.insert-requires-clause-room
+insert-requires-clause-room c = grind (arith, common_steps)
+
+pub block-place-requires : goal.block-place-requires
+block-place-requires c = grind (arith, common_steps)
+
+pub returns-then-is_last_full-clause-members : goal.returns-then-is_last_full-clause-members
+returns-then-is_last_full-clause-members c = grind (arith, common_steps)

@@ -1,5 +1,6 @@
 -- An edit within a block, which may be half of one that was full.
 use Rattle.std.proofs.Common.{◌+◌, ◌-◌, suc, length, take, drop, ap, ap₂, ◌∙◌, length-drop, add-one, arith}
+use Rattle.std.proofs.lemmas.Grind.{common_steps}
 use Rattle.std.specs.Prelude.{slice_set}
 use Rattle.std.specs.List.{insert}
 use Rattle.std.proofs.lemmas.List.{length-take-le}
@@ -114,3 +115,15 @@ returns-else-place-le-HALF-clause-debt g c =
           (omega (arith, ap length there, split-count c.args.self.now.blocks c.locate-k.result.0 (take 64 (block_at c.locate-k.result.0 c.args.self.now.blocks)) (drop 64 (block_at c.locate-k.result.0 c.args.self.now.blocks)) c.locate-k.ensures.within))
           (omega (arith, length-insert (block_at (c.locate-k.result.0 + 1) c.split.new.self.blocks) (c.locate-k.result.1 - 64) c.args.x (omega (arith, ap₂ (λ n bs. length (block_at n bs)) (add-one c.locate-k.result.0) there, ap length (split-second c.args.self.now.blocks c.locate-k.result.0 (take 64 (block_at c.locate-k.result.0 c.args.self.now.blocks)) (drop 64 (block_at c.locate-k.result.0 c.args.self.now.blocks)) c.locate-k.ensures.within), length-drop 64 (block_at c.locate-k.result.0 c.args.self.now.blocks))))),
     )
+
+pub insert-requires-else-place-le-HALF-clause-block : goal.insert-requires-else-place-le-HALF-clause-block
+insert-requires-else-place-le-HALF-clause-block c = grind (arith, common_steps)
+
+pub split-requires-clause-full : goal.split-requires-clause-full
+split-requires-clause-full c = grind (arith, common_steps)
+
+pub insert-requires-clause-room : goal.insert-requires-clause-room
+insert-requires-clause-room c = grind (arith, common_steps)
+
+pub insert-requires-then-place-le-HALF-clause-block : goal.insert-requires-then-place-le-HALF-clause-block
+insert-requires-then-place-le-HALF-clause-block c = grind (arith, common_steps)

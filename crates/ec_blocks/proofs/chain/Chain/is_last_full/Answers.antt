@@ -1,5 +1,6 @@
 -- The last block is full, or has fewer.
 use Rattle.std.proofs.Common.{◌≡◌, ℕ, ◌-◌, ◌<◌, ◌≤◌, true, false, length, sym, ap, ◌∙◌, arith}
+use Rattle.std.proofs.lemmas.Grind.{common_steps}
 use Rattle.std.specs.Prelude.{◌==◌}
 use Rattle.std.proofs.lemmas.Bool.Decides.{nat_tests}
 use Rattle.ec_blocks.specs.Chain.{block_at}
@@ -24,3 +25,12 @@ returns-clause-free g c not_full =
   where
     same : (a b : ℕ) → a ≡ b → a - 1 ≡ b - 1
     same a b e = ap (λ n. n - 1) e
+
+pub returns-then-count-eq0-clause-free : goal.returns-then-count-eq0-clause-free
+returns-then-count-eq0-clause-free c = grind (arith, common_steps)
+
+pub returns-then-count-eq0-clause-some : goal.returns-then-count-eq0-clause-some
+returns-then-count-eq0-clause-some c = grind (arith, common_steps)
+
+pub returns-clause-some : goal.returns-clause-some
+returns-clause-some c = grind (arith, common_steps)

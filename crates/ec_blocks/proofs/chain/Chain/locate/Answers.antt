@@ -1,5 +1,6 @@
 -- The last block that begins up to the place.
 use Rattle.std.proofs.Common.{◌≡◌, ℕ, true, false, length, sym, ap, subst, ◌∙◌, arith}
+use Rattle.std.proofs.lemmas.Grind.{common_steps}
 use Rattle.std.specs.Prelude.{nat_le}
 use Rattle.std.specs.List.{list_all}
 use Rattle.std.specs.List.Sorted.{IsNonDecreasingBy, IsPartitionPoint}
@@ -40,3 +41,18 @@ returns g c =
       kept = ap (λ v. list_all is_block v.blocks) (sym c.self.view_is) ∙ kept-blocks (λ b. b.items) (λ b. vec_capacity b) c.self.inside.blocks.items c.self.invariant.0.kept;
       few = omega (arith, c.self.invariant.1.few, ap (λ v. length v.blocks) (sym c.self.view_is), length-map c.self.inside.blocks.items (λ b. b.items));
     }
+
+pub start-requires : goal.start-requires
+start-requires c = grind (arith, common_steps)
+
+pub returns-then-is_in-clause-place : goal.returns-then-is_in-clause-place
+returns-then-is_in-clause-place c = grind (arith, common_steps)
+
+pub returns-then-is_in-clause-to : goal.returns-then-is_in-clause-to
+returns-then-is_in-clause-to c = grind (arith, common_steps)
+
+pub overflow_sub-result : goal.overflow_sub-result
+overflow_sub-result c = grind (arith, common_steps)
+
+pub returns-then-is_in-clause-within : goal.returns-then-is_in-clause-within
+returns-then-is_in-clause-within c = grind (arith, common_steps)

@@ -1,5 +1,6 @@
 -- The block shows that what passes ends in it.
 use Rattle.std.proofs.Common.{◌≡◌, ◌+◌, ◌-◌, ℕ, suc, List, true, false, length, sym, ap, subst, arith}
+use Rattle.std.proofs.lemmas.Grind.{common_steps}
 use Rattle.std.specs.List.Sorted.{IsPartitionedBy, IsPartitionPoint}
 use Rattle.ec_blocks.specs.Chain.{joined, start_of}
 use Rattle.ec_blocks.proofs.ChainLemmas.{joined-most}
@@ -34,3 +35,6 @@ returns-then-is_enclosed-clause-partitioned g c p computes parted =
     (found-enclosed p c.args.self.now.blocks c.locate-k.ensures.kept parted c.locate-k.result.0 c.cut_near-place.result c.locate-k.ensures.within
     (c.is_enclosed.ensures.front c.if-is_enclosed.true) (c.is_enclosed.ensures.behind c.if-is_enclosed.true) (omega (arith, c.cut_near-place.ensures.bound, ap length block))
     (subst (λ (xs : List _). IsPartitionPoint (λ x. p x ≡ true) (λ x. p x ≡ false) xs c.cut_near-place.result) block point))
+
+pub is_enclosed-requires-clause-len : goal.is_enclosed-requires-clause-len
+is_enclosed-requires-clause-len c = grind (arith, common_steps)

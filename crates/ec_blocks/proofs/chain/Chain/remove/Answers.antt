@@ -1,5 +1,6 @@
 -- A block that gets one less.
 use Rattle.std.proofs.Common.{◌∙◌, sym, ◌+◌, length, ap, arith}
+use Rattle.std.proofs.lemmas.Grind.{common_steps}
 use Rattle.std.specs.Prelude.{nat_eq, slice_get}
 use Rattle.std.specs.List.{remove}
 use Rattle.std.specs.Vec.{vec_capacity}
@@ -77,3 +78,6 @@ invariant_of-self g c =
           (omega (arith, c.change.ensures.total, c.requires.others, ap length (old-list (λ b. b.items) (λ b. vec_capacity b) c.self.inside.blocks.items c.self.inside.starts.items c.self.inside.lasts.items c.self.inside.spares.items c.self.invariant.0 c.args.self.now.blocks (ap (λ v. v.blocks) c.self.view_is) c.args.k c.requires.block c.get_mut-block.result.now c.get_mut-block.ensures.member), length-remove (block_at c.args.k c.args.self.now.blocks) c.args.place c.requires.place))
           (omega (arith, c.change.ensures.owed, c.requires.others, ap length (old-list (λ b. b.items) (λ b. vec_capacity b) c.self.inside.blocks.items c.self.inside.starts.items c.self.inside.lasts.items c.self.inside.spares.items c.self.invariant.0 c.args.self.now.blocks (ap (λ v. v.blocks) c.self.view_is) c.args.k c.requires.block c.get_mut-block.result.now c.get_mut-block.ensures.member), length-remove (block_at c.args.k c.args.self.now.blocks) c.args.place c.requires.place)),
     )
+
+pub returns-clause-spares : goal.returns-clause-spares
+returns-clause-spares c = grind (arith, common_steps)

@@ -1,5 +1,6 @@
 -- A block goes, or gets one less.
 use Rattle.std.proofs.Common.{length, ap, ◌∙◌, arith}
+use Rattle.std.proofs.lemmas.Grind.{common_steps}
 use Rattle.std.specs.List.{remove}
 use Rattle.std.proofs.lemmas.List.Edits.{length-remove}
 use Rattle.ec_blocks.specs.Chain.{joined, block_at, debt}
@@ -39,3 +40,6 @@ returns-clause-room g c =
       debt-set c.args.self.now.blocks c.locate-k.result.0 0 (remove (block_at c.locate-k.result.0 c.args.self.now.blocks) c.locate-k.result.1) c.locate-k.ensures.within
           (omega (arith, length-remove (block_at c.locate-k.result.0 c.args.self.now.blocks) c.locate-k.result.1 (omega arith))),
     )
+
+pub remove_block-requires-clause-alone : goal.remove_block-requires-clause-alone
+remove_block-requires-clause-alone c = grind (arith, common_steps)

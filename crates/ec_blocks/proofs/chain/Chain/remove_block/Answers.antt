@@ -1,5 +1,6 @@
 -- A block goes, and is a spare one.
 use Rattle.std.proofs.Common.{◌≡◌, ◌+◌, ◌-◌, ◌≤◌, length, [], map, ap, ◌∙◌, arith, sym}
+use Rattle.std.proofs.lemmas.Grind.{common_steps}
 use Rattle.std.specs.List.{remove}
 use Rattle.std.specs.Vec.{vec_capacity}
 use Rattle.std.proofs.lemmas.List.{nil_from_length}
@@ -79,3 +80,6 @@ invariant_of-self g c =
       counted-remove c.args.self.now.blocks _ c.args.k c.self.inside.counts.total c.self.inside.counts.owed _ _ (counted-same _ _ _ _ (ap (λ v. v.blocks) c.self.view_is) c.self.invariant.2) c.requires.block (returns-clause-blocks g c)
           (omega (arith, c.change.ensures.total, c.requires.alone)) (omega (arith, c.change.ensures.owed, c.requires.alone)),
     )
+
+pub returns-clause-spares : goal.returns-clause-spares
+returns-clause-spares c = grind (arith, common_steps)

@@ -1,5 +1,6 @@
 -- A block that changes, and keeps its length.
 use Rattle.std.proofs.Common.{◌+◌, length, length-set, set, sym, ap, ◌∙◌, arith}
+use Rattle.std.proofs.lemmas.Grind.{common_steps}
 use Rattle.std.specs.Prelude.{nat_eq}
 use Rattle.std.specs.Vec.{vec_capacity}
 use Rattle.ec_blocks.proofs.ChainLemmas.{last_of-set, lasts-count, place-within}
@@ -45,3 +46,6 @@ invariant_of-self g c = (
   counted-set c.args.self.now.blocks _ c.args.k (set (block_at c.args.k c.args.self.now.blocks) c.args.place c.args.x) c.self.inside.counts.total c.self.inside.counts.owed _ _ (counted-same _ _ _ _ (ap (λ v. v.blocks) c.self.view_is) c.self.invariant.2) c.requires.block (returns-clause-blocks g c)
       (omega (arith, length-set (block_at c.args.k c.args.self.now.blocks) c.args.place c.args.x)) (omega (arith, length-set (block_at c.args.k c.args.self.now.blocks) c.args.place c.args.x)),
 )
+
+pub returns-clause-spares : goal.returns-clause-spares
+returns-clause-spares c = grind (arith, common_steps)

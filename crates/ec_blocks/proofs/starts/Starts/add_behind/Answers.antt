@@ -1,5 +1,6 @@
 -- The parts of the group are added to, and the bases of the later groups.
 use Rattle.std.proofs.Common.{◌≡◌, ℕ, List, ◌+◌, ◌-◌, ◌%◌, ◌^◌, ◌<◌, ◌++◌, inl, inr, length, take, drop, map, get_or, sym, ap, ⊎_elim, ◌∙◌, length-drop, arith}
+use Rattle.std.proofs.lemmas.Grind.{common_steps}
 use Rattle.std.specs.Prelude.{nat_lt}
 use Rattle.std.specs.List.{list_all}
 use Rattle.std.proofs.lemmas.List.{get_or-drop}
@@ -46,3 +47,6 @@ add-requires-clause-ordered c = omega (arith, ap (λ v. length v.items) c.self.v
 
 pub add_from-requires : goal.add_from-requires
 add_from-requires c = omega (arith, c.self.invariant.1, ap (λ v. length v.items) c.self.view_is, numbers-behind c.self.inside.parts.items c.self.inside.bases c.self.inside.free)
+
+pub returns-clause-room : goal.returns-clause-room
+returns-clause-room c = grind (arith, common_steps)

@@ -1,5 +1,6 @@
 -- The halves meet where the numbers go beyond the one.
 use Rattle.std.proofs.Common.{◌≡◌, ℕ, ◌-◌, true, false, sym, subst, arith}
+use Rattle.std.proofs.lemmas.Grind.{common_steps}
 use Rattle.std.specs.Prelude.{nat_le}
 use Rattle.std.specs.List.Sorted.{IsPartitionPoint}
 use Rattle.ec_blocks.proofs.HalvingLemmas.{bracketed-none, bracketed-between, bracketed-cut}
@@ -26,3 +27,6 @@ pub returns-clause-cut : goal.returns-clause-cut
 returns-clause-cut c =
     subst (λ (n : ℕ). IsPartitionPoint (λ m. nat_le m c.args.i ≡ true) (λ m. nat_le m c.args.i ≡ false) c.args.self.now.items n) (sym c.choose.ensures)
     (bracketed-cut c.args.self.now.items c.args.i c.requires c.loop-size.low c.loop-size.size c.get-2.result c.loop-size.invariant (omega arith) c.get-2.ensures)
+
+pub returns-clause-within : goal.returns-clause-within
+returns-clause-within c = grind (arith, common_steps)

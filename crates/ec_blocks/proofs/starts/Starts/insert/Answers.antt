@@ -1,5 +1,6 @@
 -- The part stands beside the base of its group, and each later group takes one over.
 use Rattle.std.proofs.Common.{◌≡◌, ℕ, List, ◌+◌, ◌-◌, ◌%◌, ◌^◌, ◌≤◌, length, take, drop, sym, ap, ◌∙◌, length-drop, arith}
+use Rattle.std.proofs.lemmas.Grind.{common_steps}
 use Rattle.std.specs.List.{insert}
 use Rattle.std.proofs.lemmas.List.{take_rest}
 use Rattle.ec_blocks.specs.Starts.{numbers_of}
@@ -34,3 +35,6 @@ returns-clause-items c =
     (take_rest now g ∙ ap (drop g) c.deref_mut.ensures.value ∙ c.insert_part-self-inside.ensures.items) within
     (ap (λ b. (c.rebased-part.result + b) % 2 ^ 64) (sym c.get.ensures) ∙ c.rebased-part.ensures ∙ start) c.carry_up.ensures.len c.carry_up.ensures.moved c.carry_up.ensures.others
     ∙ ap (λ v. insert v.items c.args.k c.args.start) c.self.view_is
+
+pub returns-clause-room : goal.returns-clause-room
+returns-clause-room c = grind (arith, common_steps)

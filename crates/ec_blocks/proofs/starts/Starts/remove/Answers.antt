@@ -1,5 +1,6 @@
 -- Each later group gives one to the group in front.
 use Rattle.std.proofs.Common.{ℕ, List, ◌-◌, ◌<◌, length, take, drop, ap, ◌∙◌, length-drop, arith}
+use Rattle.std.proofs.lemmas.Grind.{common_steps}
 use Rattle.std.specs.List.{remove}
 use Rattle.std.proofs.lemmas.List.{take_rest}
 use Rattle.ec_blocks.specs.Starts.{numbers_of}
@@ -25,3 +26,18 @@ returns-clause-items c =
     (take_rest now f ∙ ap (drop f) (c.deref_mut.ensures.value ∙ c.remove.ensures.items) ∙ remove-behind f xs c.args.k (omega (arith, within, length-drop f xs))) within c.carry_down.ensures.len
     c.carry_down.ensures.moved c.carry_down.ensures.others
     ∙ ap (λ v. remove v.items c.args.k) c.self.view_is
+
+pub carry_down-requires : goal.carry_down-requires
+carry_down-requires c = grind (arith, common_steps)
+
+pub invariant_of-self : goal.invariant_of-self
+invariant_of-self c = grind (arith, common_steps)
+
+pub returns-clause-room : goal.returns-clause-room
+returns-clause-room c = grind (arith, common_steps)
+
+pub slice_bounds-carry_down-start : goal.slice_bounds-carry_down-start
+slice_bounds-carry_down-start c = grind (arith, common_steps)
+
+pub slice_bounds-carry_down-count : goal.slice_bounds-carry_down-count
+slice_bounds-carry_down-count c = grind (arith, common_steps)

@@ -1,5 +1,6 @@
 -- Neither free places nor further bases change a number.
 use Rattle.std.proofs.Common.{ℕ, List, length, drop, ap, ◌∙◌, length-drop, arith}
+use Rattle.std.proofs.lemmas.Grind.{common_steps}
 use Rattle.std.proofs.lemmas.Result.{on_ok_weaker}
 use Rattle.ec_blocks.specs.Starts.{numbers_of}
 use Rattle.ec_blocks.proofs.NumberLemmas.{numbers-behind, numbers-rebased}
@@ -31,3 +32,9 @@ returns-clause-ok c =
       ap (λ v. length v.items) c.self.view_is,
       numbers-behind c.self.inside.parts.items c.self.inside.bases c.self.inside.free,
     )) c.extend.ensures.ok
+
+pub returns-clause-room : goal.returns-clause-room
+returns-clause-room c = grind (arith, common_steps)
+
+pub overflow_add-len : goal.overflow_add-len
+overflow_add-len c = grind (arith, common_steps)

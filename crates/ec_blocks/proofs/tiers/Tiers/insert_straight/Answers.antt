@@ -1,5 +1,6 @@
 -- What lies behind all groups lies straight, and so does a group that is full now.
 use Rattle.std.proofs.Common.{◌*◌, ◌≤◌, length, refl, ap, ◌∙◌, arith}
+use Rattle.std.proofs.lemmas.Grind.{common_steps}
 use Rattle.std.specs.List.{insert}
 use Rattle.ec_blocks.specs.Tiers.{unrolled}
 use Rattle.ec_blocks.proofs.TierLemmas.{unrolled-length, insert-straight, group-more}
@@ -33,3 +34,12 @@ returns-else-len-eq0-clause-items g c =
     ap (unrolled c.self.inside.heads.items) c.insert_within.ensures.items
     ∙ insert-straight c.self.inside.heads.items c.self.inside.members.items (64 * length c.self.inside.heads.items) refl full c.args.k c.args.x (omega (arith, same, count, c.self.invariant.0))
     ∙ ap (λ v. insert v.items c.args.k c.args.x) c.self.view_is
+
+pub returns-then-len-eq0-clause-room : goal.returns-then-len-eq0-clause-room
+returns-then-len-eq0-clause-room c = grind (arith, common_steps)
+
+pub invariant_of-self : goal.invariant_of-self
+invariant_of-self c = grind (arith, common_steps)
+
+pub returns-else-len-eq0-clause-room : goal.returns-else-len-eq0-clause-room
+returns-else-len-eq0-clause-room c = grind (arith, common_steps)

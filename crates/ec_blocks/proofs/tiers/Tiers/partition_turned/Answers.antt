@@ -1,5 +1,6 @@
 -- The halves meet where what passes ends.
 use Rattle.std.proofs.Common.{◌+◌, ◌-◌, ◌/◌, inl, refl, length, arith}
+use Rattle.std.proofs.lemmas.Grind.{common_steps}
 use Rattle.ec_blocks.proofs.HalvingLemmas.{one-within}
 use Rattle.ec_blocks.proofs.SearchLemmas.{halving-step, halving-cut}
 use Rattle.ec_blocks.proofs.tiers.Tiers.partition_turned.Goals as goal
@@ -29,3 +30,6 @@ pub returns-clause-partitioned : goal.returns-clause-partitioned
 returns-clause-partitioned g c p computes parted =
     halving-cut p c.args.self.now.items parted c.loop-size.low c.loop-size.size c.choose.result c.get-2.result.now c.passes-2.result
     (c.loop-size.invariant.halving p computes parted) (omega arith) (omega arith) c.get-2.ensures (c.passes-2.ensures p computes) c.choose.ensures
+
+pub returns-clause-bound : goal.returns-clause-bound
+returns-clause-bound c = grind (arith, common_steps)

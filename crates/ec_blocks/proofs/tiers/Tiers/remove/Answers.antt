@@ -1,5 +1,6 @@
 -- What is carried goes back to its group, and the member itself is carried at last.
 use Rattle.std.proofs.Common.{◌-◌, ◌*◌, ◌/◌, length, sym, ap, ◌∙◌, arith}
+use Rattle.std.proofs.lemmas.Grind.{common_steps}
 use Rattle.std.specs.List.{insert}
 use Rattle.std.proofs.lemmas.List.Edits.{length-remove}
 use Rattle.ec_blocks.proofs.TierLemmas.{put-back, put-in-out, put-in-get}
@@ -28,3 +29,6 @@ pub returns-clause-items : goal.returns-clause-items
 returns-clause-items g c =
     put-in-out c.shift_out.new.self.items c.args.self.now.items c.args.k c.shift_out.result (omega (arith, c.loop-at.invariant.len, c.shift_out.ensures.len))
     (sym c.shift_out.ensures.items ∙ ap (λ n. insert c.loop-at.self.items n c.loop-at.carried) (omega (arith, c.loop-at.invariant.from, c.loop-at-test.false)) ∙ c.loop-at.invariant.items)
+
+pub loop-at-preserved : goal.loop-at-preserved
+loop-at-preserved c = grind (arith, common_steps)

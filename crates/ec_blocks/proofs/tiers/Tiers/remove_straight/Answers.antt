@@ -1,5 +1,6 @@
 -- What lies behind all full groups lies straight.
 use Rattle.std.proofs.Common.{◌*◌, Some, length, get_or, refl, sym, ap, ◌∙◌, arith}
+use Rattle.std.proofs.lemmas.Grind.{common_steps}
 use Rattle.std.specs.List.{remove}
 use Rattle.std.proofs.lemmas.Option.{slice_get-get_or}
 use Rattle.ec_blocks.specs.Tiers.{unrolled}
@@ -32,3 +33,15 @@ returns-else-len-eq0-clause-items g c =
     ∙ remove-straight c.self.inside.heads.items c.self.inside.members.items (64 * length c.self.inside.heads.items) refl (omega (arith, c.self.invariant.0)) c.args.k
     (omega (arith, same, count, c.self.invariant.0, c.len.ensures, c.if-len-eq0.false, c.requires.last))
     ∙ ap (λ v. remove v.items c.args.k) c.self.view_is
+
+pub returns-then-len-eq0-clause-member : goal.returns-then-len-eq0-clause-member
+returns-then-len-eq0-clause-member c = grind (arith, common_steps)
+
+pub returns-then-len-eq0-clause-items : goal.returns-then-len-eq0-clause-items
+returns-then-len-eq0-clause-items c = grind (arith, common_steps)
+
+pub returns-else-len-eq0-clause-room : goal.returns-else-len-eq0-clause-room
+returns-else-len-eq0-clause-room c = grind (arith, common_steps)
+
+pub returns-then-len-eq0-clause-room : goal.returns-then-len-eq0-clause-room
+returns-then-len-eq0-clause-room c = grind (arith, common_steps)

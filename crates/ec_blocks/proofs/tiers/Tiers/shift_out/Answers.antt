@@ -1,5 +1,6 @@
 -- One group is written over.
 use Rattle.std.proofs.Common.{◌≡◌, ℕ, ◌+◌, ◌-◌, ◌*◌, ◌/◌, ◌<◌, ◌≤◌, List, ◌++◌, ◌∷◌, [], length, get_or, take, drop, set, sym, ap, ◌∙◌, arith}
+use Rattle.std.proofs.lemmas.Grind.{common_steps}
 use Rattle.std.specs.List.{insert}
 use Rattle.std.proofs.lemmas.List.{get_or_read}
 use Rattle.ec_blocks.specs.Tiers.{turned, unrolled}
@@ -53,3 +54,9 @@ returns-clause-len g c =
     unrolled-length hs (take c.self.inside.members.len (new ++ drop (length new) ms))
     ∙ ap length (whole c.self.inside.members.len new ms (c.take_out_of_group-out.ensures.len ∙ c.deref_mut.ensures.len))
     ∙ omega (arith, c.take_out_of_group-out.ensures.len, c.deref_mut.ensures.len, ap (λ v. length v.items) c.self.view_is, unrolled-length c.self.inside.heads.items c.self.inside.members.items)
+
+pub index_mut-requires : goal.index_mut-requires
+index_mut-requires c = grind (arith, common_steps)
+
+pub returns-clause-room : goal.returns-clause-room
+returns-clause-room c = grind (arith, common_steps)
