@@ -6,7 +6,7 @@ use Rattle.std.proofs.lemmas.List.{length-map, get_or-map, get_or-drop, map-set}
 use Rattle.std.proofs.lemmas.Bool.Decides.{nat_tests}
 use Rattle.std.proofs.lemmas.List.Edits.{length-insert, length-remove}
 use Rattle.std.proofs.lemmas.List.Folds.{list_all-append}
-use Rattle.ec_rows.proofs.OrderedLemmas.{and-left, and-right}
+use Rattle.ec_lists.proofs.Booleans.{and-left, and-right}
 use Rattle.ec_blocks.specs.Chain.{joined, block_at, start_of, last_of, starts_from, is_block}
 use Rattle.ec_blocks.specs.ChainParts.{IsChain, is_kept}
 use Rattle.ec_blocks.proofs.StartLemmas.{starts-length, starts-at, starts-same, starts-more, starts-less}

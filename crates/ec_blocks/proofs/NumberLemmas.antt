@@ -7,7 +7,7 @@ use Rattle.std.proofs.lemmas.Bool.Decides.{nat_tests}
 use Rattle.std.proofs.lemmas.List.{length-map, length-take-le, take_at, get_or-take, get_or-drop, get_or-map, get_or_append_left, get_or-append_right}
 use Rattle.std.proofs.lemmas.List.Edits.{length-insert, length-remove, get_or-insert_below, get_or-insert_at, get_or-insert_above, get_or-remove_below, get_or-remove_above}
 use Rattle.std.proofs.lemmas.List.FromFn.{length-map-range_with_len, get_or-map-range_with_len, fill_by_all}
-use Rattle.ec_rows.proofs.OrderedLemmas.{and-left, and-right}
+use Rattle.ec_lists.proofs.Booleans.{and-left, and-right}
 use Rattle.ec_blocks.specs.Starts.{number_at, numbers_of, lifted}
 
 -- ---- sums modulo 2 ^ 64

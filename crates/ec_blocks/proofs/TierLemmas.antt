@@ -9,7 +9,7 @@ use Rattle.std.proofs.lemmas.List.{append-nil, length-take-le, take-append-drop,
 use Rattle.std.proofs.lemmas.List.Edits.{insert-append_left, insert-append_right, remove-append_right, length-insert, get_or-insert_at, paste_all}
 use Rattle.std.proofs.lemmas.Slice.{put_mid-paste}
 use Rattle.std.proofs.lemmas.Option.{slice_get-get_or}
-use Rattle.ec_rows.proofs.OrderedLemmas.{and-left, and-right}
+use Rattle.ec_lists.proofs.Booleans.{and-left, and-right}
 use Rattle.ec_blocks.specs.Tiers.{turned, unrolled, place_of}
 use Rattle.ec_blocks.proofs.ChainLemmas.{list_all-set}
 

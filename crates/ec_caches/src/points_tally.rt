@@ -4,7 +4,7 @@ ghost use Rattle.ec_rows.specs.Marks.{IsMarkRow, is_counted, are_before, has_mar
 
 use crate::fixtures::boxed;
 use crate::points::{initiation, mark_of, put};
-use ec_blocks::BlockMarks;
+use ec_block_rows::BlockMarks;
 use ec_layers::tables::row_of;
 use ec_moment::{Moment, Tick};
 use ec_points::Points;

@@ -6,7 +6,7 @@ ghost use Rattle.std.specs.Prelude.{◌≡◌, ◌<◌, ◌^◌, length};
 
 use crate::fixtures::{boxed, term_of};
 use ec_axioms::{Event, Steps, Update};
-use ec_blocks::{BlockMarks, BlockSpans, BlockTimes};
+use ec_block_rows::{BlockMarks, BlockSpans, BlockTimes};
 use ec_check::Checked;
 use ec_engine::Engine;
 use ec_layers::tally::TallySpans;

@@ -1,7 +1,6 @@
 use ec_context::EntryList;
 use ec_moment::Moment;
-use ec_rows::Copied;
-use ec_terms::Slot;
+use ec_terms::{Copied, Slot};
 
 /// What is kept of one event: its time, its entries, and which of them are active. Bit k of `active` stands for the
 /// entry at place k of the list.

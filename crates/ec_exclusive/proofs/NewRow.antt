@@ -6,7 +6,7 @@ use Rattle.ec_terms.specs.declared.ids.PropId.{PropId}
 use Rattle.ec_terms.specs.declared.ground.Ground.{Ground}
 use Rattle.ec_terms.specs.declared.theory.Theory.{Theory}
 use Rattle.ec_terms.proofs.DomainLemmas.{are_exclusive-comm, are_exclusive-itself}
-use Rattle.ec_rows.proofs.OrderedLemmas.{and-right}
+use Rattle.ec_lists.proofs.Booleans.{and-right}
 use Rattle.ec_store.specs.Table.{KeptProp, prop_at, term_at}
 use Rattle.ec_numbered.specs.PropSet.{has_number, are_ascending, with_number}
 use Rattle.ec_exclusive.specs.Added.{Added, is_added, added_props, AreMutual, added_of}

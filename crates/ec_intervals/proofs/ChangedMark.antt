@@ -11,7 +11,8 @@ use Rattle.ec_rows.specs.declared.mark.Mark.{Mark}
 use Rattle.ec_rows.specs.Marks.{IsMarkRow, is_counted, mark_before, mark_at, marks_before, marks_after}
 use Rattle.ec_rows.specs.Ordered.{is_ascending}
 use Rattle.ec_rows.proofs.KnownByTimes.{by_time-ext}
-use Rattle.ec_rows.proofs.OrderedLemmas.{and-left, and-right, ascending-first, ascending-rest, is_ascending-filter}
+use Rattle.ec_lists.proofs.Booleans.{and-left, and-right}
+use Rattle.ec_rows.proofs.OrderedLemmas.{ascending-first, ascending-rest, is_ascending-filter}
 use Rattle.ec_intervals.proofs.PassOrder.{list_all-cons, is_ascending-cons}
 use Rattle.ec_intervals.proofs.TwoRows.{list_all-both}
 use Rattle.ec_lists.proofs.Booleans.{cond-same}

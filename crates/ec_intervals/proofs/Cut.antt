@@ -7,7 +7,7 @@ use Rattle.std.proofs.lemmas.List.{append-nil, append_assoc, append_cancel_left}
 use Rattle.std.proofs.lemmas.List.Elements.{filter-append}
 use Rattle.ec_axioms.specs.Timeline.{Begin, before_all, begin_at, Interval}
 use Rattle.ec_axioms.specs.Marks.{PlainMark, is_marked, mark_initiates, mark_terminates, mark_breaks, row_starts}
-use Rattle.ec_rows.proofs.OrderedLemmas.{and-left, and-right}
+use Rattle.ec_lists.proofs.Booleans.{and-left, and-right}
 use Rattle.ec_intervals.specs.Steps.{open_behind, ended_by, interval_up_to, unended_interval, begins_where, ends_where, lasting, open_through, ended_through, spelt_through}
 use Rattle.ec_intervals.proofs.Pass.{IsPlainRow, IsPlainRow-rest, pass, outcome, started, interval_by, next_mark, breaks-terminates, is_some-open_behind, pass-starts, closing-ended_by, list_all-row_starts}
 use Rattle.ec_intervals.proofs.PassOrder.{list_all-cons}

@@ -12,7 +12,7 @@ use Rattle.ec_axioms.proofs.Ranks.{int_lt-not_after}
 use Rattle.ec_rows.specs.PlainMarks.{plain_marks}
 use Rattle.ec_rows.specs.Marks.{IsMarkRow, marks_before}
 use Rattle.ec_rows.specs.declared.mark.Mark.{Mark}
-use Rattle.ec_rows.proofs.OrderedLemmas.{and-left, and-right}
+use Rattle.ec_lists.proofs.Booleans.{and-left, and-right}
 use Rattle.ec_intervals.specs.Broken.{passes_after, first_after}
 use Rattle.ec_intervals.specs.Steps.{first_open, open_behind, open_through, broken_by, broken_through}
 use Rattle.ec_intervals.proofs.Pass.{pass, broken_begin_by, closing-broken_by, pass-broken_spans_of}

@@ -12,7 +12,7 @@ use Rattle.ec_axioms.proofs.Members.{list_all-member, list_all-from_members}
 use Rattle.ec_rows.specs.declared.mark.Mark.{Mark}
 use Rattle.ec_rows.specs.Marks.{IsMarkRow, marks_before, marks_after}
 use Rattle.ec_rows.specs.PlainMarks.{plain_mark, plain_marks}
-use Rattle.ec_rows.proofs.OrderedLemmas.{and-left, and-right}
+use Rattle.ec_lists.proofs.Booleans.{and-left, and-right}
 use Rattle.ec_intervals.specs.ChangedRows.{initiates_within}
 use Rattle.ec_intervals.specs.Steps.{first_open, open_behind, ended_by, interval_up_to, open_through, ended_through}
 use Rattle.ec_intervals.proofs.Pass.{pass, interval_by, pass-spans_of}

@@ -13,7 +13,8 @@ use Rattle.ec_axioms.specs.Marks.{PlainMark, is_marked, mark_initiates, mark_ter
 use Rattle.ec_axioms.proofs.Ranks.{int_lt-same, int_lt-not_after, int_eq-same}
 use Rattle.ec_axioms.proofs.Members.{IsMember, IsMember-from_filter, find-map, find-Some, filter-map, list_all-member, find_agree_members}
 use Rattle.ec_rows.specs.Ordered.{is_ascending}
-use Rattle.ec_rows.proofs.OrderedLemmas.{and-left, and-right, ascending-first, ascending-rest}
+use Rattle.ec_lists.proofs.Booleans.{and-left, and-right}
+use Rattle.ec_rows.proofs.OrderedLemmas.{ascending-first, ascending-rest}
 use Rattle.ec_intervals.specs.Steps.{first_open, open_behind, ended_by, broken_by, interval_up_to, unended_interval}
 use Rattle.ec_lists.proofs.Filters.{filter-all, filter-each}
 use Rattle.ec_lists.proofs.Options.{cons_option-is_append}

@@ -6,7 +6,8 @@ use Rattle.std.specs.Option.{option_map_or, option_and_then, option_to_list}
 use Rattle.ec_axioms.specs.Timeline.{Begin, begin_at, Interval, is_after}
 use Rattle.ec_axioms.specs.Marks.{PlainMark, mark_initiates, mark_terminates, mark_breaks}
 use Rattle.ec_rows.specs.Ordered.{is_ascending}
-use Rattle.ec_rows.proofs.OrderedLemmas.{and-left, and-right, ascending-first, ascending-rest}
+use Rattle.ec_lists.proofs.Booleans.{and-left, and-right}
+use Rattle.ec_rows.proofs.OrderedLemmas.{ascending-first, ascending-rest}
 use Rattle.ec_intervals.specs.Steps.{first_open, open_behind, interval_up_to, is_proper, begins_from, comes_before, IsIntervalRow}
 use Rattle.ec_intervals.proofs.Pass.{IsPlainRow, IsPlainRow-rest, behind_first, closing, pass, interval_by}
 use Rattle.ec_lists.proofs.Tests.{list_all-weaker, list_all-each, list_all-front}

@@ -11,7 +11,7 @@ use Rattle.ec_axioms.specs.Timeline.{before_all}
 use Rattle.ec_axioms.specs.Marks.{PlainMark}
 use Rattle.ec_rows.specs.PlainMarks.{plain_mark, plain_marks}
 use Rattle.ec_rows.specs.declared.mark.Mark.{Mark}
-use Rattle.ec_rows.proofs.OrderedLemmas.{and-left, and-right}
+use Rattle.ec_lists.proofs.Booleans.{and-left, and-right}
 use Rattle.ec_intervals.specs.declared.draft.Draft.{Draft}
 use Rattle.ec_intervals.specs.declared.interval.Begin.{Begin}
 use Rattle.ec_intervals.specs.declared.interval.Begin.TheVariants.{Initial, At}

@@ -15,7 +15,8 @@ use Rattle.ec_rows.specs.Spans.{IsSpanRow, is_covering, reaches, ends_by, ends_a
 use Rattle.ec_rows.specs.declared.span.End.{End}
 use Rattle.ec_rows.specs.declared.span.End.TheVariants.{At, Unended}
 use Rattle.ec_rows.specs.declared.span.Span.{Span}
-use Rattle.ec_rows.proofs.OrderedLemmas.{and-left, and-right, ascending-first, ascending-rest}
+use Rattle.ec_lists.proofs.Booleans.{and-left, and-right}
+use Rattle.ec_rows.proofs.OrderedLemmas.{ascending-first, ascending-rest}
 use Rattle.ec_rows.proofs.SpanLemmas.{by_time-from_row}
 use Rattle.ec_intervals.specs.Steps.{ends_before, begins_behind}
 use Rattle.ec_intervals.specs.Table.{plain_spans, plain_interval, plain_end, span_interval, spans_up_to}

@@ -23,7 +23,7 @@ use Rattle.ec_rows.specs.Spans.{IsSpanRow, is_covering, reaches}
 use Rattle.ec_rows.specs.declared.mark.Mark.{Mark}
 use Rattle.ec_rows.specs.declared.span.End.{End}
 use Rattle.ec_rows.specs.declared.span.Span.{Span}
-use Rattle.ec_rows.proofs.OrderedLemmas.{and-left, and-right}
+use Rattle.ec_lists.proofs.Booleans.{and-left, and-right}
 use Rattle.ec_intervals.specs.declared.draft.Draft.{Draft}
 use Rattle.ec_intervals.specs.declared.interval.Begin.{Begin as Begun}
 use Rattle.ec_intervals.specs.declared.interval.Begin.TheVariants.{Initial}

@@ -12,7 +12,7 @@ use Rattle.ec_axioms.specs.Timeline.{Begin, before_all, begin_at, Interval}
 use Rattle.ec_axioms.specs.Marks.{PlainMark, is_marked, mark_initiates, mark_terminates, mark_breaks}
 use Rattle.ec_axioms.proofs.Members.{IsMember, IsMember-append_cases, list_all-member, list_all-from_members, find-Some, IsMember-append_left}
 use Rattle.ec_axioms.proofs.Ranks.{int_le-not_before}
-use Rattle.ec_rows.proofs.OrderedLemmas.{and-left, and-right}
+use Rattle.ec_lists.proofs.Booleans.{and-left, and-right}
 use Rattle.ec_intervals.specs.Steps.{first_open, begins_where, ends_where, ends_before, begins_behind, lasting, open_through, ended_through, ends_by, end_behind}
 use Rattle.ec_intervals.proofs.Pass.{IsPlainRow, pass, interval_by}
 use Rattle.ec_intervals.proofs.Cut.{filter-front, cut-front, cut-behind, IsPlainRow-behind, pass-append, pass-spelt_through, is_some-open_through, fate, lasting-other, later, pass-later, pass-behind, ended_through-ends, later-begins, ended_through-begins, open_through-begins, ended_through-before_all, open_through-append, ended_through-append}

@@ -18,7 +18,8 @@ use Rattle.ec_rows.specs.declared.mark.Mark.{Mark}
 use Rattle.ec_rows.specs.declared.span.End.{End}
 use Rattle.ec_rows.specs.declared.span.End.TheVariants.{At as Ended, Unended}
 use Rattle.ec_rows.specs.declared.span.Span.{Span}
-use Rattle.ec_rows.proofs.OrderedLemmas.{and-right, ascending-rest}
+use Rattle.ec_lists.proofs.Booleans.{and-right}
+use Rattle.ec_rows.proofs.OrderedLemmas.{ascending-rest}
 use Rattle.ec_intervals.specs.declared.interval.Begin.TheVariants.{Initial}
 use Rattle.ec_intervals.specs.declared.interval.Interval.{Interval}
 use Rattle.ec_intervals.specs.Steps.{first_open, is_proper, comes_before, IsIntervalRow}

@@ -4,7 +4,7 @@ ghost use Rattle.std.specs.List.{splice, list_all};
 ghost use Rattle.ec_rows.specs.Spans.{IsSpanRow, is_proper, span_before};
 
 use crate::blocks::Draws;
-use ec_blocks::BlockSpans;
+use ec_block_rows::BlockSpans;
 use ec_moment::{Moment, Tick};
 use ec_rows::{End, Span, SpanRow, VecSpans};
 use ec_terms::NoMemory;

@@ -3,7 +3,7 @@ ghost use Rattle.std.specs.Prelude.{◌≡◌};
 ghost use Rattle.ec_rows.specs.Times.{is_entry, has_entry};
 
 use crate::blocks::Draws;
-use ec_blocks::BlockTimes;
+use ec_block_rows::BlockTimes;
 use ec_moment::{Moment, Tick};
 use ec_rows::{TimeRow, VecTimes};
 use ec_terms::{Name, Slot};

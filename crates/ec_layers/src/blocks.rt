@@ -1,7 +1,8 @@
 //! What no clause shows: that memory is given, and that a row in blocks and one in a `Vec` go the same way.
 ghost use Rattle.std.specs.Prelude.{◌<◌};
 
-use ec_blocks::{BlockMarks, Blocks};
+use ec_block_rows::BlockMarks;
+use ec_blocks::Blocks;
 use ec_moment::Tick;
 use ec_rows::{Mark, MarkRow, VecMarks};
 use ec_terms::PropId;

@@ -1,11 +1,18 @@
 -- Truth values, and what a choice between two values is.
-use Rattle.std.proofs.Common.{◌≡◌, Bool, true, false, not, cond, ◌||◌, List, map, Option, Some, None, option_map, is_some, refl, sym, ◌⊎◌, inl, inr, arith}
+use Rattle.std.proofs.Common.{◌≡◌, Bool, true, false, not, cond, ◌&&◌, ◌||◌, List, map, Option, Some, None, option_map, is_some, refl, sym, ◌⊎◌, inl, inr, arith}
 use Rattle.std.specs.Prelude.{if◌then◌else◌}
 use Rattle.std.proofs.lemmas.Bool.{false≢true}
 
 -- where the first of two fails, the second holds
 pub or_second : (a b : Bool) → a ≡ false → (a || b) ≡ true → b ≡ true
 or_second a b first some = grind arith
+
+-- where both hold, each does
+pub and-left : (a b : Bool) → (a && b) ≡ true → a ≡ true
+and-left a b both = grind arith
+
+pub and-right : (a b : Bool) → (a && b) ≡ true → b ≡ true
+and-right a b both = grind arith
 
 -- ---- choices
 

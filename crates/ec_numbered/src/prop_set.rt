@@ -16,7 +16,7 @@ impl Model for PropSet {
     ghost use Rattle.std.specs.Prelude.{◌-◌, IsTrue, vec_len};
     ghost use Rattle.std.specs.Vec.{vec_capacity};
     ghost use Rattle.ec_terms.specs.declared.ids.PropId.{PropId};
-    ghost use Rattle.ec_rows.specs.Ordered.{Reserved};
+    ghost use Rattle.ec_terms.specs.Reserved.{Reserved};
     ghost use Rattle.ec_numbered.specs.PropSet.{are_ascending};
 
     ghost Value = { Reserved PropId };

@@ -7,8 +7,7 @@ ghost use Rattle.ec_points.specs.Clashes.{are_clashes, clash_cmp, has_clash, is_
 
 use ec_blocks::Blocks;
 use ec_moment::Moment;
-use ec_rows::Copied;
-use ec_terms::{NoMemory, PropId};
+use ec_terms::{Copied, NoMemory, PropId};
 use std::alloc::Global;
 use std::cmp::Ordering;
 use std::marker::Model;
@@ -34,7 +33,7 @@ pub(crate) struct Clashes<T: Moment> {
 
 impl<T: Moment> Model for Clashes<T> {
     ghost use Rattle.std.specs.Prelude.{IsTrue};
-    ghost use Rattle.ec_rows.specs.Ordered.{Reserved};
+    ghost use Rattle.ec_terms.specs.Reserved.{Reserved};
     ghost use Rattle.ec_points.specs.declared.clashes.Clash.{Clash};
     ghost use Rattle.ec_points.specs.Clashes.{are_clashes};
 

@@ -13,7 +13,8 @@ use Rattle.ec_rows.specs.Ordered.{is_ascending, by_time}
 use Rattle.ec_rows.specs.declared.span.End.{End}
 use Rattle.ec_rows.specs.declared.span.End.TheVariants.{At, Unended}
 use Rattle.ec_rows.specs.declared.span.Span.{Span}
-use Rattle.ec_rows.proofs.OrderedLemmas.{and-left, and-right, ascending-first, ascending-rest}
+use Rattle.ec_lists.proofs.Booleans.{and-left, and-right}
+use Rattle.ec_rows.proofs.OrderedLemmas.{ascending-first, ascending-rest}
 use Rattle.ec_intervals.specs.Table.{front_members, span_interval, plain_end, plain_interval, plain_intervals, plain_spans}
 use Rattle.ec_intervals.proofs.Spliced.{plain-members}
 use Rattle.ec_lists.proofs.Integers.{int_lt-not_after, int_lt-behind, int_eq-same, int_eq-from_gt, int_eq-from_lt}

@@ -13,18 +13,12 @@ use Rattle.std.proofs.lemmas.List.Elements.{filter_passes}
 use Rattle.std.proofs.lemmas.List.Sums.{AllPass-from_list_all, list_all-from_AllPass}
 use Rattle.std.proofs.lemmas.List.Folds.{list_all-append}
 use Rattle.ec_rows.specs.Ordered.{is_ascending, with_member}
+use Rattle.ec_lists.proofs.Booleans.{and-left, and-right}
 use Rattle.ec_lists.proofs.Filters.{filter-all}
 use Rattle.ec_lists.proofs.Orderings.{Less-from_is_lt}
 use Rattle.ec_lists.proofs.Tests.{list_any-none, list_any-none_at, list_all-weaker, list_all-filter, list_all-remove}
 
 -- ---- tests of all members
-
--- the parts of a test that holds
-pub and-left : (a b : Bool) → (a && b) ≡ true → a ≡ true
-and-left a b both = grind arith
-
-pub and-right : (a b : Bool) → (a && b) ≡ true → b ≡ true
-and-right a b both = grind arith
 
 -- the first member of an ascending list stands before all others
 pub ascending-first : {X : Type 0} (stands_before : X → X → Bool) (x : X) (xs : List X) → is_ascending stands_before (x ∷ xs) ≡ true →

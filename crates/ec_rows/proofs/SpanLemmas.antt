@@ -9,7 +9,8 @@ use Rattle.ec_rows.specs.declared.span.End.TheVariants.{At, Unended}
 use Rattle.ec_rows.specs.declared.span.Span.{Span}
 use Rattle.ec_rows.specs.Ordered.{is_ascending, by_time}
 use Rattle.ec_rows.specs.Spans.{IsSpanRow, ends_after, ends_by, reaches, is_proper, span_before, is_covering}
-use Rattle.ec_rows.proofs.OrderedLemmas.{and-left, and-right, ascending-first, ascending-rest}
+use Rattle.ec_lists.proofs.Booleans.{and-left, and-right}
+use Rattle.ec_rows.proofs.OrderedLemmas.{ascending-first, ascending-rest}
 use Rattle.ec_rows.proofs.TimedLemmas.{IsCutBefore}
 use Rattle.ec_lists.proofs.Integers.{int_lt_le-trans}
 use Rattle.ec_lists.proofs.Tests.{list_all-weaker}

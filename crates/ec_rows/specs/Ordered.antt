@@ -12,11 +12,6 @@ is_ascending stands_before (x ∷ xs) = list_all (stands_before x) xs && is_asce
 abbrev pub with_member : {X : Type 0} → (X → X → Bool) → X → List X → List X
 with_member stands_before x xs = filter (λ y. stands_before y x) xs ++ x ∷ filter (λ y. stands_before x y) xs
 
--- a list, and how many further members it takes without memory
-pub record Reserved (X : Type 0) : Type 0 where
-  pub items : List X
-  pub spare : ℕ
-
 -- ---- by time
 
 -- a member stands before another where its time is earlier

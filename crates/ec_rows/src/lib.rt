@@ -4,7 +4,6 @@
 //! members that it takes without memory. A row over `Vec` implements each.
 #![tactic(auto)]
 
-mod copied;
 mod edits;
 mod laws;
 mod mark;
@@ -17,7 +16,6 @@ mod vec_marks;
 mod vec_spans;
 mod vec_times;
 
-pub use copied::Copied;
 pub use laws::rows_ext;
 pub use mark::Mark;
 pub use mark_row::MarkRow;

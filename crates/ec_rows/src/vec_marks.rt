@@ -22,7 +22,7 @@ impl<T: Moment> Model for VecMarks<T> {
     ghost use Rattle.std.specs.Prelude.{◌-◌, vec_len};
     ghost use Rattle.std.specs.Vec.{vec_capacity};
     ghost use Rattle.ec_rows.specs.declared.mark.Mark.{Mark};
-    ghost use Rattle.ec_rows.specs.Ordered.{Reserved};
+    ghost use Rattle.ec_terms.specs.Reserved.{Reserved};
     ghost use Rattle.ec_rows.specs.Marks.{IsMarkRow};
 
     ghost Value = { Reserved (Mark T) };

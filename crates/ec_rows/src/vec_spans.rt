@@ -21,7 +21,7 @@ impl<T: Moment> Model for VecSpans<T> {
     ghost use Rattle.std.specs.Prelude.{◌-◌, vec_len};
     ghost use Rattle.std.specs.Vec.{vec_capacity};
     ghost use Rattle.ec_rows.specs.declared.span.Span.{Span};
-    ghost use Rattle.ec_rows.specs.Ordered.{Reserved};
+    ghost use Rattle.ec_terms.specs.Reserved.{Reserved};
     ghost use Rattle.ec_rows.specs.Spans.{IsSpanRow};
 
     ghost Value = { Reserved (Span T) };

@@ -22,7 +22,7 @@ impl<T: Moment> Model for VecTimes<T> {
     ghost use Rattle.std.specs.Prelude.{◌-◌, ℕ, List, vec_len};
     ghost use Rattle.std.specs.Vec.{vec_capacity};
     ghost use Rattle.ec_terms.specs.declared.ids.Slot.{Slot};
-    ghost use Rattle.ec_rows.specs.Ordered.{Reserved};
+    ghost use Rattle.ec_terms.specs.Reserved.{Reserved};
     ghost use Rattle.ec_rows.specs.Times.{IsTimeRow};
 
     ghost Value = { Reserved (T × List ℕ × Slot) };

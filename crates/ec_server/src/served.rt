@@ -7,7 +7,7 @@ ghost use Rattle.ec_server.specs.ExitStatus.{hands_on};
 use crate::input::serve_input;
 use crate::status::Status;
 use ec_axioms::Steps;
-use ec_blocks::{BlockMarks, BlockSpans, BlockTimes};
+use ec_block_rows::{BlockMarks, BlockSpans, BlockTimes};
 use ec_check::Checked;
 use ec_lines::Feed;
 use ec_moment::Tick;

@@ -11,7 +11,8 @@ use Rattle.ec_terms.specs.declared.ids.PropId.{PropId}
 use Rattle.ec_terms.specs.Term.{term_cmp, term_eq}
 use Rattle.ec_terms.proofs.OrderLemmas.{term_cmp-total, term_cmp-exact, term_cmp-Equal, term_eq-Decides}
 use Rattle.ec_rows.specs.Ordered.{is_ascending}
-use Rattle.ec_rows.proofs.OrderedLemmas.{IsOrder, IsOrder-by_key, and-left, and-right, ascending-first, ascending-rest}
+use Rattle.ec_lists.proofs.Booleans.{and-left, and-right}
+use Rattle.ec_rows.proofs.OrderedLemmas.{IsOrder, IsOrder-by_key, ascending-first, ascending-rest}
 use Rattle.ec_store.specs.Table.{KeptProp, prop_at, term_at, mentions_at, prop_of, prop_before, is_in_order, without_prop, mentioned, with_mentions, number_of}
 use Rattle.ec_lists.proofs.Booleans.{option_map-cond, cond_comm, cond-same, cond-again}
 use Rattle.ec_lists.proofs.Finds.{find-none, is_some-find}

@@ -7,7 +7,8 @@ use Rattle.std.proofs.lemmas.Bool.{cases_Bool, false≢true}
 use Rattle.ec_terms.specs.declared.ground.Ground.{Ground}
 use Rattle.ec_terms.specs.declared.ids.PropId.{PropId}
 use Rattle.ec_terms.specs.Term.{term_cmp, term_eq}
-use Rattle.ec_rows.proofs.OrderedLemmas.{and-left, and-right, ascending-first, ascending-rest, is_ascending-with_member, is_ascending-filter}
+use Rattle.ec_lists.proofs.Booleans.{and-left, and-right}
+use Rattle.ec_rows.proofs.OrderedLemmas.{ascending-first, ascending-rest, is_ascending-with_member, is_ascending-filter}
 use Rattle.ec_store.specs.Table.{KeptProp, prop_at, term_at, prop_of, prop_before, is_in_order, unmentioned, with_prop, without_prop, mentioned, with_mentions, kept_as, number_of, kept_of, IsTable}
 use Rattle.ec_store.specs.declared.property.Property.{Property}
 use Rattle.ec_store.proofs.HeldLemmas.{map-insert, map-remove}

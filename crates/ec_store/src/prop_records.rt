@@ -24,7 +24,7 @@ pub(crate) struct Records {
 impl Model for Records {
     ghost use Rattle.std.specs.Prelude.{◌-◌, min};
     ghost use Rattle.slab.specs.Slab.{get as property_at, slab_len};
-    ghost use Rattle.ec_rows.specs.Ordered.{Reserved};
+    ghost use Rattle.ec_terms.specs.Reserved.{Reserved};
     ghost use Rattle.ec_store.specs.Table.{KeptProp, kept_of, IsTable};
 
     ghost Value = { Reserved KeptProp };

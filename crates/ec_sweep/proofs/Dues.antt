@@ -9,7 +9,7 @@ use Rattle.std.proofs.Math.Bool.{or-false, or_assoc, or-true}
 use Rattle.ec_lists.proofs.Booleans.{or_second}
 use Rattle.ec_lists.proofs.Integers.{int_eq-is, int_eq-same, int_le-from_lt, int_le-same, int_lt-not_le}
 use Rattle.ec_lists.proofs.Tests.{list_any-none, list_all-weaker}
-use Rattle.ec_rows.proofs.OrderedLemmas.{and-left}
+use Rattle.ec_lists.proofs.Booleans.{and-left}
 use Rattle.ec_terms.specs.declared.ids.PropId.{PropId}
 use Rattle.ec_numbered.specs.PropSet.{has_number}
 use Rattle.ec_numbered.specs.Due.{Due, are_in_order, comes_before, has_due, is_due}

@@ -10,7 +10,7 @@ use Rattle.std.proofs.lemmas.Option.{slice_get_cases}
 use Rattle.ec_lists.proofs.Fronts.{drop-slice_get}
 use Rattle.ec_lists.proofs.Booleans.{or_second}
 use Rattle.ec_lists.proofs.Integers.{int_eq-is, int_eq-same, int_le-is, int_le-from, int_le-from_lt, int_le-same}
-use Rattle.ec_rows.proofs.OrderedLemmas.{and-left}
+use Rattle.ec_lists.proofs.Booleans.{and-left}
 use Rattle.ec_lists.proofs.Tests.{list_all-weaker}
 use Rattle.ec_rows.specs.Ordered.{is_ascending}
 use Rattle.ec_lists.proofs.Options.{None-from_option_map}

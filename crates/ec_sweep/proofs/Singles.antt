@@ -15,7 +15,7 @@ use Rattle.ec_axioms.proofs.Instants.{int_le-comes_before}
 use Rattle.ec_store.specs.Store.{Kept, event_at, history_of, plain_of}
 use Rattle.ec_store.specs.Table.{KeptProp}
 use Rattle.ec_rows.specs.Ordered.{is_ascending}
-use Rattle.ec_rows.proofs.OrderedLemmas.{and-left, and-right}
+use Rattle.ec_lists.proofs.Booleans.{and-left, and-right}
 use Rattle.ec_revise.specs.declared.change.Change.{Change}
 use Rattle.ec_revise.specs.declared.change.Removal.{Removal}
 use Rattle.ec_revise.specs.Change.{IsChange}

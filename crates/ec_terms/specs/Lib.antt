@@ -10,3 +10,4 @@ pub mod Binding
 pub mod MatchingLaws
 pub mod Matchable
 pub mod Pieces
+pub mod Reserved

@@ -2,6 +2,7 @@
 #![tactic(auto)]
 
 mod binding;
+mod copied;
 mod domain;
 mod domain_laws;
 mod filling;
@@ -23,6 +24,7 @@ mod term_text;
 mod theory;
 
 pub use binding::Binding;
+pub use copied::Copied;
 pub use domain::{are_exclusive, is_initial, is_same, is_strong};
 pub use domain_laws::{entries_ascend, exclusive_is_symmetric, exclusive_is_under_one_binding};
 pub use filling::{fill, fill_ref, tests_hold};

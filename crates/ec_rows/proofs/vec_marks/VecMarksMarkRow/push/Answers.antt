@@ -2,7 +2,7 @@
 use Rattle.std.proofs.Common.{sym, subst}
 use Rattle.std.specs.Prelude.{IsTrue}
 use Rattle.ec_rows.specs.declared.mark.Mark.{Mark}
-use Rattle.ec_rows.specs.Ordered.{Reserved}
+use Rattle.ec_terms.specs.Reserved.{Reserved}
 use Rattle.ec_rows.specs.Marks.{are_before}
 use Rattle.ec_rows.proofs.MarkLemmas.{IsMarkRow-push}
 use Rattle.ec_rows.proofs.vec_marks.VecMarksMarkRow.push.Goals as goal
