@@ -1,16 +1,15 @@
 -- One event that arrives at a list: the change that adds it, and what it comes to as a batch.
-use Rattle.std.proofs.Common.{◌≡◌, ◌≤◌, ◌+◌, ◌||◌, ℕ, ℤ, Bool, true, false, not, cond, List, [], ◌∷◌, length, map, filter, None, Some, All, IsSome, IsTrue, is_some, refl, sym, ap, subst, ◌∙◌, inl, inr, arith}
-use Rattle.std.specs.Prelude.{bytes_eq, option_map, Ok, Err}
+use Rattle.std.proofs.Common.{◌≡◌, ◌≤◌, ◌+◌, ◌||◌, ℤ, Bool, true, false, not, cond, List, [], ◌∷◌, length, map, filter, Some, All, IsTrue, is_some, refl, sym, ap, subst, ◌∙◌, inl, inr, arith}
+use Rattle.std.specs.Prelude.{bytes_eq, option_map, Err}
 use Rattle.std.proofs.lemmas.Bool.{cond-true, cond-false, false≢true, false_from_ne_true, or_left}
 use Rattle.std.proofs.lemmas.List.Elements.{All-nil}
 use Rattle.ec_lists.proofs.Numbers.{bytes_eq_comm}
 use Rattle.ec_terms.specs.declared.ids.PropId.{PropId}
 use Rattle.ec_terms.specs.declared.theory.Theory.{Theory}
 use Rattle.ec_terms.specs.Domain.{entries_of}
-use Rattle.ec_axioms.specs.declared.event.Cut.{Cut}
 use Rattle.ec_axioms.specs.declared.event.Event.{Event}
 use Rattle.ec_axioms.specs.Calculus.{PlainEvent}
-use Rattle.ec_axioms.specs.Changes.{after_update, asserting, comes_before, events_only_in, has_event, has_id, is_history, with_event}
+use Rattle.ec_axioms.specs.Changes.{asserting, comes_before, events_only_in, has_event, has_id, is_history, with_event}
 use Rattle.ec_axioms.specs.Events.{event_of}
 use Rattle.ec_axioms.specs.Links.{most_events}
 use Rattle.ec_axioms.proofs.Histories.{is_history-with_event}
@@ -22,24 +21,20 @@ use Rattle.ec_store.specs.Store.{Kept, event_at, history_of, plain_of}
 use Rattle.ec_numbered.specs.PropSet.{has_number}
 use Rattle.ec_parts.specs.declared.tally.Tally.{Tally}
 use Rattle.ec_parts.specs.StandFor.{StandFor, View}
-use Rattle.ec_parts.specs.Tables.{KeepsOnlyLive}
-use Rattle.ec_store.specs.Table.{KeptProp, prop_at, term_at}
+use Rattle.ec_store.specs.Table.{KeptProp}
 use Rattle.ec_replies.proofs.Limits.{length-with_event}
-use Rattle.ec_replies.specs.Runs.{may_want_by}
-use Rattle.ec_replies.specs.Updates.{asserted, updated_by, updated_from}
 use Rattle.ec_revise.specs.declared.change.Change.{Change}
 use Rattle.ec_revise.specs.declared.change.Removal.{Removal}
 use Rattle.ec_revise.specs.Change.{IsChange, entries_to_show, has_slot, removal_before}
 use Rattle.ec_rows.specs.Ordered.{is_ascending}
-use Rattle.ec_engine.specs.declared.refusal.Refusal.{Refusal}
-use Rattle.ec_engine.specs.declared.refusal.Refusal.TheVariants.{Update, Memory}
-use Rattle.ec_engine.specs.Arriving.{HasComeIn, IsTurnedAway}
+use Rattle.ec_batch.specs.declared.refusal.Refusal.{Refusal}
+use Rattle.ec_batch.specs.declared.refusal.Refusal.TheVariants.{Update, Memory}
+use Rattle.ec_batch.specs.ComingIn.{HasComeIn, IsTurnedAway}
+use Rattle.ec_batch.specs.Limits.{IsWithinLimits}
+use Rattle.ec_batch.proofs.FoundEvents.{event_with-member, event_with-put, found-has_event, has_id-found}
+use Rattle.ec_batch.proofs.WalkSteps.{few-let_in, is_live-with, listed-more}
 use Rattle.ec_engine.specs.CarriedOut.{LeadsTo}
-use Rattle.ec_engine.specs.Limits.{IsWithinLimits}
-use Rattle.ec_engine.specs.Revise.{IsRevised, batch_may_want_memory}
-use Rattle.ec_engine.specs.Walk.{AreLiveOrListed}
-use Rattle.ec_engine.proofs.FoundEvents.{event_with-member, event_with-put, found-has_event, has_id-found}
-use Rattle.ec_engine.proofs.WalkSteps.{few-let_in, is_live-with, listed-more, new_terms}
+use Rattle.ec_engine.specs.Revise.{IsRevised}
 
 -- ---- the events that a list has alone
 
@@ -139,36 +134,6 @@ LeadsTo-arrived rank theory events view tally event fresh list change stored com
     (subst (λ es. has_id event.id (history_of rank es) ≡ false) (sym stored) absent)
     (subst (λ es. length (history_of rank es) + 1 ≤ most_events) (sym stored) room)
     removes adds lists)
-
--- what is kept once new properties are listed is live or listed, where what was kept before is live
-pub listed_entered : (theory : Theory) (events : List PlainEvent) (before after : List KeptProp) (listed : ℕ → Bool) → KeepsOnlyLive theory events before
-    → ((id : ℕ) → IsSome (prop_at id before) → prop_at id after ≡ prop_at id before)
-    → ((id : ℕ) → IsSome (prop_at id after) → prop_at id before ≡ None → listed id ≡ true) → AreLiveOrListed theory events after listed
-listed_entered theory events before after listed lives same fresh =
-    listed-more theory events events before after (λ id. false) listed (new_terms before after listed same fresh) (λ id p is live. or_left _ _ live) (λ id was. absurd (false≢true was))
-    (λ id p is. or_left _ _ (lives id p is))
-
--- and so it is in a table of the same terms
-pub listed_terms : (theory : Theory) (events : List PlainEvent) (before after : List KeptProp) (listed : ℕ → Bool) → ((id : ℕ) → term_at id after ≡ term_at id before)
-    → AreLiveOrListed theory events before listed → AreLiveOrListed theory events after listed
-listed_terms theory events before after listed terms were id p is = were id p (sym (terms id) ∙ is)
-
--- ---- a batch of this event
-
--- what is made of the event is made of the batch
-pub made_alone : (theory : Theory) (before after : List PlainEvent) (e : PlainEvent) → asserted theory before e ≡ Ok after → updated_by theory before (asserting e ∷ []) ≡ Ok after
-unfolding updated_from
-made_alone theory before after e is = ap (λ r. after_update 1 r (λ es. updated_from theory 2 es [])) is
-
--- and so it is refused, at its first place
-pub refused_alone : (theory : Theory) (before : List PlainEvent) (cut : Cut) (e : PlainEvent) → asserted theory before e ≡ Err cut → updated_by theory before (asserting e ∷ []) ≡ Err (1, cut)
-unfolding updated_from
-refused_alone theory before cut e is = ap (λ r. after_update 1 r (λ es. updated_from theory 2 es [])) is
-
--- memory may run out for it where it may for the event
-pub may_want_alone : (theory : Theory) (before : List PlainEvent) (e : PlainEvent) → may_want_by (asserted theory before e) ≡ true → batch_may_want_memory theory before (asserting e ∷ []) ≡ true
-unfolding batch_may_want_memory
-may_want_alone theory before e may = may
 
 -- ---- what comes of it
 

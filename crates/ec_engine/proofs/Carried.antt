@@ -1,5 +1,5 @@
 -- A walk that is carried out: what it asks of the plan of its change, and what is left where memory runs out.
-use Rattle.std.proofs.Common.{◌≡◌, ℕ, ℤ, Bool, List, sym, subst}
+use Rattle.std.proofs.Common.{◌≡◌, ℤ, List, sym, subst}
 use Rattle.std.specs.Prelude.{Result}
 use Rattle.ec_terms.specs.declared.ids.PropId.{PropId}
 use Rattle.ec_terms.specs.declared.no_memory.NoMemory.{NoMemory}
@@ -15,10 +15,10 @@ use Rattle.ec_revise.specs.Change.{IsChange}
 use Rattle.ec_sweep.specs.State.{IsUnderway}
 use Rattle.ec_delta.specs.Ready.{IsReady}
 use Rattle.ec_delta.specs.declared.delta.Delta.{Delta}
-use Rattle.ec_engine.specs.declared.walk.Walk.{Walk}
+use Rattle.ec_batch.specs.declared.walk.Walk.{Walk}
+use Rattle.ec_batch.specs.Limits.{IsWithinLimits}
+use Rattle.ec_batch.specs.Walk.{HasWalkedTo}
 use Rattle.ec_engine.specs.CarriedOut.{IsCarriedOut, LeadsTo}
-use Rattle.ec_engine.specs.Limits.{IsWithinLimits}
-use Rattle.ec_engine.specs.Walk.{AreLiveOrListed, HasWalkedTo}
 
 -- a change leads from the list of the store to the one that the walk came to
 pub IsUnderway-walked : {T : Type 0} (rank : T → ℤ) (theory : Theory) (view : View T) (tally : Tally) (walk : Walk T) (soon : List PlainEvent) (change : Change T)
@@ -59,19 +59,7 @@ IsChange-moved rank theory later table kept events stored new change back theori
     (subst (λ es. IsChange rank theory table es new back) (sym stores)
     (subst (λ c. IsChange rank theory table events new c) (sym changes) is)))
 
--- what is live or listed is so by lists that are the same, and in a table that is the same
-pub AreLiveOrListed-moved : (theory later : Theory) (events : List PlainEvent) (table kept : List KeptProp) (listed : ℕ → Bool)
-    → later ≡ theory → kept ≡ table → AreLiveOrListed theory events table listed → AreLiveOrListed later events kept listed
-AreLiveOrListed-moved theory later events table kept listed theories tables are =
-    subst (λ t. AreLiveOrListed t events kept listed) (sym theories) (subst (λ ps. AreLiveOrListed theory events ps listed) (sym tables) are)
-
--- so is a walk
-pub HasWalkedTo-moved : {T : Type 0} (rank : T → ℤ) (theory later : Theory) (events stored : List (Kept T)) (soon : List PlainEvent) (view : View T) (tally : Tally) (walk : Walk T)
-    → later ≡ theory → stored ≡ events → HasWalkedTo rank theory events soon view tally walk → HasWalkedTo rank later stored soon view tally walk
-HasWalkedTo-moved rank theory later events stored soon view tally walk theories stores walked =
-    subst (λ t. HasWalkedTo rank t stored soon view tally walk) (sym theories) (subst (λ es. HasWalkedTo rank theory es soon view tally walk) (sym stores) walked)
-
--- and so is what comes of it
+-- what comes of a change is the same by parts that show the same
 pub IsCarriedOut-moved : {T : Type 0} (rank : T → ℤ) (theory later : Theory) (events stored : List (Kept T)) (soon : List PlainEvent) (view : View T) (tally : Tally) (result : Result Seen NoMemory)
     → later ≡ theory → stored ≡ events → IsCarriedOut rank later (history_of rank stored) soon view tally result → IsCarriedOut rank theory (history_of rank events) soon view tally result
 IsCarriedOut-moved rank theory later events stored soon view tally result theories stores carried =

@@ -1,16 +1,5 @@
-pub mod FoundEvents
-pub mod LetIn
-pub mod WalkSteps
-pub mod Batches
 pub mod Standings
-pub mod Forgetting
-pub mod Undoing
-pub mod Attempts
 pub mod Revising
-pub mod SortedLists
-pub mod NetChanges
-pub mod UndoingChange
 pub mod WorkDone
 pub mod Carried
-pub mod Built
 pub mod Arrivals

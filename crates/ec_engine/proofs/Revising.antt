@@ -10,12 +10,12 @@ use Rattle.ec_store.specs.Store.{Kept, history_of}
 use Rattle.ec_parts.specs.declared.tally.Tally.{Tally}
 use Rattle.ec_parts.specs.StandFor.{StandFor, View}
 use Rattle.ec_replies.specs.Updates.{updated_by}
-use Rattle.ec_engine.specs.declared.refusal.Refusal.{Refusal}
-use Rattle.ec_engine.specs.declared.refusal.Refusal.TheVariants.{Update, Memory}
-use Rattle.ec_engine.specs.Attempt.{IsAttempted}
+use Rattle.ec_batch.specs.declared.refusal.Refusal.{Refusal}
+use Rattle.ec_batch.specs.declared.refusal.Refusal.TheVariants.{Update, Memory}
+use Rattle.ec_batch.specs.Attempt.{IsAttempted}
+use Rattle.ec_batch.proofs.Batches.{batch_may_want-accepted}
 use Rattle.ec_engine.specs.CarriedOut.{IsCarriedOut}
 use Rattle.ec_engine.specs.Revise.{IsRevised, most_steps, steps_between, steps_by}
-use Rattle.ec_engine.proofs.Batches.{batch_may_want-accepted}
 use Rattle.ec_engine.proofs.WorkDone.{steps_between-work}
 
 module _ {T : Type 0} (rank : T → ℤ) (theory : Theory) (events : List (Kept T)) (updates : List PlainUpdate) (view : View T) (tally : Tally) where

@@ -7,7 +7,7 @@ use Rattle.ec_store.specs.Store.{history_of}
 use Rattle.ec_parts.specs.declared.parts.Parts.{Parts}
 use Rattle.ec_parts.specs.declared.tally.Tally.{Tally}
 use Rattle.ec_parts.specs.StandFor.{StandFor, View}
-use Rattle.ec_engine.specs.Limits.{IsWithinLimits}
+use Rattle.ec_batch.specs.Limits.{IsWithinLimits}
 use Rattle.ec_engine.specs.Standing.{IsEngine, IsStanding, Standing}
 
 -- no events are within the limits

@@ -12,8 +12,8 @@ use Rattle.ec_parts.specs.declared.tally.Tally.{Tally}
 use Rattle.ec_parts.specs.StandFor.{StandFor, StandForBoth, View}
 use Rattle.ec_revise.specs.declared.change.Change.{Change}
 use Rattle.ec_sweep.specs.State.{IsUnderway}
-use Rattle.ec_engine.specs.Limits.{IsWithinLimits}
-use Rattle.ec_engine.specs.Walk.{AreLiveOrListed}
+use Rattle.ec_batch.specs.Limits.{IsWithinLimits}
+use Rattle.ec_batch.specs.Walk.{AreLiveOrListed}
 
 -- The parts stand for the new list, and the counts are those of the change to it; or memory ran out, and they stand for the
 -- old list as before.

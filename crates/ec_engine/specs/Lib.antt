@@ -1,15 +1,4 @@
-pub mod Limits
 pub mod Standing
-pub mod Net
-pub mod Limited
-pub mod Walk
-pub mod Through
-pub mod Idle
-pub mod Undo
 pub mod Arriving
-pub mod Attempt
-pub mod NetChange
-pub mod UndoChange
 pub mod Revise
 pub mod CarriedOut
-pub mod Build

@@ -1,19 +1,13 @@
 -- What it is to apply a batch of updates to a list of events, all of it or nothing; and how many steps that may take.
-use Rattle.std.specs.Prelude.{◌≡◌, ℕ, ◌+◌, ◌*◌, Bool, true, List, [], ◌∷◌, length, Result, Ok, Err, IsTrue}
+use Rattle.std.specs.Prelude.{◌≡◌, ℕ, ◌+◌, ◌*◌, List, length, Result, Ok, Err, IsTrue}
 use Rattle.ec_terms.specs.declared.theory.Theory.{Theory}
 use Rattle.ec_axioms.specs.declared.event.Seen.{Seen}
 use Rattle.ec_axioms.specs.Calculus.{PlainEvent}
 use Rattle.ec_axioms.specs.Changes.{PlainUpdate, PlacedCut, change_counts, entry_count, events_only_in, work_between}
-use Rattle.ec_replies.specs.Runs.{may_want_by}
-use Rattle.ec_replies.specs.Updates.{updated, updated_by}
-use Rattle.ec_engine.specs.declared.refusal.Refusal.{Refusal}
-use Rattle.ec_engine.specs.declared.refusal.Refusal.TheVariants.{Update, Memory}
-
--- memory may run out for a batch, unless it is one update that is refused for a cause that is always told
-unfoldable pub batch_may_want_memory : Theory → List PlainEvent → List PlainUpdate → Bool
-batch_may_want_memory theory events [] = true
-batch_may_want_memory theory events (update ∷ []) = may_want_by (updated theory events update)
-batch_may_want_memory theory events (update ∷ next ∷ updates) = true
+use Rattle.ec_replies.specs.Updates.{updated_by}
+use Rattle.ec_batch.specs.declared.refusal.Refusal.{Refusal}
+use Rattle.ec_batch.specs.declared.refusal.Refusal.TheVariants.{Update, Memory}
+use Rattle.ec_batch.specs.BatchMemory.{batch_may_want_memory}
 
 -- What applying a batch comes to: the list after all updates, and what changed between the two lists; or the first refusal
 -- with its place, or memory ran out, and then the list is as it was.

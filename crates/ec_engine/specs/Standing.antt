@@ -5,7 +5,7 @@ use Rattle.ec_axioms.specs.Calculus.{PlainEvent}
 use Rattle.ec_store.specs.Store.{history_of}
 use Rattle.ec_parts.specs.declared.tally.Tally.{Tally}
 use Rattle.ec_parts.specs.StandFor.{StandFor, View}
-use Rattle.ec_engine.specs.Limits.{IsWithinLimits}
+use Rattle.ec_batch.specs.Limits.{IsWithinLimits}
 
 -- a theory and a list of events
 pub record Standing : Type 0 where

@@ -7,16 +7,14 @@ ghost use Rattle.ec_axioms.specs.Events.{event_of};
 ghost use Rattle.ec_axioms.specs.Links.{most_events};
 ghost use Rattle.ec_store.specs.Store.{history_of};
 ghost use Rattle.ec_parts.specs.StandFor.{StandFor, view_of};
-ghost use Rattle.ec_engine.specs.Arriving.{IsArrived, IsLet};
-ghost use Rattle.ec_engine.specs.Limits.{IsWithinLimits};
+ghost use Rattle.ec_batch.specs.Limits.{IsWithinLimits};
+ghost use Rattle.ec_engine.specs.Arriving.{IsArrived};
 
-use crate::idle::forget_idle;
-use crate::limited::take_in;
-use crate::refusal::Refusal;
 use ec_axioms::{Cut, Event, MOST_EVENTS};
+use ec_batch::{Refusal, let_in};
 use ec_context::EntryList;
 use ec_moment::Moment;
-use ec_parts::{Parts, Tally, enter};
+use ec_parts::{Parts, Tally};
 use ec_revise::Change;
 use ec_rows::{MarkRow, SpanRow, TimeRow};
 use ec_terms::{GroundRef, Name, NoMemory, PropId, Sequence};
@@ -43,34 +41,6 @@ fn made<T: Moment>(
 {
     let term = event.to_ground(alloc)?;
     Ok(Event { id, at, term })
-}
-
-/// Lets an event into the tables, whose identity is absent. `Err`: a limit refuses it, or memory ran out; then the parts stand
-/// for the list of the store as before.
-fn let_in<T: Moment, M: MarkRow<T>, I: SpanRow<T>, X: TimeRow<T>>(
-    alloc: Global,
-    parts: &mut Parts<T, M, I, X>,
-    tally: &mut Tally,
-    event: &Event<T>,
-    fresh: &mut Vec<PropId>,
-) -> Result<EntryList, Refusal>
-    requires stand { StandFor T.rank parts.old.checked (history_of T.rank parts.old.store.events) (view_of parts.old) tally.old }
-    requires within { IsWithinLimits parts.old.checked (history_of T.rank parts.old.store.events) }
-    requires absent { has_id event.now.id (history_of T.rank parts.old.store.events) ≡ false }
-    requires room { length (history_of T.rank parts.old.store.events) + 1 ≤ most_events }
-    ensures let_in { IsLet T.rank parts.old.checked parts.old.store.events (event_of T.rank event.now) (view_of parts.new) tally.new fresh.new.items result }
-    ensures theory { parts.new.checked ≡ parts.old.checked }
-    ensures store { IfOk result (λ list. parts.new.store ≡ parts.old.store) }
-{
-    let Ok(list) = enter(alloc, parts, event, fresh) else {
-        forget_idle(parts, fresh.as_slice());
-        return Err(Refusal::Memory);
-    };
-    if let Err(cut) = take_in(parts, tally, &list) {
-        forget_idle(parts, fresh.as_slice());
-        return Err(Refusal::Update { place: 1, cut });
-    }
-    Ok(list)
 }
 
 /// The change that adds an event with its entries, where two lists have room for one. It takes no memory.

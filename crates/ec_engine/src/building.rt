@@ -1,17 +1,14 @@
 //! A list of events, from no event on.
 ghost use Rattle.std.specs.Prelude.{◌≡◌, ◌+◌, ◌≤◌, [], OnOk, length, map};
-ghost use Rattle.indexmap.specs.IndexMap.{index_map_len};
 ghost use Rattle.ec_axioms.specs.Changes.{entry_count};
 ghost use Rattle.ec_axioms.specs.Events.{event_of};
 ghost use Rattle.ec_parts.specs.StandFor.{StandFor, view_of};
-ghost use Rattle.ec_engine.specs.Build.{HaveOwnIds, history_from};
-ghost use Rattle.ec_engine.specs.Limits.{IsWithinLimits};
-ghost use Rattle.ec_engine.specs.Walk.{HasWalkedTo};
+ghost use Rattle.ec_batch.specs.Build.{HaveOwnIds, history_from};
+ghost use Rattle.ec_batch.specs.Limits.{IsWithinLimits};
 
-use crate::attempt::start;
 use crate::carrying::carry_out;
-use crate::walk::{Stop, Walk, assert_event};
 use ec_axioms::{Event, Steps};
+use ec_batch::{start, walk_in};
 use ec_moment::Moment;
 use ec_parts::{Parts, Tally};
 use ec_rows::{MarkRow, SpanRow, TimeRow};
@@ -19,32 +16,6 @@ use ec_sweep::Lists;
 use ec_terms::NoMemory;
 use std::alloc::Global;
 use std::sync::ledger::Ledger;
-
-/// Walks from no event to a list of events, which is within the limits. `Err`: memory ran out.
-fn walk_in<T: Moment, M: MarkRow<T>, I: SpanRow<T>, X: TimeRow<T>>(
-    alloc: Global,
-    parts: &mut Parts<T, M, I, X>,
-    tally: &mut Tally,
-    walk: &mut Walk<T>,
-    list: &[Event<T>],
-) -> Result<(), NoMemory>
-    requires walked { HasWalkedTo T.rank parts.old.checked parts.old.store.events [] (view_of parts.old) tally.old walk.old }
-    requires own { HaveOwnIds (map (event_of T.rank) list.now) }
-    requires within { IsWithinLimits parts.old.checked (history_from (map (event_of T.rank) list.now)) }
-    ensures goes { OnOk result (HasWalkedTo T.rank parts.old.checked parts.old.store.events (history_from (map (event_of T.rank) list.now)) (view_of parts.new) tally.new walk.new) }
-    ensures theory { parts.new.checked ≡ parts.old.checked }
-    ensures store { parts.new.store ≡ parts.old.store }
-    ensures len { index_map_len walk.new.nets ≤ index_map_len walk.old.nets + length list.now }
-{
-    for event in list {
-        match assert_event(alloc, parts, tally, walk, event) {
-            Ok(()) => {}
-            Err(Stop::Refused(_)) => unreachable!(),
-            Err(Stop::Memory) => return Err(NoMemory),
-        }
-    }
-    Ok(())
-}
 
 /// Puts a list of events into the parts of no event. `Err`: memory ran out.
 pub(crate) fn fill<T: Moment, M: MarkRow<T>, I: SpanRow<T>, X: TimeRow<T>, L: Ledger>(

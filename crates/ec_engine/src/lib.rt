@@ -2,20 +2,10 @@
 #![tactic(auto)]
 
 mod arriving;
-mod attempt;
 mod building;
 mod carrying;
 mod engine;
-mod idle;
-mod limited;
-mod net;
-mod net_change;
-mod refusal;
-mod through;
-mod undo;
-mod undo_change;
-mod walk;
 pub mod worked;
 
+pub use ec_batch::Refusal;
 pub use engine::Engine;
-pub use refusal::Refusal;

@@ -13,8 +13,9 @@ use Rattle.ec_replies.specs.Updates.{retracted, updated, updated_by, updated_fro
 use Rattle.ec_replies.specs.Replies.{answering, commit_reply, reply_to_commit, update_reply}
 use Rattle.ec_replies.specs.Runs.{may_want_by}
 use Rattle.ec_replies.proofs.ByDraft.{reply_to_commit-open}
-use Rattle.ec_engine.specs.declared.refusal.Refusal.TheVariants.{Update, Memory}
-use Rattle.ec_engine.specs.Revise.{IsRevised, batch_may_want_memory}
+use Rattle.ec_batch.specs.declared.refusal.Refusal.TheVariants.{Update, Memory}
+use Rattle.ec_batch.specs.BatchMemory.{batch_may_want_memory}
+use Rattle.ec_engine.specs.Revise.{IsRevised}
 
 -- the state with other events, counts and drafts
 abbrev pub state_of : List PlainEvent → Seen → State → State

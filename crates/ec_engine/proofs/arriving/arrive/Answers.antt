@@ -8,8 +8,8 @@ use Rattle.ec_axioms.specs.Changes.{has_id}
 use Rattle.ec_axioms.specs.Links.{most_events}
 use Rattle.ec_store.specs.Store.{history_of, plain_of}
 use Rattle.ec_store.proofs.EventLemmas.{has_id-slot_of}
-use Rattle.ec_engine.proofs.Arrivals.{may_want_alone, refused_alone}
-use Rattle.ec_engine.proofs.WalkSteps.{may_want-asserted, refused_full, refused_present}
+use Rattle.ec_batch.proofs.ComingIn.{may_want_alone, refused_alone}
+use Rattle.ec_batch.proofs.WalkSteps.{may_want-asserted, refused_full, refused_present}
 use Rattle.ec_engine.proofs.arriving.arrive.Goals as goal
 
 pub returns-then-is_some-clause-arrived : goal.returns-then-is_some-clause-arrived

@@ -4,8 +4,9 @@ use Rattle.ec_axioms.specs.Changes.{with_event}
 use Rattle.ec_axioms.specs.Events.{event_of}
 use Rattle.ec_store.specs.Store.{history_of}
 use Rattle.ec_parts.specs.StandFor.{view_of}
-use Rattle.ec_engine.proofs.Arrivals.{LeadsTo-arrived, made_alone, may_want_alone}
-use Rattle.ec_engine.proofs.WalkSteps.{asked_limits, may_want-asserted}
+use Rattle.ec_batch.proofs.ComingIn.{made_alone, may_want_alone}
+use Rattle.ec_batch.proofs.WalkSteps.{asked_limits, may_want-asserted}
+use Rattle.ec_engine.proofs.Arrivals.{LeadsTo-arrived}
 use Rattle.ec_engine.proofs.arriving.arrive_new.Goals as goal
 
 pub returns-in_default-clause-arrived : goal.returns-in_default-clause-arrived

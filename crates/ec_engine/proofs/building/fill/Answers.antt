@@ -3,11 +3,11 @@ use Rattle.std.proofs.Common.{◌≡◌, [], map, sym, ap, subst, ◌∙◌, ari
 use Rattle.ec_axioms.specs.Events.{event_of}
 use Rattle.ec_store.specs.Store.{history_of}
 use Rattle.ec_parts.specs.StandFor.{StandFor, view_of}
-use Rattle.ec_engine.specs.Build.{history_from}
-use Rattle.ec_engine.specs.Limits.{IsWithinLimits}
+use Rattle.ec_batch.specs.Build.{history_from}
+use Rattle.ec_batch.specs.Limits.{IsWithinLimits}
+use Rattle.ec_batch.specs.Walk.{HasWalkedTo}
+use Rattle.ec_batch.proofs.Moved.{HasWalkedTo-moved}
 use Rattle.ec_engine.specs.Revise.{steps_between}
-use Rattle.ec_engine.specs.Walk.{HasWalkedTo}
-use Rattle.ec_engine.proofs.Carried.{HasWalkedTo-moved}
 use Rattle.ec_engine.proofs.Standings.{IsWithinLimits-none}
 use Rattle.ec_engine.proofs.WorkDone.{steps_between-none}
 use Rattle.ec_engine.proofs.building.fill.Goals as goal

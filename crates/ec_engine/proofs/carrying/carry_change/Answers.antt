@@ -4,9 +4,10 @@ use Rattle.ec_store.specs.Store.{history_of}
 use Rattle.ec_numbered.specs.PropSet.{has_number}
 use Rattle.ec_parts.specs.StandFor.{StandFor, StandForBoth, view_of}
 use Rattle.ec_revise.specs.declared.change.Change.{Change}
-use Rattle.ec_engine.specs.Limits.{IsWithinLimits}
-use Rattle.ec_engine.specs.Walk.{AreLiveOrListed}
-use Rattle.ec_engine.proofs.Carried.{AreLiveOrListed-moved, IsChange-moved}
+use Rattle.ec_batch.specs.Limits.{IsWithinLimits}
+use Rattle.ec_batch.specs.Walk.{AreLiveOrListed}
+use Rattle.ec_batch.proofs.Moved.{AreLiveOrListed-moved}
+use Rattle.ec_engine.proofs.Carried.{IsChange-moved}
 use Rattle.ec_engine.proofs.carrying.carry_change.Goals as goal
 
 pub make_change-requires : goal.make_change-requires

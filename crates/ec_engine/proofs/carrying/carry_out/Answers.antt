@@ -2,8 +2,8 @@
 use Rattle.std.proofs.Common.{sym, ap, subst, ◌∙◌, arith}
 use Rattle.indexmap.specs.IndexMap.{index_map_len}
 use Rattle.ec_parts.specs.StandFor.{view_of}
-use Rattle.ec_engine.specs.declared.walk.Walk.{Walk}
-use Rattle.ec_engine.specs.Walk.{HasWalked}
+use Rattle.ec_batch.specs.declared.walk.Walk.{Walk}
+use Rattle.ec_batch.specs.Walk.{HasWalked}
 use Rattle.ec_engine.proofs.Carried.{LeadsTo-walked}
 use Rattle.ec_engine.proofs.carrying.carry_out.Goals as goal
 

@@ -2,7 +2,7 @@
 use Rattle.std.proofs.Common.{refl, sym, subst}
 use Rattle.ec_numbered.specs.PropSet.{has_number}
 use Rattle.ec_parts.specs.StandFor.{StandFor, StandForBoth, view_of}
-use Rattle.ec_engine.proofs.Carried.{AreLiveOrListed-moved}
+use Rattle.ec_batch.proofs.Moved.{AreLiveOrListed-moved}
 use Rattle.ec_engine.proofs.carrying.forget_listed.Goals as goal
 
 pub forget_idle-requires-2 : goal.forget_idle-requires-2

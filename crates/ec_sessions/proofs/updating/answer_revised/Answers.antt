@@ -6,7 +6,7 @@ use Rattle.ec_axioms.specs.Answers.{refused_update}
 use Rattle.ec_replies.specs.Replies.{update_reply}
 use Rattle.ec_replies.specs.Runs.{may_want_by}
 use Rattle.ec_replies.specs.Updates.{updated}
-use Rattle.ec_engine.specs.declared.refusal.Refusal.{Refusal}
+use Rattle.ec_batch.specs.declared.refusal.Refusal.{Refusal}
 use Rattle.ec_engine.specs.Revise.{IsRevised}
 use Rattle.ec_sessions.specs.Answering.{IsAnswerBy}
 use Rattle.ec_sessions.proofs.Revisions.{may_want-one, state-kept, state_of, update_reply-made, update_reply-refused}

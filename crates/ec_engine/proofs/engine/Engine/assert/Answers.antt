@@ -6,8 +6,8 @@ use Rattle.ec_axioms.specs.Calculus.{PlainEvent}
 use Rattle.ec_axioms.specs.Changes.{asserting, with_event}
 use Rattle.ec_store.specs.Store.{history_of}
 use Rattle.ec_parts.specs.StandFor.{StandFor, view_of}
-use Rattle.ec_engine.specs.declared.refusal.Refusal.TheVariants.{Memory}
-use Rattle.ec_engine.specs.Limits.{IsWithinLimits}
+use Rattle.ec_batch.specs.declared.refusal.Refusal.TheVariants.{Memory}
+use Rattle.ec_batch.specs.Limits.{IsWithinLimits}
 use Rattle.ec_engine.specs.Revise.{IsRevised, most_steps, steps_between}
 use Rattle.ec_engine.specs.Standing.{Standing}
 use Rattle.ec_engine.proofs.Arrivals.{IsRevised-turned_away, LeadsTo-moved, stands_turned_away}

@@ -6,13 +6,14 @@ use Rattle.ec_axioms.specs.Events.{plain_update}
 use Rattle.ec_store.specs.Store.{history_of}
 use Rattle.ec_parts.specs.StandFor.{StandFor, view_of}
 use Rattle.ec_replies.specs.Updates.{updated_by}
-use Rattle.ec_engine.specs.declared.refusal.Refusal.TheVariants.{Memory}
-use Rattle.ec_engine.specs.Limits.{IsWithinLimits}
+use Rattle.ec_batch.specs.declared.refusal.Refusal.TheVariants.{Memory}
+use Rattle.ec_batch.specs.Limits.{IsWithinLimits}
+use Rattle.ec_batch.specs.Walk.{HasWalkedTo}
+use Rattle.ec_batch.proofs.Batches.{goes_ok}
+use Rattle.ec_batch.proofs.Moved.{HasWalkedTo-moved}
 use Rattle.ec_engine.specs.Revise.{IsRevised, most_steps, steps_between}
 use Rattle.ec_engine.specs.Standing.{Standing}
-use Rattle.ec_engine.specs.Walk.{HasWalkedTo}
-use Rattle.ec_engine.proofs.Batches.{goes_ok}
-use Rattle.ec_engine.proofs.Carried.{HasWalkedTo-moved, IsCarriedOut-moved}
+use Rattle.ec_engine.proofs.Carried.{IsCarriedOut-moved}
 use Rattle.ec_engine.proofs.Revising.{IsRevised-carried, IsRevised-no_memory, most_steps-carried, most_steps-least, stands_refused}
 use Rattle.ec_engine.proofs.Standings.{IsEngine-standing, seen-same, within-same}
 use Rattle.ec_engine.proofs.engine.Engine.revise.Goals as goal

@@ -9,7 +9,7 @@ use Rattle.ec_replies.specs.Runs.{commit_may_want_memory}
 use Rattle.ec_replies.proofs.ByDraft.{reply_to_commit-closed, commit_may_want_memory-open}
 use Rattle.ec_sessions.specs.Answering.{IsAnswerBy}
 use Rattle.ec_sessions.specs.LineSteps.{most_commit_steps}
-use Rattle.ec_engine.specs.declared.refusal.Refusal.{Refusal}
+use Rattle.ec_batch.specs.declared.refusal.Refusal.{Refusal}
 use Rattle.ec_engine.specs.Revise.{IsRevised}
 use Rattle.ec_sessions.specs.SessionsState.{SessionsState}
 use Rattle.ec_sessions.proofs.Revisions.{reply_to_commit-made, reply_to_commit-refused, state-kept}

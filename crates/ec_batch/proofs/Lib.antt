@@ -1,0 +1,13 @@
+pub mod FoundEvents
+pub mod LetIn
+pub mod WalkSteps
+pub mod Batches
+pub mod Moved
+pub mod Forgetting
+pub mod ComingIn
+pub mod Undoing
+pub mod Attempts
+pub mod SortedLists
+pub mod NetChanges
+pub mod UndoingChange
+pub mod Built

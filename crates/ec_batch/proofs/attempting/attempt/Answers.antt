@@ -1,0 +1,23 @@
+-- The walk goes through, or is undone.
+use Rattle.std.proofs.Common.{map, sym, ap, subst}
+use Rattle.ec_axioms.specs.Events.{plain_update}
+use Rattle.ec_store.specs.Store.{history_of}
+use Rattle.ec_parts.specs.StandFor.{view_of}
+use Rattle.ec_batch.specs.Walk.{HasWalked, HasWalkedTo}
+use Rattle.ec_batch.proofs.Attempts.{walked_until}
+use Rattle.ec_batch.proofs.attempting.attempt.Goals as goal
+
+pub undo-requires-clause-walked : goal.undo-requires-clause-walked
+undo-requires-clause-walked g c =
+    let rank = g.T.Moment.rank in
+    let hist = history_of rank c.args.parts.now.store.events in
+    let until = walked_until (Unit {0}) rank c.args.parts.now.checked c.args.parts.now.store.events (map (plain_update rank) c.args.batch.now) (view_of c.walk_through.new.parts) c.walk_through.new.tally c.walk_through.new.walk c.in-Err.refusal (c.in-Err.ensures.goes hist c.start-walk.ensures.walked) in
+    subst (λ theory. HasWalked rank theory (view_of c.walk_through.new.parts) c.walk_through.new.tally c.walk_through.new.walk) (sym c.in-Err.ensures.theory)
+    (record {
+      soon = until.soon;
+      to = subst (λ events. HasWalkedTo rank c.args.parts.now.checked events until.soon (view_of c.walk_through.new.parts) c.walk_through.new.tally c.walk_through.new.walk)
+          (sym (ap (λ s. s.events) c.in-Err.ensures.store)) until.to;
+    })
+
+pub returns-in-Ok-clause-goes : goal.returns-in-Ok-clause-goes
+returns-in-Ok-clause-goes g c = c.in-Ok.ensures.goes (history_of g.T.Moment.rank c.args.parts.now.store.events) c.start-walk.ensures.walked

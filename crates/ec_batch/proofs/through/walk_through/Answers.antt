@@ -1,0 +1,98 @@
+-- Update by update, the list that the batch leaves.
+use Rattle.std.proofs.Common.{◌≡◌, ◌+◌, ◌≤◌, [], ◌∷◌, ◌++◌, length, map, take, drop, ap₂, refl, sym, ap, subst, ◌∙◌, arith}
+use Rattle.ec_parts.specs.StandFor.{view_of}
+use Rattle.std.specs.Prelude.{Err}
+use Rattle.std.proofs.lemmas.List.{length-map, length-take-le}
+use Rattle.ec_axioms.specs.Events.{plain_update}
+use Rattle.ec_parts.proofs.Mentioned.{map-cut, map-take_more}
+use Rattle.ec_replies.specs.Runs.{may_want_by}
+use Rattle.ec_replies.specs.Updates.{updated, updated_from}
+use Rattle.ec_batch.specs.BatchMemory.{batch_may_want_memory}
+use Rattle.ec_batch.proofs.Batches.{batch_may_want-next, goes_ok, updated_from-next, updated_from-refused}
+use Rattle.ec_batch.specs.Walk.{HasWalkedTo}
+use Rattle.ec_batch.proofs.through.walk_through.Goals as goal
+
+pub loop-one-init : goal.loop-one-init
+unfolding updated_from
+loop-one-init g c = record { so_far = λ soon start. (soon, refl, start); counted = refl; theory = refl; store = refl; len = omega arith; steps = omega arith }
+
+pub update-requires : goal.update-requires
+update-requires g c =
+    let inv = c.loop-one.invariant in
+    let mid = inv.so_far c.requires.walked.soon c.requires.walked.to in
+    record {
+      walked = record {
+        soon = mid.0;
+        to = subst (λ events. HasWalkedTo g.T.Moment.rank c.loop-one.parts.checked events mid.0 (view_of c.loop-one.parts) c.loop-one.tally c.loop-one.walk) (sym (ap (λ s. s.events) inv.store))
+            (subst (λ theory. HasWalkedTo g.T.Moment.rank theory c.args.parts.now.store.events mid.0 (view_of c.loop-one.parts) c.loop-one.tally c.loop-one.walk) (sym inv.theory) mid.2);
+      };
+    }
+
+pub returns-in-Err-Refused-clause-goes : goal.returns-in-Err-Refused-clause-goes
+returns-in-Err-Refused-clause-goes g c soon start =
+    let inv = c.loop-one.invariant in
+    let mid = inv.so_far soon start in
+    let to = subst (λ events. HasWalkedTo g.T.Moment.rank c.loop-one.parts.checked events mid.0 (view_of c.loop-one.parts) c.loop-one.tally c.loop-one.walk) (sym (ap (λ s. s.events) inv.store))
+    (subst (λ theory. HasWalkedTo g.T.Moment.rank theory c.args.parts.now.store.events mid.0 (view_of c.loop-one.parts) c.loop-one.tally c.loop-one.walk) (sym inv.theory) mid.2) in
+    let gone = rw c.in-Err-Refused.field-0-is at (c.in-Err-Refused.ensures.goes mid.0 to) in
+    let f = plain_update g.T.Moment.rank in
+    let xs = c.args.batch.now in
+    let i = c.loop-one.one-index in
+    let within : i ≤ length xs = omega (arith, c.loop-one-test.true) in
+    let number : 1 + length (map f (take i xs)) ≡ c.loop-one.place + 1 = omega (arith, length-map (take i xs) f, length-take-le i xs within, inv.counted) in (
+      ap (λ us. updated_from c.args.parts.now.checked 1 soon us) (map-cut f xs i c.one-item.result c.loop-one-test.true)
+          ∙ ap (λ x. updated_from c.args.parts.now.checked 1 soon (map f (take i xs) ++ f x ∷ map f (drop (i + 1) xs))) (sym c.one-item.is)
+          ∙ updated_from-refused c.args.parts.now.checked 1 soon mid.0 c.in-Err-Refused.cut (map f (take i xs)) (map f (drop (i + 1) xs)) (f c.one-item.result) mid.1
+          (ap (λ t. updated t mid.0 (f c.one-item.result)) (sym inv.theory) ∙ gone.0)
+          ∙ ap₂ (λ n x. Err (n, x)) number (sym c.in-Err-Refused.cut-is),
+      record {
+        soon = mid.0;
+        to = subst (λ events. HasWalkedTo g.T.Moment.rank c.args.parts.now.checked events mid.0 (view_of c.update.new.parts) c.update.new.tally c.update.new.walk) (ap (λ s. s.events) inv.store)
+            (subst (λ theory. HasWalkedTo g.T.Moment.rank theory c.loop-one.parts.store.events mid.0 (view_of c.update.new.parts) c.update.new.tally c.update.new.walk) inv.theory (gone.1));
+      },
+    )
+
+pub returns-in-Err-Memory-clause-goes : goal.returns-in-Err-Memory-clause-goes
+returns-in-Err-Memory-clause-goes g c soon start =
+    let inv = c.loop-one.invariant in
+    let mid = inv.so_far soon start in
+    let to = subst (λ events. HasWalkedTo g.T.Moment.rank c.loop-one.parts.checked events mid.0 (view_of c.loop-one.parts) c.loop-one.tally c.loop-one.walk) (sym (ap (λ s. s.events) inv.store))
+    (subst (λ theory. HasWalkedTo g.T.Moment.rank theory c.args.parts.now.store.events mid.0 (view_of c.loop-one.parts) c.loop-one.tally c.loop-one.walk) (sym inv.theory) mid.2) in
+    let gone = rw c.in-Err-Memory.field-0-is at (c.in-Err-Memory.ensures.goes mid.0 to) in
+    let f = plain_update g.T.Moment.rank in
+    let xs = c.args.batch.now in
+    let i = c.loop-one.one-index in (
+      ap (λ us. batch_may_want_memory c.args.parts.now.checked soon us) (map-cut f xs i c.one-item.result c.loop-one-test.true)
+          ∙ ap (λ x. batch_may_want_memory c.args.parts.now.checked soon (map f (take i xs) ++ f x ∷ map f (drop (i + 1) xs))) (sym c.one-item.is)
+          ∙ batch_may_want-next c.args.parts.now.checked soon mid.0 (map f (take i xs)) (map f (drop (i + 1) xs)) (f c.one-item.result) mid.1
+          (ap (λ t. may_want_by (updated t mid.0 (f c.one-item.result))) (sym inv.theory) ∙ gone.0),
+      record {
+        soon = mid.0;
+        to = subst (λ events. HasWalkedTo g.T.Moment.rank c.args.parts.now.checked events mid.0 (view_of c.update.new.parts) c.update.new.tally c.update.new.walk) (ap (λ s. s.events) inv.store)
+            (subst (λ theory. HasWalkedTo g.T.Moment.rank theory c.loop-one.parts.store.events mid.0 (view_of c.update.new.parts) c.update.new.tally c.update.new.walk) inv.theory gone.1);
+      },
+    )
+
+pub loop-one-preserved : goal.loop-one-preserved
+loop-one-preserved g c = record {
+  so_far = λ soon start.
+      let inv = c.loop-one.invariant in
+      let mid = inv.so_far soon start in
+      let to = subst (λ events. HasWalkedTo g.T.Moment.rank c.loop-one.parts.checked events mid.0 (view_of c.loop-one.parts) c.loop-one.tally c.loop-one.walk) (sym (ap (λ s. s.events) inv.store))
+      (subst (λ theory. HasWalkedTo g.T.Moment.rank theory c.args.parts.now.store.events mid.0 (view_of c.loop-one.parts) c.loop-one.tally c.loop-one.walk) (sym inv.theory) mid.2) in
+      let gone = goes_ok (updated c.loop-one.parts.checked mid.0 (plain_update g.T.Moment.rank c.one-item.result))
+      (λ after. HasWalkedTo g.T.Moment.rank c.loop-one.parts.checked c.loop-one.parts.store.events after (view_of c.update.new.parts) c.update.new.tally c.update.new.walk) (c.in-Ok.ensures.goes mid.0 to) in (
+        gone.0,
+        ap (λ us. updated_from c.args.parts.now.checked 1 soon us) (map-take_more (plain_update g.T.Moment.rank) c.args.batch.now c.loop-one.one-index c.one-item.result c.loop-one-test.true)
+            ∙ ap (λ x. updated_from c.args.parts.now.checked 1 soon (map (plain_update g.T.Moment.rank) (take c.loop-one.one-index c.args.batch.now) ++ plain_update g.T.Moment.rank x ∷ [])) (sym c.one-item.is)
+            ∙ updated_from-next c.args.parts.now.checked 1 soon mid.0 gone.0 (map (plain_update g.T.Moment.rank) (take c.loop-one.one-index c.args.batch.now)) (plain_update g.T.Moment.rank c.one-item.result) mid.1
+            (ap (λ t. updated t mid.0 (plain_update g.T.Moment.rank c.one-item.result)) (sym inv.theory) ∙ gone.1),
+        subst (λ events. HasWalkedTo g.T.Moment.rank c.args.parts.now.checked events gone.0 (view_of c.update.new.parts) c.update.new.tally c.update.new.walk) (ap (λ s. s.events) inv.store)
+            (subst (λ theory. HasWalkedTo g.T.Moment.rank theory c.loop-one.parts.store.events gone.0 (view_of c.update.new.parts) c.update.new.tally c.update.new.walk) inv.theory (gone.2)),
+      );
+  counted = ap (λ n. n + 1) c.loop-one.invariant.counted;
+  theory = c.update.ensures.theory ∙ c.loop-one.invariant.theory;
+  store = c.update.ensures.store ∙ c.loop-one.invariant.store;
+  len = omega (arith, c.update.ensures.len, c.loop-one.invariant.len);
+  steps = omega (arith, c.update.ensures.steps, c.loop-one.invariant.steps);
+}

@@ -1,0 +1,13 @@
+pub mod Limits
+pub mod Net
+pub mod Limited
+pub mod Walk
+pub mod BatchMemory
+pub mod Through
+pub mod Build
+pub mod Idle
+pub mod ComingIn
+pub mod Undo
+pub mod Attempt
+pub mod NetChange
+pub mod UndoChange
