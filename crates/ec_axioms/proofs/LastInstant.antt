@@ -109,6 +109,13 @@ length-before_last events t s last = length-events_before_at events s t last.bef
 
 -- ---- what is current behind it
 
+-- one event more, by whether it is before the last instant, at it or behind it
+split_step : (at_t at_s same te ts rest_t rest_s rest : Bool) → rest_t ≡ (rest_s || (rest && ts)) → (same ≡ true → te ≡ ts) →
+    at_t ≡ (at_s || same) → ((at_t && te) || rest_t) ≡ (((at_s && te) || rest_s) || ((same || rest) && ts))
+split_step at_t at_s true te true rest_t rest_s rest ih here order = grind arith
+split_step at_t at_s true te false rest_t rest_s rest ih here order = grind arith
+split_step at_t at_s false te ts rest_t rest_s rest ih here order = grind arith
+
 -- a test of the events before t is that of the events before the last instant, and of that instant where an event is there
 any_before-split : (test : ℤ → Bool) (events : List PlainEvent) (t s : ℤ) → int_lt s t ≡ true →
     list_all (λ e. int_le e.rank s || int_le t e.rank) events ≡ true →
@@ -118,7 +125,8 @@ any_before-split test (e ∷ events) t s before all =
     let parts = and_parts _ _ all in
     let ih = any_before-split test events t s before parts.1 in
     let here : int_eq e.rank s ≡ true → test e.rank ≡ test s = λ is. ap test (int_eq-is e.rank s is) in
-    let order : int_lt e.rank t ≡ (int_lt e.rank s || int_eq e.rank s) = let one = parts.0 in grind (arith, ints) in grind arith
+    let order : int_lt e.rank t ≡ (int_lt e.rank s || int_eq e.rank s) = let one = parts.0 in grind (arith, ints) in
+    split_step (int_lt e.rank t) (int_lt e.rank s) (int_eq e.rank s) (test e.rank) (test s) _ _ _ ih here order
 
 any_before-last : (test : ℤ → Bool) (events : List PlainEvent) (t s : ℤ) → IsLastBefore events t s →
     any_before test events t ≡ (any_before test events s || test s)

@@ -1,5 +1,6 @@
 -- Each answer is a step of the definitions.
-use Rattle.std.proofs.Common.{rules, map, IsTrue, refl, sym, ap, subst, ◌∙◌}
+use Rattle.std.proofs.Common.{rules, map, IsTrue, refl, sym, ap, subst, ◌∙◌, arith}
+use Rattle.std.proofs.lemmas.Grind.{common_steps}
 use Rattle.ec_terms.specs.Binding.{values_of}
 use Rattle.ec_terms.specs.Domain.{ground_literal_of}
 use Rattle.ec_terms.specs.Matchable.{IsGiven}
@@ -92,7 +93,7 @@ pub rule_changes-literals_agree-requires : goal.rule_changes-literals_agree-requ
 rule_changes-literals_agree-requires g t c =
     let all : GivesAll c.args.rule.now.event (values_of c.in-Some.binding) =
     λ v there. is_some-fits c.args.rule.now.event (ground_of c.args.event.now) _ v (c.in-Some.ensures.fits.0 refl) c.in-Some.ensures.binding there in
-    search rules
+    grind (arith, common_steps)
 
 pub rule_changes-returns-then-not-tests_hold : goal.rule_changes-returns-then-not-tests_hold
 rule_changes-returns-then-not-tests_hold g t c =
@@ -119,7 +120,7 @@ rule_changes-returns-then-makes_change g t c =
 
 pub literals_agree-fill_ref-prop-requires-clause-bound : goal.literals_agree-fill_ref-prop-requires-clause-bound
 literals_agree-fill_ref-prop-requires-clause-bound g t c =
-    let given : IsGiven c.args.rule.now.event c.literal-item.result.prop = search rules in
+    let given : IsGiven c.args.rule.now.event c.literal-item.result.prop = grind (arith, common_steps) in
     fills-given c.args.rule.now.event c.literal-item.result.prop (values_of c.args.binding.now) c.requires.bound given.places
 
 pub literals_agree-returns-then-is_current-literal : goal.literals_agree-returns-then-is_current-literal
@@ -142,3 +143,39 @@ pub literals_agree-returns : goal.literals_agree-returns
 literals_agree-returns g t c =
     literals_pass (agrees (is_current c.args.theory.now (map (event_of g.T.Moment.rank) c.args.events.now)) (g.T.Moment.rank c.args.at)) (ground_literal_of (values_of c.args.binding.now))
     c.as_slice-literal-items.result.now c.args.rule.now.literals c.loop-literal.literal-index c.as_slice-literal-items.ensures c.loop-literal-test.false c.loop-literal.invariant
+
+pub event_changes-loop-rule-preserved : goal.event_changes-loop-rule-preserved
+event_changes-loop-rule-preserved g t c = grind (arith, common_steps)
+
+pub event_changes-loop-rule-smaller : goal.event_changes-loop-rule-smaller
+event_changes-loop-rule-smaller g t c = grind (arith, common_steps)
+
+pub event_changes-offset_bounds-rule-items-rule-index : goal.event_changes-offset_bounds-rule-items-rule-index
+event_changes-offset_bounds-rule-items-rule-index g t c = grind (arith, common_steps)
+
+pub event_changes-returns : goal.event_changes-returns
+event_changes-returns g t c = grind (arith, common_steps)
+
+pub event_changes-returns-then-rule_changes : goal.event_changes-returns-then-rule_changes
+event_changes-returns-then-rule_changes g t c = grind (arith, common_steps)
+
+pub event_changes-rule_changes-requires : goal.event_changes-rule_changes-requires
+event_changes-rule_changes-requires g t c = grind (arith, common_steps)
+
+pub has_change-loop-event-smaller : goal.has_change-loop-event-smaller
+has_change-loop-event-smaller g t c = grind (arith, common_steps)
+
+pub is_current-is_initial-requires-clause-named : goal.is_current-is_initial-requires-clause-named
+is_current-is_initial-requires-clause-named g t c = grind (arith, common_steps)
+
+pub literals_agree-fill_ref-prop-requires-clause-small : goal.literals_agree-fill_ref-prop-requires-clause-small
+literals_agree-fill_ref-prop-requires-clause-small g t c = grind (arith, common_steps)
+
+pub literals_agree-loop-literal-smaller : goal.literals_agree-loop-literal-smaller
+literals_agree-loop-literal-smaller g t c = grind (arith, common_steps)
+
+pub literals_agree-offset_bounds-literal-items-literal-index : goal.literals_agree-offset_bounds-literal-items-literal-index
+literals_agree-offset_bounds-literal-items-literal-index g t c = grind (arith, common_steps)
+
+pub rule_changes-makes_change-requires-clause-head_named : goal.rule_changes-makes_change-requires-clause-head_named
+rule_changes-makes_change-requires-clause-head_named g t c = grind (arith, common_steps)

@@ -1,5 +1,6 @@
 -- The last of the events before the time is at the last instant before it.
-use Rattle.std.proofs.Common.{sym}
+use Rattle.std.proofs.Common.{sym, arith}
+use Rattle.std.proofs.lemmas.Grind.{common_steps}
 use Rattle.ec_axioms.specs.Events.{event_of}
 use Rattle.ec_axioms.proofs.LastInstant.{IsLastBefore-slice}
 use Rattle.ec_axioms.proofs.currency.last_before.Goals as goal
@@ -8,3 +9,9 @@ pub returns-clause-last : goal.returns-clause-last
 returns-clause-last g c =
     IsLastBefore-slice (event_of g.T.Moment.rank) c.args.events.now c.before-2.result.now (g.T.Moment.rank c.args.at) c.in_ok-event.event.now
     c.requires.ordered c.before-2.ensures (sym c.in_ok-event.ensures.value)
+
+pub returns-in_err-event-clause-last : goal.returns-in_err-event-clause-last
+returns-in_err-event-clause-last g c = grind (arith, common_steps)
+
+pub returns-in_err-event-clause-none : goal.returns-in_err-event-clause-none
+returns-in_err-event-clause-none g c = grind (arith, common_steps)

@@ -1,9 +1,10 @@
 -- A test of the plain events is that test of the events.
-use Rattle.std.proofs.Common.{◌≡◌, ◌∙◌, true, sym, ap, ap₂}
+use Rattle.std.proofs.Common.{◌≡◌, ◌∙◌, true, sym, ap, ap₂, arith}
 use Rattle.std.specs.Prelude.{bytes_eq}
 use Rattle.std.specs.List.{list_any}
 use Rattle.std.proofs.lemmas.List.{take_all}
 use Rattle.std.proofs.lemmas.List.Folds.{list_any_at}
+use Rattle.std.proofs.lemmas.Grind.{common_steps}
 use Rattle.ec_axioms.specs.Changes.{has_id}
 use Rattle.ec_axioms.specs.Events.{event_of}
 use Rattle.ec_lists.proofs.Tests.{list_any-map}
@@ -27,3 +28,7 @@ returns g c =
     sym
     (list_any-map (λ e. bytes_eq e.id c.args.id.now) f c.args.events.now
     ∙ ap (list_any (λ x. bytes_eq x.id c.args.id.now)) (sym (take_all c.loop-other.other-index c.args.events.now c.loop-other-test.false)) ∙ c.loop-other.invariant)
+
+pub loop-other-preserved : goal.loop-other-preserved
+unfolding has_id
+loop-other-preserved g c = grind (arith, common_steps)
