@@ -150,9 +150,6 @@ event_changes-loop-rule-preserved g t c = grind (arith, common_steps)
 pub event_changes-loop-rule-smaller : goal.event_changes-loop-rule-smaller
 event_changes-loop-rule-smaller g t c = grind (arith, common_steps)
 
-pub event_changes-offset_bounds-rule-items-rule-index : goal.event_changes-offset_bounds-rule-items-rule-index
-event_changes-offset_bounds-rule-items-rule-index g t c = grind (arith, common_steps)
-
 pub event_changes-returns : goal.event_changes-returns
 event_changes-returns g t c = grind (arith, common_steps)
 
@@ -165,17 +162,5 @@ event_changes-rule_changes-requires g t c = grind (arith, common_steps)
 pub has_change-loop-event-smaller : goal.has_change-loop-event-smaller
 has_change-loop-event-smaller g t c = grind (arith, common_steps)
 
-pub is_current-is_initial-requires-clause-named : goal.is_current-is_initial-requires-clause-named
-is_current-is_initial-requires-clause-named g t c = grind (arith, common_steps)
-
 pub literals_agree-fill_ref-prop-requires-clause-small : goal.literals_agree-fill_ref-prop-requires-clause-small
 literals_agree-fill_ref-prop-requires-clause-small g t c = grind (arith, common_steps)
-
-pub literals_agree-loop-literal-smaller : goal.literals_agree-loop-literal-smaller
-literals_agree-loop-literal-smaller g t c = grind (arith, common_steps)
-
-pub literals_agree-offset_bounds-literal-items-literal-index : goal.literals_agree-offset_bounds-literal-items-literal-index
-literals_agree-offset_bounds-literal-items-literal-index g t c = grind (arith, common_steps)
-
-pub rule_changes-makes_change-requires-clause-head_named : goal.rule_changes-makes_change-requires-clause-head_named
-rule_changes-makes_change-requires-clause-head_named g t c = grind (arith, common_steps)

@@ -10,8 +10,5 @@ returns-clause-last g c =
     IsLastBefore-slice (event_of g.T.Moment.rank) c.args.events.now c.before-2.result.now (g.T.Moment.rank c.args.at) c.in_ok-event.event.now
     c.requires.ordered c.before-2.ensures (sym c.in_ok-event.ensures.value)
 
-pub returns-in_err-event-clause-last : goal.returns-in_err-event-clause-last
-returns-in_err-event-clause-last g c = grind (arith, common_steps)
-
 pub returns-in_err-event-clause-none : goal.returns-in_err-event-clause-none
 returns-in_err-event-clause-none g c = grind (arith, common_steps)
