@@ -247,6 +247,22 @@ change_absent f items theory events p change t i all past none =
     let whole : take i (map f items) ≡ map f items = take_all i (map f items) (omega (arith, length-map items f)) in
     sym none ∙ ap (list_any test) (whole ∙ all) ∙ changes_at-events theory events p change t
 
+-- of rules asked in turn one passes
+pub rule_found : {X : Type 0} (p : X → Bool) (items rules : List X) (i : ℕ) (item : X) (answer : Bool) → items ≡ rules → i < length items →
+    item ≡ get_or items i item → answer ≡ p item → answer ≡ true → true ≡ list_any p rules
+rule_found p items rules i item answer same within there says is =
+    let inside : i < length rules = omega (arith, ap length same) in
+    let at : get_or rules i item ≡ item = ap (λ xs. get_or xs i item) (sym same) ∙ sym there in
+    sym (list_any_at p rules i item inside (ap p at ∙ sym says ∙ is))
+
+-- it does not pass, and neither did those before it
+pub rule_not_yet : {X : Type 0} (p : X → Bool) (items rules : List X) (i : ℕ) (item : X) (answer : Bool) → items ≡ rules → i < length items →
+    item ≡ get_or items i item → answer ≡ p item → answer ≡ false → list_any p (take i rules) ≡ false → list_any p (take (i + 1) rules) ≡ false
+rule_not_yet p items rules i item answer same within there says is so_far =
+    let inside : i < length rules = omega (arith, ap length same) in
+    let at : get_or rules i item ≡ item = ap (λ xs. get_or xs i item) (sym same) ∙ sym there in
+    list_any_more p rules i item inside ∙ or_from _ _ so_far (ap p at ∙ sym says ∙ is)
+
 -- a rule is asked whether its tests hold, whether it would make the change, and whether its literals agree
 pub does_change_by-no_tests : (theory : Theory) (events : List PlainEvent) (p : Ground) (change : Change) (t : ℤ) (event : Ground) (rule : Rule) (values : Values) →
     values ≡ binding_of rule.event event → fits_some rule.event event ≡ true → list_all (test_holds values) rule.tests ≡ false →

@@ -8,8 +8,8 @@ use Rattle.ec_terms.specs.Term.{names_are_names}
 use Rattle.ec_terms.specs.Term.{ground_of}
 use Rattle.ec_axioms.specs.Calculus.{agrees, is_current}
 use Rattle.ec_axioms.specs.Events.{event_of}
-use Rattle.ec_axioms.specs.Plain.{would_change}
-use Rattle.ec_axioms.proofs.Changing.{does_change_by-fit, does_change_by-no_fit, change_found, change_not_yet, change_absent, is_argument-from_names, does_change_by-no_tests, would_not, would_do, agrees-asked, literal_fails, literal_passes, literals_pass}
+use Rattle.ec_axioms.specs.Plain.{would_change, does_change_by}
+use Rattle.ec_axioms.proofs.Changing.{does_change_by-fit, does_change_by-no_fit, change_found, change_not_yet, change_absent, rule_found, rule_not_yet, is_argument-from_names, does_change_by-no_tests, would_not, would_do, agrees-asked, literal_fails, literal_passes, literals_pass}
 use Rattle.ec_terms.proofs.Exclusion.{false-from_none}
 use Rattle.ec_axioms.proofs.Givens.{GivesAll, are_ready-given, fills-given, is_some-fits}
 use Rattle.ec_axioms.proofs.LastInstant.{length-before_last, is_current-last, is_current-first, if_initiated, if_current, if_neither}
@@ -145,7 +145,11 @@ literals_agree-returns g t c =
     c.as_slice-literal-items.result.now c.args.rule.now.literals c.loop-literal.literal-index c.as_slice-literal-items.ensures c.loop-literal-test.false c.loop-literal.invariant
 
 pub event_changes-loop-rule-preserved : goal.event_changes-loop-rule-preserved
-event_changes-loop-rule-preserved g t c = grind (arith, common_steps)
+event_changes-loop-rule-preserved g t c =
+    rule_not_yet
+    (does_change_by c.args.theory.now (map (event_of g.T.Moment.rank) c.args.events.now) (ground_of c.args.p.now) c.args.change (g.T.Moment.rank c.args.at) (ground_of c.args.event.now))
+    c.as_slice-rule-items.result.now c.args.theory.now.rules c.loop-rule.rule-index c.rule-item.result c.rule_changes.result
+    c.as_slice-rule-items.ensures c.loop-rule-test.true c.rule-item.is c.rule_changes.ensures c.if-rule_changes.false c.loop-rule.invariant
 
 pub event_changes-loop-rule-smaller : goal.event_changes-loop-rule-smaller
 event_changes-loop-rule-smaller g t c = grind (arith, common_steps)
@@ -154,7 +158,11 @@ pub event_changes-returns : goal.event_changes-returns
 event_changes-returns g t c = grind (arith, common_steps)
 
 pub event_changes-returns-then-rule_changes : goal.event_changes-returns-then-rule_changes
-event_changes-returns-then-rule_changes g t c = grind (arith, common_steps)
+event_changes-returns-then-rule_changes g t c =
+    rule_found
+    (does_change_by c.args.theory.now (map (event_of g.T.Moment.rank) c.args.events.now) (ground_of c.args.p.now) c.args.change (g.T.Moment.rank c.args.at) (ground_of c.args.event.now))
+    c.as_slice-rule-items.result.now c.args.theory.now.rules c.loop-rule.rule-index c.rule-item.result c.rule_changes.result
+    c.as_slice-rule-items.ensures c.loop-rule-test.true c.rule-item.is c.rule_changes.ensures c.if-rule_changes.true
 
 pub event_changes-rule_changes-requires : goal.event_changes-rule_changes-requires
 event_changes-rule_changes-requires g t c = grind (arith, common_steps)
