@@ -1,7 +1,15 @@
-use Rattle.std.proofs.Common.{sym, subst}
+-- The first fault that is found, by the lemmas of a first one.
+use Rattle.std.proofs.Common.{sym, subst, arith}
+use Rattle.ec_check.proofs.FirstFound.{fault_here, fault_on, fault_end}
 use Rattle.ec_terms.specs.declared.theory.Initial.{Initial}
 use Rattle.ec_check.specs.Numbering.{AreWithoutGap}
 use Rattle.ec_check.proofs.clauses.initials_fault.Goals as goal
 
 pub initial_fault-requires : goal.initial_fault-requires
 initial_fault-requires c = subst (λ (x : Initial). AreWithoutGap x.prop.args) (sym c.index-declarations-place.is) (c.requires c.loop-place.place c.index-declarations-place.result c.loop-place-test.true)
+
+pub loop-place-preserved : goal.loop-place-preserved
+loop-place-preserved c = grind (arith, fault_here, fault_on, fault_end)
+
+pub returns-in-Some : goal.returns-in-Some
+returns-in-Some c = grind (arith, fault_here, fault_on, fault_end)
