@@ -1,5 +1,6 @@
 -- What stands at the cut is at the time, or nothing is.
 use Rattle.std.proofs.Common.{arith, sym, ◌∙◌}
+use Rattle.std.proofs.lemmas.Grind.{common_steps}
 use Rattle.ec_rows.proofs.TimedLemmas.{drop-after_at, IsFreeAt-end, IsFreeAt-other, drop-after_free, has_member-free}
 use Rattle.ec_rows.proofs.search.place_of.Goals as goal
 
@@ -24,3 +25,6 @@ pub returns-else-is_at-clause-behind : goal.returns-else-is_at-clause-behind
 returns-else-is_at-clause-behind g c =
     drop-after_free g.T.Moment.rank g.X.Timed.time (g.T.Moment.rank c.args.at) c.args.row.now _ c.requires c.count_before-place.ensures.cut
     (IsFreeAt-other g.T.Moment.rank g.X.Timed.time (g.T.Moment.rank c.args.at) c.args.row.now _ c.index-row-place.result c.index-row-place.is (sym c.is_at.ensures ∙ c.if-is_at.false))
+
+pub returns-then-is_at-clause-present : goal.returns-then-is_at-clause-present
+returns-then-is_at-clause-present g c = grind (arith, common_steps)

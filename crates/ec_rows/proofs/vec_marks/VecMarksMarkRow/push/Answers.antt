@@ -1,6 +1,7 @@
 -- A row with one mark more behind all others is in order.
-use Rattle.std.proofs.Common.{sym, subst}
+use Rattle.std.proofs.Common.{sym, subst, arith}
 use Rattle.std.specs.Prelude.{IsTrue}
+use Rattle.std.proofs.lemmas.Grind.{common_steps}
 use Rattle.ec_rows.specs.declared.mark.Mark.{Mark}
 use Rattle.ec_terms.specs.Reserved.{Reserved}
 use Rattle.ec_rows.specs.Marks.{are_before}
@@ -14,3 +15,9 @@ invariant_of-self-2 g c =
 
 pub returns-clause-row : goal.returns-clause-row
 returns-clause-row g c = invariant_of-self-2 g c
+
+pub returns-clause-ok : goal.returns-clause-ok
+returns-clause-ok g c = grind (arith, common_steps)
+
+pub returns-clause-spare : goal.returns-clause-spare
+returns-clause-spare g c = grind (arith, common_steps)

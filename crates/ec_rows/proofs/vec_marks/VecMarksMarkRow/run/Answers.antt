@@ -1,6 +1,7 @@
 -- The run is all of the `Vec` from the place on.
 use Rattle.std.proofs.Common.{◌-◌, ap, arith, drop, length, length-drop, take}
 use Rattle.std.proofs.lemmas.List.{length-take}
+use Rattle.std.proofs.lemmas.Grind.{common_steps}
 use Rattle.ec_rows.proofs.vec_marks.VecMarksMarkRow.run.Goals as goal
 
 pub returns-clause-run : goal.returns-clause-run
@@ -12,3 +13,15 @@ returns-clause-run g c =
 
 pub returns-clause-row : goal.returns-clause-row
 returns-clause-row g c = rw (← c.self.view_is) c.self.invariant
+
+pub offset_bounds-deref-i : goal.offset_bounds-deref-i
+offset_bounds-deref-i g c = grind (arith, common_steps)
+
+pub returns-clause-some : goal.returns-clause-some
+returns-clause-some g c = grind (arith, common_steps)
+
+pub slice_bounds-result-count : goal.slice_bounds-result-count
+slice_bounds-result-count g c = grind (arith, common_steps)
+
+pub slice_bounds-result-start : goal.slice_bounds-result-start
+slice_bounds-result-start g c = grind (arith, common_steps)
