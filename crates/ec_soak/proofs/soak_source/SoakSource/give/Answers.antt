@@ -1,6 +1,7 @@
 -- What is left stays the same when the next line is drawn, and begins with the bytes that are copied.
 use Rattle.std.proofs.Common.{◌≡◌, ◌∙◌, ◌++◌, drop, length, take, ◌-◌, ap, sym, arith}
 use Rattle.std.proofs.lemmas.List.{take_rest}
+use Rattle.std.proofs.lemmas.Grind.{common_steps}
 use Rattle.ec_soak.specs.Load.{load_of}
 use Rattle.ec_soak.proofs.Loads.{left-after, left-next}
 use Rattle.ec_soak.proofs.soak_source.SoakSource.give.Goals as goal
@@ -26,3 +27,18 @@ returns-clause-given c =
     take_rest c.as_bytes-2.result.now at ∙ ap (λ bytes. drop at bytes) c.as_bytes-2.ensures in
     left-after text _ _ c.copy_from_slice.new.self (drop c.min-count.result c.args.into.now) at c.min-count.result left
     (c.copy_from_slice.ensures.after ∙ ap (λ all. take c.min-count.result all) rest) (omega (arith, ap length rest))
+
+pub copy_from_slice-requires : goal.copy_from_slice-requires
+copy_from_slice-requires c = grind (arith, common_steps)
+
+pub slice_bounds-copy_from_slice-end-2 : goal.slice_bounds-copy_from_slice-end-2
+slice_bounds-copy_from_slice-end-2 c = grind (arith, common_steps)
+
+pub slice_bounds-copy_from_slice-end-3 : goal.slice_bounds-copy_from_slice-end-3
+slice_bounds-copy_from_slice-end-3 c = grind (arith, common_steps)
+
+pub slice_bounds-rest-count : goal.slice_bounds-rest-count
+slice_bounds-rest-count c = grind (arith, common_steps)
+
+pub slice_bounds-rest-start : goal.slice_bounds-rest-start
+slice_bounds-rest-start c = grind (arith, common_steps)

@@ -1,0 +1,10 @@
+-- The count goes up by the words that are the same.
+use Rattle.std.proofs.Common.{arith}
+use Rattle.std.proofs.lemmas.Grind.{common_steps}
+use Rattle.ec_soak.proofs.counts.count_if.Goals as goal
+
+pub returns-else-eq : goal.returns-else-eq
+returns-else-eq c = grind (arith, common_steps)
+
+pub returns-then-eq : goal.returns-then-eq
+returns-then-eq c = grind (arith, common_steps)
