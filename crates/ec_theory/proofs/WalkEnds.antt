@@ -1,5 +1,6 @@
 -- What is read by the grammar ends the walk at a clause's beginning.
 use Rattle.std.proofs.Common.{◌≡◌, ℕ, Bool, true, false, List, [], ◌∷◌, map, Option, Some, None, refl, ◌∙◌}
+use Rattle.std.proofs.lemmas.Bool.{false≢true}
 use Rattle.std.specs.Option.{option_map_or}
 use Rattle.ec_terms.specs.declared.pattern.PatArg.{PatArg}
 use Rattle.ec_terms.specs.declared.pattern.Pattern.{Pattern}
@@ -42,14 +43,14 @@ compares (s ∷ signs) = is_compare s
 
 given_left : (op : TestOp) (signs : List Sign) (symbol : Symbol) → is_argument (Given symbol) ≡ true → finishes ConditionAt (Given symbol ∷ Compare op ∷ signs) ≡ finishes RightSideAt signs
 unfolding finishes moves moves_behind first_move
-given_left op signs If e = cc
-given_left op signs Not e = cc
+given_left op signs If e = absurd (false≢true e)
+given_left op signs Not e = absurd (false≢true e)
 given_left op signs Anything e = refl
-given_left op signs Open e = cc
-given_left op signs Close e = cc
-given_left op signs Comma e = cc
-given_left op signs Dot e = cc
-given_left op signs Slash e = cc
+given_left op signs Open e = absurd (false≢true e)
+given_left op signs Close e = absurd (false≢true e)
+given_left op signs Comma e = absurd (false≢true e)
+given_left op signs Dot e = absurd (false≢true e)
+given_left op signs Slash e = absurd (false≢true e)
 
 module _ (names : List (List ℕ)) where
   arguments_finish : {signs : List Sign} {args : List PatArg} {rest : List Sign} → TakesArguments names signs args rest → (part : Part) → finishes (ArgumentAt part) signs ≡ finishes (AfterPattern part) rest

@@ -16,13 +16,13 @@ loop-file-init c =
 
 pub returns-then-eq : goal.returns-then-eq
 returns-then-eq c =
-    let hit : pointwise nat_eq c.args.name.now (string_bytes c.file-item.result.name) ≡ true = cc in
+    let hit : pointwise nat_eq c.args.name.now (string_bytes c.file-item.result.name) ≡ true = rw c.as_str.ensures.value at (sym (c.if-eq.ensures {u = tt})) in
     let here = find-drop _ c.loop-file.file-index c.file-item.result c.args.name.now c.loop-file-test.true c.file-item.is in
     ap Some c.as_slice.ensures.value ∙ sym (c.loop-file.invariant ∙ (rw hit at here))
 
 pub loop-file-preserved : goal.loop-file-preserved
 loop-file-preserved c =
-    let miss : pointwise nat_eq c.args.name.now (string_bytes c.file-item.result.name) ≡ false = cc in
+    let miss : pointwise nat_eq c.args.name.now (string_bytes c.file-item.result.name) ≡ false = rw c.as_str.ensures.value at (sym (c.if-eq.ensures {u = tt})) in
     let here = find-drop _ c.loop-file.file-index c.file-item.result c.args.name.now c.loop-file-test.true c.file-item.is in
     c.loop-file.invariant ∙ (rw miss at here)
 
