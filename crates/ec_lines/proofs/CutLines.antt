@@ -10,15 +10,22 @@ use Rattle.ec_axioms.proofs.LineEnds.{without_return-nil, without_return-one, wi
 
 -- ---- a carriage return at the end
 
+-- one less than a length, and the last place behind the first
+less_one : (n : ℕ) → suc (suc n) - 1 ≡ suc (suc n - 1)
+less_one n = omega arith
+
+last-rest : (b c : ℕ) (bytes : List ℕ) → get_or (b ∷ c ∷ bytes) (length (b ∷ c ∷ bytes) - 1) 0 ≡ get_or (c ∷ bytes) (length (c ∷ bytes) - 1) 0
+last-rest b c bytes = ap (λ n. get_or (b ∷ c ∷ bytes) n 0) (less_one (length bytes))
+
 -- a carriage return is dropped from a part that ends with one
 pub without_return-take : (bytes : List ℕ) → 0 < length bytes → get_or bytes (length bytes - 1) 0 ≡ carriage_return
     → without_return bytes ≡ take (length bytes - 1) bytes
 without_return-take [] some ends = absurd (omega arith)
-without_return-take (b ∷ []) some ends = without_return-one b ∙ grind (arith, common_steps)
+without_return-take (b ∷ []) some ends = without_return-one b ∙ cond-true _ _ _ (eq-eqb b carriage_return ends)
 without_return-take (b ∷ c ∷ bytes) some ends =
     without_return-cons b c bytes
-    ∙ ap (λ rest. b ∷ rest) (without_return-take (c ∷ bytes) (omega arith) (grind (arith, common_steps)))
-    ∙ grind (arith, common_steps)
+    ∙ ap (λ rest. b ∷ rest) (without_return-take (c ∷ bytes) (omega arith) (sym (last-rest b c bytes) ∙ ends))
+    ∙ sym (ap (λ n. take n (b ∷ c ∷ bytes)) (less_one (length bytes)))
 
 -- a part that ends otherwise stays as it is
 pub without_return-same : (bytes : List ℕ) → (0 < length bytes → get_or bytes (length bytes - 1) 0 ≢ carriage_return) → without_return bytes ≡ bytes
@@ -26,7 +33,7 @@ without_return-same [] other = without_return-nil
 without_return-same (b ∷ []) other = without_return-one b ∙ cond-false _ _ _ (ne_eqb b carriage_return (other (omega arith)))
 without_return-same (b ∷ c ∷ bytes) other =
     without_return-cons b c bytes
-    ∙ ap (λ rest. b ∷ rest) (without_return-same (c ∷ bytes) (λ some same. other (omega arith) (grind (arith, common_steps))))
+    ∙ ap (λ rest. b ∷ rest) (without_return-same (c ∷ bytes) (λ some same. other (omega arith) (last-rest b c bytes ∙ same)))
 
 -- at most one byte is dropped
 pub length-without_return : (bytes : List ℕ) → length bytes ≤ length (without_return bytes) + 1

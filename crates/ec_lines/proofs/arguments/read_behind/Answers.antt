@@ -1,6 +1,7 @@
 -- What follows from the calls and the tests before it.
 use Rattle.std.proofs.Common.{arith}
 use Rattle.std.proofs.lemmas.Grind.{common_steps}
+use Rattle.ec_axioms.specs.Commands.{command_by}
 use Rattle.ec_lines.proofs.arguments.read_behind.Goals as goal
 
 pub returns-in-Assert-clause-command : goal.returns-in-Assert-clause-command
@@ -26,3 +27,7 @@ returns-in-Broken-clause-command c = grind (arith, common_steps)
 
 pub returns-in-Retract-clause-command : goal.returns-in-Retract-clause-command
 returns-in-Retract-clause-command c = grind (arith, common_steps)
+
+pub returns-in_default-clause-command : goal.returns-in_default-clause-command
+unfolding command_by
+returns-in_default-clause-command g c = grind (arith, common_steps)

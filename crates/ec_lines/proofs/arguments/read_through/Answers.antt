@@ -1,6 +1,7 @@
 -- What follows from the calls and the tests before it.
 use Rattle.std.proofs.Common.{arith}
 use Rattle.std.proofs.lemmas.Grind.{common_steps}
+use Rattle.ec_axioms.specs.Commands.{command_by, name_value}
 use Rattle.ec_lines.proofs.arguments.read_through.Goals as goal
 
 pub returns-in_err-until-clause-names : goal.returns-in_err-until-clause-names
@@ -20,3 +21,27 @@ returns-in_err-next-clause-names c = grind (arith, common_steps)
 
 pub returns-in_err-last-clause-names : goal.returns-in_err-last-clause-names
 returns-in_err-last-clause-names c = grind (arith, common_steps)
+
+pub returns-in_err-next-clause-command : goal.returns-in_err-next-clause-command
+unfolding command_by name_value
+returns-in_err-next-clause-command g c = grind (arith, common_steps)
+
+pub returns-in_err-until-clause-command : goal.returns-in_err-until-clause-command
+unfolding command_by name_value
+returns-in_err-until-clause-command g c = grind (arith, common_steps)
+
+pub returns-in_err-prop-clause-command : goal.returns-in_err-prop-clause-command
+unfolding command_by name_value
+returns-in_err-prop-clause-command g c = grind (arith, common_steps)
+
+pub returns-in_err-last-clause-command : goal.returns-in_err-last-clause-command
+unfolding command_by name_value
+returns-in_err-last-clause-command g c = grind (arith, common_steps)
+
+pub returns-clause-command : goal.returns-clause-command
+unfolding command_by name_value
+returns-clause-command g c = grind (arith, common_steps)
+
+pub returns-in_err-from-clause-command : goal.returns-in_err-from-clause-command
+unfolding command_by name_value
+returns-in_err-from-clause-command g c = grind (arith, common_steps)

@@ -1,4 +1,4 @@
-use Rattle.std.proofs.Common.{◌≡◌, ◌∙◌, sym, ap}
+use Rattle.std.proofs.Common.{◌≡◌, ◌-◌, ◌∙◌, take, sym, ap, ap₂}
 use Rattle.std.proofs.lemmas.Bool.{false≢true}
 use Rattle.ec_axioms.specs.Lines.{without_return}
 use Rattle.ec_lines.specs.FeedState.{FeedState}
@@ -10,11 +10,7 @@ returns-then-ends_with_return-clause-kept c =
     let kept : c.deref.result.now ≡ c.args.self.now.kept = c.deref.ensures.value ∙ ap (λ (f : FeedState). f.kept) c.self.view_is in
     let ends = c.ends_with_return.ensures.0 c.if-ends_with_return.true in
     let one_less = without_return-take c.deref.result.now ends.0 ends.1 in
-    let rest = c.pop.ensures.rest in
-    let size = c.deref.ensures.len in
-    let is = c.deref.ensures.value in
-    let named = ap without_return kept in
-    cc
+    c.pop.ensures.rest ∙ ap₂ (λ n xs. take (n - 1) xs) (sym c.deref.ensures.len) (sym c.deref.ensures.value) ∙ sym one_less ∙ ap without_return kept
 
 pub returns-else-ends_with_return-clause-kept : goal.returns-else-ends_with_return-clause-kept
 returns-else-ends_with_return-clause-kept c =
