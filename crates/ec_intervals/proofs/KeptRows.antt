@@ -1,14 +1,18 @@
 -- Rows that are kept by number: what the table shows of them, and that they stay few.
-use Rattle.std.proofs.Common.{◌≡◌, ◌≢◌, ℕ, ◌<◌, zero, suc, ℤ, Bool, true, List, [], ◌∷◌, ◌++◌, length, Option, Some, None, is_some, refl, sym, ap, ap₂, subst, ◌∙◌, ⊎_elim, arith}
-use Rattle.std.specs.Prelude.{◌==◌, ◌^◌, option_map, map, slice_set}
+use Rattle.std.proofs.Common.{◌≡◌, ◌≢◌, ℕ, ◌-◌, ◌<◌, zero, suc, ℤ, Bool, true, List, [], ◌∷◌, ◌++◌, length, Option, Some, None, is_some, refl, sym, ap, ap₂, subst, ◌∙◌, ⊎_elim, arith}
+use Rattle.std.specs.Prelude.{◌==◌, ◌^◌, option_map, map, slice_get, slice_set}
 use Rattle.std.proofs.lemmas.Bool.{cases_Bool, false≢true}
+use Rattle.std.proofs.Math.Numerals.{sub-one}
 use Rattle.std.proofs.lemmas.List.{get_or_past, length-map}
+use Rattle.std.proofs.lemmas.Option.{slice_get-map}
 use Rattle.ec_numbered.specs.ByNumber.{kept_at}
+use Rattle.ec_rows.specs.declared.span.End.{End}
 use Rattle.ec_rows.specs.declared.span.Span.{Span}
 use Rattle.ec_rows.specs.Marks.{IsMarkRow}
 use Rattle.ec_rows.specs.PlainMarks.{plain_marks}
 use Rattle.ec_rows.specs.declared.mark.Mark.{Mark}
 use Rattle.ec_axioms.specs.Marks.{spans_of}
+use Rattle.ec_intervals.specs.declared.interval.Interval.{Interval}
 use Rattle.ec_intervals.specs.declared.row.KeptRow.{KeptRow}
 use Rattle.ec_intervals.specs.RowViews.{seen, seen_at, rows_seen}
 use Rattle.ec_intervals.specs.Table.{IntervalRow, IntervalTable, IsGrown, AreFew, has_row, row_at, members_in, front_in, spans_in, front_members, span_interval, plain_interval, plain_intervals}
@@ -56,10 +60,31 @@ module _ {T I : Type 0} (spans : I → List (Span T)) (spare : I → ℕ) where
   pub kept_at-found : (rows : List (Option (KeptRow T I))) (n : ℕ) (kept : KeptRow T I) → Some kept ≡ kept_at n rows → kept_at n (rows_seen spans spare rows) ≡ Some (seen spans spare kept)
   kept_at-found rows n kept found = kept_at-seen rows n ∙ ap (option_map (seen spans spare)) (sym found)
 
+  -- and none
+  pub kept_at-absent : (rows : List (Option (KeptRow T I))) (n : ℕ) → None ≡ kept_at n rows → kept_at n (rows_seen spans spare rows) ≡ None
+  kept_at-absent rows n none = kept_at-seen rows n ∙ ap (option_map (seen spans spare)) (sym none)
+
+  -- and none of no rows
+  pub kept_at-nil : (rows : List (Option (KeptRow T I))) → rows ≡ [] → (n : ℕ) → kept_at n (rows_seen spans spare rows) ≡ None
+  kept_at-nil rows empty n = ap (λ (rows : List (Option (KeptRow T I))). kept_at n (rows_seen spans spare rows)) empty ∙ get_or_past {X = Option (IntervalRow T)} [] n None (omega arith)
+
   -- a row that is kept is seen
   pub is_some-seen : (row : Option (KeptRow T I)) → is_some (option_map (seen spans spare) row) ≡ is_some row
   is_some-seen None = refl
   is_some-seen (Some row) = refl
+
+  -- the interval at a place of a row without a front, and at one behind the front
+  pub member-alone : (kept : KeptRow T I) (i : ℕ) (span : Span T) (interval : Interval T) → kept.front ≡ None → slice_get (spans kept.spans) i ≡ Some span → interval ≡ span_interval span →
+      slice_get (members_in (Some (seen spans spare kept))) i ≡ Some interval
+  member-alone kept i span interval front read is =
+      ap (λ front. slice_get (front_members front ++ map span_interval (spans kept.spans)) i) front ∙ slice_get-map span_interval (spans kept.spans) i ∙ ap (option_map span_interval) read ∙ sym (ap Some is)
+
+  pub member-behind : (kept : KeptRow T I) (i : ℕ) (end : End T) (span : Span T) (interval : Interval T) → kept.front ≡ Some end → i ≢ 0 → slice_get (spans kept.spans) (i - 1) ≡ Some span → interval ≡ span_interval span →
+      slice_get (members_in (Some (seen spans spare kept))) i ≡ Some interval
+  member-behind kept zero end span interval front behind read is = absurd (behind refl)
+  member-behind kept (suc i) end span interval front behind read is =
+      ap (λ front. slice_get (front_members front ++ map span_interval (spans kept.spans)) (suc i)) front ∙ slice_get-map span_interval (spans kept.spans) i
+      ∙ ap (option_map span_interval) (subst (λ k. slice_get (spans kept.spans) k ≡ Some span) (sub-one (suc i)) read) ∙ sym (ap Some is)
 
   -- where the intervals of one row are few and the others stay, all are few
   pub AreFew-each : (now new : List (Option (KeptRow T I))) (m : ℕ) → AreFew (rows_seen spans spare now) →

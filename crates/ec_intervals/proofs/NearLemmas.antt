@@ -36,3 +36,15 @@ module _ {T : Type 0} (rank : T → ℤ) where
       ⊎_elim (λ here. grouped n t (subst (λ k. is_outside rank (kept_at k groups) t ≡ true) (sym (equal group (n / GROUP) here)) outside))
       (λ apart. before n (left n out (eqb-apart group (n / GROUP) apart)))
       (cases_Bool (group == (n / GROUP)))
+
+  -- where one row is written, and its group has the reaches of its numbers, each group has those of its numbers
+  pub AreGrouped-set : (groups new_groups rows new_rows : List (Option (Reach T))) (p : ℕ) (joined : Option (Reach T)) → AreGrouped rank groups rows →
+      ((n : ℕ) → n ≢ p → kept_at n new_rows ≡ kept_at n rows) → ((n : ℕ) → n / GROUP ≡ p / GROUP → HasReach rank joined (kept_at n new_rows)) →
+      kept_at (p / GROUP) new_groups ≡ joined → ((n : ℕ) → n ≢ p / GROUP → kept_at n new_groups ≡ kept_at n groups) → AreGrouped rank new_groups new_rows
+  AreGrouped-set groups new_groups rows new_rows p joined grouped others all here stay n =
+      ⊎_elim (λ e. let same : n / GROUP ≡ p / GROUP = equal (p / GROUP) (n / GROUP) e in
+      subst (λ reach. HasReach rank reach (kept_at n new_rows)) (sym (ap (λ k. kept_at k new_groups) same ∙ here)) (all n same))
+      (λ e. let apart : n / GROUP ≢ p / GROUP = eqb-apart (p / GROUP) (n / GROUP) e in
+      subst (λ reach. HasReach rank reach (kept_at n new_rows)) (sym (stay (n / GROUP) apart))
+      (subst (HasReach rank (kept_at (n / GROUP) groups)) (sym (others n (λ same. apart (ap (λ k. k / GROUP) same)))) (grouped n)))
+      (cases_Bool ((p / GROUP) == (n / GROUP)))

@@ -1,6 +1,6 @@
 -- A row of intervals holds at no time outside its reach, and the reaches of all rows stay theirs where one is written.
 use Rattle.std.proofs.Common.{◌≡◌, ◌≢◌, ◌<◌, ◌≤◌, ℕ, zero, suc, ℤ, Bool, true, false, not, ◌&&◌, ◌||◌, List, [], ◌∷◌, ◌++◌, map, length, Option, Some, None, is_some, IsTrue, refl, ap, ap₂, sym, subst, ◌∙◌, ⊎_elim, arith}
-use Rattle.std.specs.Prelude.{◌==◌, int_lt, int_le, option_map, slice_get, slice_set}
+use Rattle.std.specs.Prelude.{◌==◌, ◌^◌, int_lt, int_le, option_map, slice_get, slice_set}
 use Rattle.std.specs.List.{list_any}
 use Rattle.std.proofs.lemmas.Bool.{false≢true, not-true, cases_Bool}
 use Rattle.std.proofs.lemmas.Int.{ints}
@@ -119,6 +119,14 @@ module _ {T : Type 0} (rank : T → ℤ) where
         ⊎_elim (λ e. subst (λ k. k < new_reaches.places) (sym (equal p n e)) here)
         (λ e. let within : n < reaches.places = kept.placed n (subst (λ row. IsTrue (is_some row)) (rows n (eqb-apart p n e)) there) in omega (arith, within, places))
         (cases_Bool (p == n));
+  }
+
+  -- no rows have their reaches
+  pub AreKept-none : (reaches : PlacedReaches T) (rows : List (Option (IntervalRow T))) → ((n : ℕ) → kept_at n rows ≡ None) → AreKept rank reaches rows
+  AreKept-none reaches rows none = record {
+    few = λ n. subst (λ row. length (members_in row) < 2 ^ 64) (sym (none n)) (omega arith);
+    reached = λ n t out. ap (λ row. is_held_at (plain_intervals rank (members_in row)) t) (none n);
+    placed = λ n there. absurd (false≢true (ap is_some (sym (none n)) ∙ there));
   }
 
 module _ {T I : Type 0} (spans : I → List (Span T)) (spare : I → ℕ) (rank : T → ℤ) (reaches new_reaches : PlacedReaches T) (now : List (Option (KeptRow T I))) (n : ℕ) (kept : AreKept rank reaches (rows_seen spans spare now)) where

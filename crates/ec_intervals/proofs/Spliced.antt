@@ -1,5 +1,5 @@
 -- A row of intervals, mended where its marks changed: what is read of the old intervals, and that the new ones are spelt.
-use Rattle.std.proofs.Common.{◌≡◌, ℕ, ◌+◌, ◌-◌, ◌<◌, ◌≤◌, zero, suc, ℤ, Bool, true, false, cond, not, ◌&&◌, ◌||◌, List, [], ◌∷◌, ◌++◌, map, filter, find, take, drop, length, Option, Some, None, option_map, refl, ap, ap₂, sym, subst, ◌∙◌, inl, arith}
+use Rattle.std.proofs.Common.{◌≡◌, ℕ, ◌+◌, ◌-◌, ◌<◌, ◌≤◌, zero, suc, ℤ, Bool, true, false, cond, not, ◌&&◌, ◌||◌, List, [], ◌∷◌, ◌++◌, map, filter, find, take, drop, length, Option, Some, None, is_some, option_map, refl, ap, ap₂, sym, subst, ◌∙◌, inl, arith}
 use Rattle.std.specs.Prelude.{int_lt, int_le, slice_get, IsTrue}
 use Rattle.std.specs.List.{list_all, list_any, HoldsAt, take-map, drop-map, splice}
 use Rattle.std.specs.Option.{option_map_or, option_to_list}
@@ -351,7 +351,7 @@ module _ {T : Type 0} (rank : T → ℤ) where
             first_behind (Some b) new_rest ≡ Some t → RestIs (up_to_first_behind (Some b) new_rest) × (int_lt b t ≡ true)
         unfolding RestIs up_to_first_behind
         by_behind [] late old_split new_split first =
-            absurd (let no = sym (ap (first_behind (Some b)) new_split ∙ ap (option_map (λ (m : PlainMark). m.instant)) (none_behind-find (Some b) new_within [] (within-up_to a marks row b ordered))) ∙ first in cc)
+            absurd (let no = sym (ap (first_behind (Some b)) new_split ∙ ap (option_map (λ (m : PlainMark). m.instant)) (none_behind-find (Some b) new_within [] (within-up_to a marks row b ordered))) ∙ first in false≢true (ap is_some no))
         by_behind (m ∷ ms) late old_split new_split first =
             let here : int_lt b m.instant ≡ true = and-left (int_lt b m.instant) _ late in
             let at : m.instant ≡ t = some-is (sym (ap (first_behind (Some b)) new_split

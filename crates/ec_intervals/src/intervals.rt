@@ -68,16 +68,20 @@ impl<T: Moment, I: SpanRow<T>> Intervals<T, I> {
         ensures room { IfSome result (λ row. room_at p.0 self.now ≡ I.spare row.now) }
         ensures none { IfNone result (row_at p.0 self.now ≡ None) }
     {
-        let kept = self.rows.get(p)?;
-        Some(&kept.spans)
+        match self.rows.get(p) {
+            Some(kept) => Some(&kept.spans),
+            None => None,
+        }
     }
 
     /// The end of the interval of a property from before all events. `None` exactly when it has no such interval.
     pub fn front(&self, p: PropId) -> Option<End<T>>
         ensures { result ≡ front_at p.0 self.now }
     {
-        let kept = self.rows.get(p)?;
-        kept.front
+        match self.rows.get(p) {
+            Some(kept) => kept.front,
+            None => None,
+        }
     }
 
     /// How many intervals a property has.
@@ -119,8 +123,10 @@ impl<T: Moment, I: SpanRow<T>> Intervals<T, I> {
     pub fn last_begin_before(&self, p: PropId, at: T) -> Option<Begin<T>>
         ensures { option_map (plain_begin T.rank) result ≡ last_begin_of (plain_intervals T.rank (members_at p.0 self.now)) (T.rank at) }
     {
-        let kept = self.rows.get(p)?;
-        row_begin_before(kept, at)
+        match self.rows.get(p) {
+            Some(kept) => row_begin_before(kept, at),
+            None => None,
+        }
     }
 
     /// Which properties may hold at a time, told for groups of them. It reads no row, and takes no memory.

@@ -1,6 +1,7 @@
--- What follows from the calls and the tests before it.
+-- The interval at a place is that of a span, unless it is the front.
 use Rattle.std.proofs.Common.{arith}
 use Rattle.std.proofs.lemmas.Grind.{common_steps}
+use Rattle.ec_intervals.proofs.KeptRows.{member-alone, member-behind}
 use Rattle.ec_intervals.proofs.row.member_of.Goals as goal
 
 pub get-requires-2 : goal.get-requires-2
@@ -11,3 +12,12 @@ returns-then-i-eq0 c = grind (arith, common_steps)
 
 pub get-requires : goal.get-requires
 get-requires c = grind (arith, common_steps)
+
+pub returns : goal.returns
+returns g c =
+    member-behind g.I.SpanRow.spans g.I.SpanRow.spare c.args.kept.now c.args.i c.in-Some.end c.get-2.result c.span_interval-2.result c.in-Some.is c.if-i-eq0.false
+    c.get-2.ensures.span c.span_interval-2.ensures
+
+pub returns-in_default : goal.returns-in_default
+returns-in_default g c =
+    member-alone g.I.SpanRow.spans g.I.SpanRow.spare c.args.kept.now c.args.i c.get.result c.span_interval.result c.in_default.is c.get.ensures.span c.span_interval.ensures

@@ -1,8 +1,8 @@
 -- The row that is cleared is that of the table.
 use Rattle.std.proofs.Common.{is_some, sym, ap, ◌∙◌, arith}
 use Rattle.std.proofs.lemmas.Grind.{common_steps}
-use Rattle.ec_intervals.specs.Table.{front_in, spans_in, room_in, front_at, spans_at, room_at, has_row, row_at}
-use Rattle.ec_intervals.proofs.KeptRows.{written-row, written-others, written-old, row_at-absent, AreFew-emptied}
+use Rattle.ec_intervals.specs.Table.{front_in, spans_in, room_in, room_at, has_row, row_at}
+use Rattle.ec_intervals.proofs.KeptRows.{kept_at-absent, written-row, written-others, written-old, AreFew-emptied}
 use Rattle.std.specs.Prelude.{None, Some}
 use Rattle.ec_intervals.specs.RowViews.{seen}
 use Rattle.ec_intervals.proofs.ReachLemmas.{AreKept-rewritten, IsReachOf-emptied, has_place}
@@ -19,28 +19,22 @@ set-requires g c =
     has_place g.I.SpanRow.spans g.I.SpanRow.spare g.T.Moment.rank c.self.inside.reaches c.self.inside.reaches c.self.inside.rows c.args.p.0 c.self.invariant c.in-Some.kept.now c.clear_row.new.kept c.in-Some.ensures.kept
 
 pub returns-in_default-clause-front : goal.returns-in_default-clause-front
-returns-in_default-clause-front g c =
-    let none = ap front_in (row_at-absent g.I.SpanRow.spans g.I.SpanRow.spare c.self.inside.rows c.args.self.now (ap (λ t. t.rows) c.self.view_is) c.args.p.0 c.in_default.ensures.kept) in
-    let same = ap (front_at c.args.p.0) c.self.view_is in
-    cc
+returns-in_default-clause-front g c = ap front_in (kept_at-absent g.I.SpanRow.spans g.I.SpanRow.spare c.self.inside.rows c.args.p.0 c.in_default.ensures.kept)
 
 pub returns-in_default-clause-spans : goal.returns-in_default-clause-spans
-returns-in_default-clause-spans g c =
-    let none = ap spans_in (row_at-absent g.I.SpanRow.spans g.I.SpanRow.spare c.self.inside.rows c.args.self.now (ap (λ t. t.rows) c.self.view_is) c.args.p.0 c.in_default.ensures.kept) in
-    let same = ap (spans_at c.args.p.0) c.self.view_is in
-    cc
+returns-in_default-clause-spans g c = ap spans_in (kept_at-absent g.I.SpanRow.spans g.I.SpanRow.spare c.self.inside.rows c.args.p.0 c.in_default.ensures.kept)
 
 pub returns-in_default-clause-room : goal.returns-in_default-clause-room
 returns-in_default-clause-room g c = let same = ap (room_at c.args.p.0) c.self.view_is in omega arith
 
 pub returns-in_default-clause-buffer : goal.returns-in_default-clause-buffer
-returns-in_default-clause-buffer g c = let same = ap (λ t. t.buffer) c.self.view_is in cc
+returns-in_default-clause-buffer g c = ap (λ t. t.buffer) c.self.view_is
 
 pub returns-in_default-clause-row : goal.returns-in_default-clause-row
-returns-in_default-clause-row g c = let same = ap (has_row c.args.p.0) c.self.view_is in cc
+returns-in_default-clause-row g c = ap (has_row c.args.p.0) c.self.view_is
 
 pub returns-in_default-clause-others : goal.returns-in_default-clause-others
-returns-in_default-clause-others g c = λ n other. let same = ap (row_at n) c.self.view_is in cc
+returns-in_default-clause-others g c = λ n other. ap (row_at n) c.self.view_is
 
 pub returns-clause-front : goal.returns-clause-front
 returns-clause-front g c = ap front_in (written-row g.I.SpanRow.spans g.I.SpanRow.spare c.self.inside.rows c.args.self.now (ap (λ t. t.rows) c.self.view_is) c.args.p.0 c.in-Some.kept.now c.clear_row.new.kept c.in-Some.ensures.kept) ∙ c.clear_row.ensures.front

@@ -1,15 +1,16 @@
 -- The row that is found is that of the table.
-use Rattle.std.proofs.Common.{sym, ap, ◌∙◌, arith}
-use Rattle.std.proofs.lemmas.Grind.{common_steps}
+use Rattle.std.proofs.Common.{sym, ap, ◌∙◌}
 use Rattle.ec_intervals.specs.Table.{last_begin_of, members_in, plain_intervals}
-use Rattle.ec_intervals.proofs.KeptRows.{row_at-kept}
+use Rattle.ec_intervals.proofs.KeptRows.{row_at-absent, row_at-kept}
 use Rattle.ec_intervals.proofs.intervals.Intervals.last_begin_before.Goals as goal
 
-pub returns : goal.returns
-returns g c =
+pub returns-in-Some : goal.returns-in-Some
+returns-in-Some g c =
     c.row_begin_before.ensures
     ∙ sym (ap (λ row. last_begin_of (plain_intervals g.T.Moment.rank (members_in row)) (g.T.Moment.rank c.args.at))
-    (row_at-kept g.I.SpanRow.spans g.I.SpanRow.spare c.self.inside.rows c.args.self.now (ap (λ t. t.rows) c.self.view_is) c.args.p.0 c.in_ok-kept.kept.now c.in_ok-kept.ensures))
+    (row_at-kept g.I.SpanRow.spans g.I.SpanRow.spare c.self.inside.rows c.args.self.now (ap (λ t. t.rows) c.self.view_is) c.args.p.0 c.in-Some.kept.now c.in-Some.ensures))
 
-pub returns-in_err-kept : goal.returns-in_err-kept
-returns-in_err-kept c = grind (arith, common_steps)
+pub returns-in-None : goal.returns-in-None
+returns-in-None g c =
+    sym (ap (λ row. last_begin_of (plain_intervals g.T.Moment.rank (members_in row)) (g.T.Moment.rank c.args.at))
+    (row_at-absent g.I.SpanRow.spans g.I.SpanRow.spare c.self.inside.rows c.args.self.now (ap (λ t. t.rows) c.self.view_is) c.args.p.0 c.in-None.ensures))

@@ -1,11 +1,12 @@
 -- The row that grows is that of the table.
 use Rattle.std.proofs.Common.{◌≤◌, IsTrue, is_some, OnOk, refl, sym, ap, subst, ◌∙◌, arith}
 use Rattle.std.proofs.lemmas.Grind.{common_steps}
+use Rattle.std.proofs.lemmas.Result.{on_err_weaker, on_ok_weaker}
 use Rattle.ec_numbered.specs.ByNumber.{kept_at}
 use Rattle.ec_intervals.specs.Reach.{IsReachOf}
 use Rattle.ec_intervals.specs.RowViews.{rows_seen}
 use Rattle.ec_intervals.specs.Table.{members_in, room_in}
-use Rattle.ec_intervals.proofs.KeptRows.{kept_at-seen, is_some-seen, row_at-same, IsGrown-kept, IsGrown-table}
+use Rattle.ec_intervals.proofs.KeptRows.{has_row-same, kept_at-seen, is_some-seen, row_at-same, IsGrown-kept, IsGrown-table}
 use Rattle.ec_intervals.proofs.ReachLemmas.{AreKept-grown}
 use Rattle.ec_intervals.proofs.intervals.Intervals.prepare.Goals as goal
 
@@ -57,4 +58,9 @@ pub returns-clause-kept : goal.returns-clause-kept
 returns-clause-kept c = grind (arith, common_steps)
 
 pub returns-clause-err : goal.returns-clause-err
-returns-clause-err c = grind (arith, common_steps)
+returns-clause-err g c =
+    on_err_weaker c.prepare_row.result (λ same. has_row-same g.I.SpanRow.spans g.I.SpanRow.spare c.self.inside.rows c.prepare_row.new.rows c.args.self.now (ap (λ t. t.rows) c.self.view_is) c.args.p.0 same)
+    c.prepare_row.ensures.err
+
+pub returns-clause-buffer : goal.returns-clause-buffer
+returns-clause-buffer g c = on_ok_weaker c.prepare_row.result (λ there. c.in_ok-make_room.ensures.room) c.prepare_row.ensures.there
