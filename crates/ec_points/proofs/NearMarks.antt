@@ -1,7 +1,10 @@
 -- The marks before a time, counted by the few in which they end.
-use Rattle.std.proofs.Common.{◌≡◌, ◌+◌, ◌-◌, ◌<◌, ◌≤◌, ℕ, ℤ, true, false, List, length, take, drop, get_or, inr, ap, ◌∙◌, length-drop, length-take, arith}
-use Rattle.std.specs.Prelude.{int_lt}
+use Rattle.std.proofs.Common.{◌≡◌, ◌+◌, ◌-◌, ◌<◌, ◌≤◌, ℕ, ℤ, true, false, List, length, take, drop, get_or, inr, refl, ap, subst, ◌∙◌, ⊎_elim, length-drop, length-take, arith}
+use Rattle.std.specs.Prelude.{◌==◌, int_lt}
+use Rattle.std.proofs.lemmas.Bool.{cases_Bool, eqb-true}
+use Rattle.std.proofs.lemmas.Option.{get_or_from_slice_get, slice_get_read}
 use Rattle.ec_blocks.proofs.SearchLemmas.{IsPartitionPoint-from_edges, found-between}
+use Rattle.ec_lists.proofs.Numbers.{eqb-apart}
 use Rattle.ec_lists.proofs.Partitions.{length-partition}
 use Rattle.ec_rows.specs.declared.mark.Mark.{Mark}
 use Rattle.ec_rows.specs.Marks.{IsMarkRow, marks_before}
@@ -19,3 +22,12 @@ count-in_run rank t marks run from count row is some less front next =
     (IsPartitionedBy-before rank (λ m. m.at) t marks row.ascending) (omega (arith, less))
     (λ parted. IsPartitionPoint-from_edges (λ m. int_lt (rank m.at) t) run count parted (λ m _. front (count - 1) m (omega (arith, some))) (λ m _. next m) (omega (arith, less)))
     (inr (omega (arith, some))) (inr (omega (arith, less))))
+
+-- with the next mark, all marks so far are before t
+pub before-next : {T : Type 0} (rank : T → ℤ) (t : ℤ) (run : List (Mark T)) (k : ℕ) (mark : Mark T) → k < length run → mark ≡ get_or run k mark → int_lt (rank mark.at) t ≡ true →
+    ((j : ℕ) (m : Mark T) → j < k → int_lt (rank (get_or run j m).at) t ≡ true) → (j : ℕ) (m : Mark T) → j < k + 1 → int_lt (rank (get_or run j m).at) t ≡ true
+before-next rank t run k mark within read here front j m less =
+    ⊎_elim (λ e. subst (λ i. int_lt (rank (get_or run i m).at) t ≡ true) (eqb-true k j e)
+    (ap (λ (other : Mark _). int_lt (rank other.at) t) (get_or_from_slice_get run k mark m (slice_get_read run (length run) k mark refl within read)) ∙ here))
+    (λ e. let apart = eqb-apart k j e in front j m (omega (arith, apart, less)))
+    (cases_Bool (k == j))
