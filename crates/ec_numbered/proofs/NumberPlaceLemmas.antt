@@ -1,5 +1,5 @@
 -- Rows of numbers with their places: what is found at the place of a number, and what stays where a row is added or set.
-use Rattle.std.proofs.Common.{◌≡◌, ◌≢◌, ℕ, ◌<◌, ◌≤◌, zero, suc, true, false, List, [], ◌∷◌, ◌++◌, length, get_or, Option, Some, None, refl, sym, ap, ◌∙◌, ◌⊎◌, inl, inr, ⊎_elim, arith}
+use Rattle.std.proofs.Common.{◌≡◌, ◌≢◌, ℕ, ◌<◌, ◌≤◌, zero, suc, true, false, List, [], ◌∷◌, ◌++◌, length, take, take_all, get_or, Option, Some, None, refl, sym, ap, subst, ◌∙◌, ◌⊎◌, inl, inr, ⊎_elim, arith}
 use Rattle.std.specs.Prelude.{◌==◌, nat_eq, slice_get, slice_set}
 use Rattle.std.specs.List.{IsDistinct}
 use Rattle.std.specs.Map.{lookup}
@@ -71,6 +71,20 @@ slice_get-push [] y zero x there = let same : y ≡ x = cc in inl (refl, same)
 slice_get-push [] y (suc i) x there = let no : None ≡ Some x = there in cc
 slice_get-push (z ∷ xs) y zero x there = inr there
 slice_get-push (z ∷ xs) y (suc i) x there = ⊎_elim (λ last. inl (ap suc last.0, last.1)) inr (slice_get-push xs y i x there)
+
+-- members behind a list change none of it
+slice_get-behind : {X : Type 0} (xs more : List X) (i : ℕ) (x : X) → slice_get xs i ≡ Some x → slice_get (xs ++ more) i ≡ Some x
+slice_get-behind [] more i x there = let no : None ≡ Some x = there in cc
+slice_get-behind (y ∷ xs) more zero x there = there
+slice_get-behind (y ∷ xs) more (suc i) x there = slice_get-behind xs more i x there
+
+-- places behind the others change none
+ArePlaces-more : {V : Type 0} (places more : List ℕ) (rows : List (ℕ × V)) → ArePlaces places rows → ArePlaces (places ++ more) rows
+ArePlaces-more places more rows are = record { stands = λ i n v read. slice_get-behind places more n i (are.stands i n v read); once = are.once }
+
+pub ArePlaces-resized : {V : Type 0} (places more new : List ℕ) (rows : List (ℕ × V)) (n : ℕ) → new ≡ take n places ++ more → length places ≤ n → ArePlaces places rows → ArePlaces new rows
+ArePlaces-resized places more new rows n is few are =
+    subst (λ ps. ArePlaces ps rows) (sym (is ∙ ap (λ front. front ++ more) (take_all n places few))) (ArePlaces-more places more rows are)
 
 -- a number without a value has no row
 no_row : {V : Type 0} (n : ℕ) (value : V) (rows : List (ℕ × V)) (i m : ℕ) (v : V) → lookup (nat_eq n) rows ≡ None → slice_get rows i ≡ Some (m, v) → (n == m) ≡ false

@@ -70,6 +70,26 @@ fn grown<K: Copy + Eq + Hash + Drop, V: Copy + Drop>(
     }
 }
 
+/// Gives a key its value among the rows, however they are held. `Err`: memory ran out, and all is as it was.
+fn put_in<K: Copy + Eq + Hash + Drop, V: Copy + Drop>(
+    body: &mut Body<K, V>,
+    key: K,
+    value: V,
+) -> Result<(), NoMemory>
+    requires { AreRows K.eq body.old }
+    ensures ok { OnOk result ((k : K) → lookup (K.eq k) (rows_of body.new) ≡ (if K.eq key k then Some value else lookup (K.eq k) (rows_of body.old))) }
+    ensures err { OnErr result (rows_of body.new ≡ rows_of body.old) }
+    ensures once { AreRows K.eq body.new }
+{
+    match body {
+        Body::Few(rows) => put(rows, key, value),
+        Body::Many(map) => {
+            map.insert(key, value)?;
+            Ok(())
+        }
+    }
+}
+
 impl<K: Copy + Eq + Hash + Drop, V: Copy + Drop> SmallMap<K, V> {
     /// No rows. It takes no memory.
     pub fn new(alloc: Global) -> SmallMap<K, V>
@@ -127,13 +147,7 @@ impl<K: Copy + Eq + Hash + Drop, V: Copy + Drop> SmallMap<K, V> {
                 return Ok(());
             }
         }
-        match &mut self.body {
-            Body::Few(rows) => put(rows, key, value)?,
-            Body::Many(map) => {
-                map.insert(key, value)?;
-            }
-        }
-        Ok(())
+        put_in(&mut self.body, key, value)
     }
 
     /// Takes all rows out. The room of few rows is kept.
