@@ -1,6 +1,5 @@
 -- The table shows the rows.
 use Rattle.std.proofs.Common.{◌≡◌, ◌+◌, ◌≤◌, is_some, subst, sym, ap, arith}
-use Rattle.std.proofs.lemmas.Grind.{common_steps}
 use Rattle.ec_points.specs.Changes.{changed, growth_of}
 use Rattle.ec_points.specs.Table.{PointTable, marks_in, room_in}
 use Rattle.ec_points.proofs.RowClashes.{AreClashesOf-changed, new_clashes-table}
@@ -52,4 +51,5 @@ invariant_of-self g c =
     c.args.change.now c.note_changes.new.noted.items c.note_changes.ensures.apart c.change_rows.ensures.marks c.note_changes.ensures.has
 
 pub returns-clause-others : goal.returns-clause-others
-returns-clause-others c = grind (arith, common_steps)
+returns-clause-others g c =
+    λ n none. shown g.M.MarkRow.marks g.M.MarkRow.spare (λ old new. new ≡ old) c.self.inside.rows c.change_rows.new.rows c.args.self.now (ap (λ (table : PointTable _). table.rows) c.self.view_is) n (c.change_rows.ensures.others n none)
