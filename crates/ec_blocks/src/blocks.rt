@@ -6,7 +6,7 @@ ghost use Rattle.std.specs.List.Sorted.{IsPartitionedBy, IsPartitionPoint};
 ghost use Rattle.ec_blocks.specs.Body.{IsBody, IsWide, seen_of};
 ghost use Rattle.ec_blocks.specs.Chain.{joined, room_of};
 
-use crate::chain::{CAPACITY, Chain, insert_within};
+use crate::chain::{CAPACITY, Chain, insert_within, put_within, remove_within};
 use ec_terms::{Copied, NoMemory};
 use std::alloc::Global;
 use std::marker::Model;
@@ -124,7 +124,7 @@ impl<X: Copied + Drop> Blocks<X> {
         ensures spare { self.old.spare ≤ self.new.spare }
     {
         match &mut self.body {
-            Body::Few(members) => members[i] = x,
+            Body::Few(members) => put_within(members, i, x),
             Body::Many(chain) => chain.set_at(i, x),
         }
     }
@@ -150,7 +150,7 @@ impl<X: Copied + Drop> Blocks<X> {
         ensures spare { self.old.spare ≤ self.new.spare }
     {
         match &mut self.body {
-            Body::Few(members) => members.remove(i),
+            Body::Few(members) => remove_within(members, i),
             Body::Many(chain) => chain.remove_at(i),
         }
     }

@@ -399,7 +399,7 @@ pub(crate) fn cut_near<X, F: Fn(&X) -> bool>(members: &[X], near: usize, pred: &
 }
 
 /// Puts a member in place of the one at a place.
-fn put_within<X: Drop>(block: &mut Vec<X>, place: usize, x: X)
+pub(crate) fn put_within<X: Drop>(block: &mut Vec<X>, place: usize, x: X)
     requires within { place < vec_len block.old }
     ensures items { block.new.items ≡ slice_set block.old.items place x }
     ensures len { vec_len block.new ≡ vec_len block.old }
@@ -437,7 +437,7 @@ fn keep_last<X: Copied + Drop>(block: &[X], lasts: &mut Tiers<X>, k: usize, is_o
 }
 
 /// Takes out the member at a place.
-fn remove_within<X: Drop>(block: &mut Vec<X>, place: usize) -> X
+pub(crate) fn remove_within<X: Drop>(block: &mut Vec<X>, place: usize) -> X
     requires { place < vec_len block.old }
     ensures member { slice_get block.old.items place ≡ Some result }
     ensures items { block.new.items ≡ remove block.old.items place }
