@@ -40,13 +40,14 @@ module _ {X : Type 0} where
     owed-small = omega (arith, owed-few (map items blocks) total owed counted (kept-blocks items capacity blocks kept), length-map blocks items)
 
   -- a block more at the end
-  pub counted-push : {B : Type 0} (items : B → List X) (blocks after : List B) (new : B) (total owed total' owed' : ℕ) → IsCounted (map items blocks) total owed →
-      after ≡ blocks ++ new ∷ [] → total' ≡ total + length (items new) → owed' ≡ owed + (length (items new) - 64) → IsCounted (map items after) total' owed'
-  counted-push items blocks after new total owed total' owed' counted is more owing =
-      let there = ap (map items) is ∙ map_push items blocks new in
-      counted-same (map items blocks ++ items new ∷ []) (map items after) total' owed' (sym there) (record {
-        total_is = omega (arith, counted.total_is, sum_by-append length (map items blocks) (items new ∷ []));
-        owed_is = omega (arith, counted.owed_is, sum_by-append (λ block. length block - 64) (map items blocks) (items new ∷ []));
+  pub counted-push : {B : Type 0} (items : B → List X) (blocks after : List B) (new : B) (members : List X) (total owed total' owed' : ℕ) → IsCounted (map items blocks) total owed →
+      after ≡ blocks ++ new ∷ [] → items new ≡ members → total' + 0 ≡ total + length members → owed' + 0 ≡ owed + (length members - 64) →
+      IsCounted (map items after) total' owed'
+  counted-push items blocks after new members total owed total' owed' counted is made more owing =
+      let there = ap (map items) is ∙ map_push items blocks new ∙ ap (λ m. map items blocks ++ m ∷ []) made in
+      counted-same (map items blocks ++ members ∷ []) (map items after) total' owed' (sym there) (record {
+        total_is = omega (arith, counted.total_is, sum_by-append length (map items blocks) (members ∷ []));
+        owed_is = omega (arith, counted.owed_is, sum_by-append (λ block. length block - 64) (map items blocks) (members ∷ []));
       })
 
   -- a block is counted

@@ -16,21 +16,36 @@ is_spare-now items capacity b empty room = rw empty (grind (arith, nat_tests))
 
 -- there is room as before, where a block is edited
 pub rooms-set : {B : Type 0} (blocks : List B) (k : ℕ) (new : B) (spares blocks_room starts_room lasts_room spares_room starts_room' lasts_room' : ℕ) →
-    HasRooms (length blocks) spares blocks_room starts_room lasts_room spares_room → starts_room ≤ starts_room' → lasts_room ≤ lasts_room' →
+    HasRooms (length blocks) spares blocks_room starts_room lasts_room spares_room → starts_room' ≡ starts_room → lasts_room' ≡ lasts_room →
     HasRooms (length (set blocks k new)) spares blocks_room starts_room' lasts_room' spares_room
 rooms-set blocks k new spares blocks_room starts_room lasts_room spares_room starts_room' lasts_room' rooms starts lasts =
-    let few = rooms.few in
-    let blocks_fit = rooms.blocks_fit in
-    let starts_fit = rooms.starts_fit in
-    let lasts_fit = rooms.lasts_fit in
-    let spares_fit = rooms.spares_fit in
-    let same = length-set blocks k new in record {
-      few = omega (arith, same);
-      blocks_fit = omega (arith, same);
-      starts_fit = omega (arith, same);
-      lasts_fit = omega (arith, same);
-      spares_fit = omega (arith, same);
-    }
+    rw (length-set blocks k new, starts, lasts) rooms
+
+-- where a spare block comes into use
+pub rooms-more : (blocks spares blocks_room starts_room lasts_room spares_room blocks' spares' blocks_room' starts_room' lasts_room' spares_room' : ℕ) →
+    HasRooms blocks spares blocks_room starts_room lasts_room spares_room → blocks' ≡ blocks + 1 → spares' + 1 ≡ spares →
+    blocks_room ≤ blocks_room' → starts_room ≤ starts_room' → lasts_room ≤ lasts_room' → spares_room' ≡ spares_room →
+    HasRooms blocks' spares' blocks_room' starts_room' lasts_room' spares_room'
+rooms-more blocks spares blocks_room starts_room lasts_room spares_room blocks' spares' blocks_room' starts_room' lasts_room' spares_room' rooms more less b s l r = record {
+  few = omega arith;
+  blocks_fit = omega arith;
+  starts_fit = omega arith;
+  lasts_fit = omega arith;
+  spares_fit = omega arith;
+}
+
+-- and where a block becomes a spare one
+pub rooms-less : (blocks spares blocks_room starts_room lasts_room spares_room blocks' spares' blocks_room' starts_room' lasts_room' spares_room' : ℕ) →
+    HasRooms blocks spares blocks_room starts_room lasts_room spares_room → blocks' + 1 ≡ blocks → spares' ≡ spares + 1 →
+    blocks_room' ≡ blocks_room → starts_room' ≡ starts_room → lasts_room' ≡ lasts_room → spares_room' ≡ spares_room →
+    HasRooms blocks' spares' blocks_room' starts_room' lasts_room' spares_room'
+rooms-less blocks spares blocks_room starts_room lasts_room spares_room blocks' spares' blocks_room' starts_room' lasts_room' spares_room' rooms less more b s l r = record {
+  few = omega arith;
+  blocks_fit = omega arith;
+  starts_fit = omega arith;
+  lasts_fit = omega arith;
+  spares_fit = omega arith;
+}
 
 module _ {X B : Type 0} (items : B → List X) (capacity : B → ℕ) (blocks : List B) (starts : List ℕ) (lasts : List X) (spares : List B)
     (chain : IsChain items capacity blocks starts lasts spares) (lists : List (List X)) (are : map items blocks ≡ lists) where

@@ -8,5 +8,6 @@ pub mod JoinLemmas
 pub mod NumberLemmas
 pub mod SearchLemmas
 pub mod SpliceLemmas
+pub mod SplitLemmas
 pub mod StartLemmas
 pub mod TierLemmas

@@ -1,10 +1,12 @@
 -- The last group lies straight, and no member has moved in the list.
-use Rattle.std.proofs.Common.{◌≡◌, ℕ, ◌+◌, ◌*◌, List, ◌++◌, Some, length, get_or, take, drop, refl, sym, ap, ◌∙◌, length-append, arith}
+use Rattle.std.proofs.Common.{◌≡◌, ℕ, ◌+◌, ◌*◌, List, [], ◌∷◌, ◌++◌, Some, length, get_or, take, drop, refl, sym, ap, ◌∙◌, length-append, arith}
 use Rattle.std.proofs.lemmas.Grind.{common_steps}
-use Rattle.std.specs.Prelude.{slice_get}
-use Rattle.std.specs.List.{remove}
+use Rattle.std.specs.Prelude.{nat_lt, slice_get}
+use Rattle.std.specs.List.{remove, list_all}
 use Rattle.std.proofs.lemmas.List.{length_push, take-append-drop}
+use Rattle.std.proofs.lemmas.List.Folds.{list_all-append}
 use Rattle.std.proofs.lemmas.Option.{slice_get-get_or}
+use Rattle.ec_lists.proofs.Booleans.{and-left}
 use Rattle.ec_blocks.specs.Tiers.{turned, unrolled}
 use Rattle.ec_blocks.proofs.TierLemmas.{turned-length, unrolled-length, turned-last, get-straight, remove-straight, group-less}
 use Rattle.ec_blocks.proofs.tiers.remove_turned.Goals as goal
@@ -53,3 +55,7 @@ turn_last-requires-clause-head c = grind (arith, common_steps)
 
 pub returns-clause-count : goal.returns-clause-count
 returns-clause-count c = grind (arith, common_steps)
+
+pub returns-clause-small : goal.returns-clause-small
+returns-clause-small g c =
+    and-left _ _ (sym (list_all-append (λ h. nat_lt h 64) c.last_head-head.new.heads.items (c.last_head-head.result ∷ [])) ∙ ap (list_all (λ h. nat_lt h 64)) (sym c.last_head-head.ensures.heads) ∙ c.requires.small)

@@ -4,7 +4,7 @@ use Rattle.std.specs.Vec.{vec_capacity}
 use Rattle.std.proofs.lemmas.Option.{slice_get_read}
 use Rattle.std.proofs.lemmas.List.{map_push}
 use Rattle.ec_blocks.proofs.ChainLemmas.{starts-count, lasts-count, is_block-some, is_block-most}
-use Rattle.ec_blocks.proofs.EditLemmas.{appended}
+use Rattle.ec_blocks.proofs.EditLemmas.{rooms-more, appended}
 use Rattle.ec_blocks.proofs.CountLemmas.{counted-small, owed-small, counted-push}
 use Rattle.ec_blocks.proofs.chain.Chain.append.Goals as goal
 
@@ -49,25 +49,17 @@ change-requires-clause-owed_fits g c = omega (arith, is_block-most c.args.member
 
 pub invariant_of-self : goal.invariant_of-self
 invariant_of-self g c =
-    let rooms = c.self.invariant.1 in
     let there = c.push-3.ensures.items in
     let more = ap length there ∙ length-append c.self.inside.blocks.items (c.fill.new.block ∷ []) in
     let some = is_block-some c.args.members.now c.requires.block in
-    let spares = ap (λ v. v.spares) c.self.view_is in
     let filled = c.fill.ensures.items ∙ ap (λ xs. xs ++ c.args.members.now) c.take_spare-block.ensures.empty in (
       appended (λ b. b.items) (λ b. vec_capacity b) c.self.inside.blocks.items c.self.inside.starts.items c.self.inside.lasts.items c.self.inside.spares.items c.self.invariant.0 c.args.self.now.blocks (ap (λ v. v.blocks) c.self.view_is) _ _ _ _ c.fill.new.block c.total-start.result c.copied.result c.args.members.now
           there c.push.ensures.items c.push-2.ensures.items
-          (c.fill.ensures.items ∙ ap (λ xs. xs ++ c.args.members.now) c.take_spare-block.ensures.empty) c.requires.block (omega arith) c.total-start.ensures
+          filled c.requires.block (omega arith) c.total-start.ensures
           (ap (λ x. Some x) c.copied.ensures
           ∙ sym (slice_get_read c.args.members.now (length c.args.members.now) (length c.args.members.now - 1) c.index-members-members.result refl (omega arith) c.index-members-members.is))
           c.take_spare-block.ensures.spare,
-      record {
-        few = omega (arith, more);
-        blocks_fit = omega (arith, more);
-        starts_fit = omega (arith, more);
-        lasts_fit = omega (arith, more);
-        spares_fit = omega (arith, more);
-      },
-      counted-push (λ b. b.items) c.self.inside.blocks.items _ c.fill.new.block c.self.inside.counts.total c.self.inside.counts.owed _ _ c.self.invariant.2 there
-          (omega (arith, c.change.ensures.total, ap length filled)) (omega (arith, c.change.ensures.owed, ap length filled)),
+      rooms-more _ _ _ _ _ _ _ _ _ _ _ _ c.self.invariant.1 more c.take_spare-block.ensures.len c.push-3.ensures.room c.push.ensures.room c.push-2.ensures.room c.take_spare-block.ensures.capacity,
+      counted-push (λ b. b.items) c.self.inside.blocks.items _ c.fill.new.block c.args.members.now c.self.inside.counts.total c.self.inside.counts.owed _ _ c.self.invariant.2 there filled
+          c.change.ensures.total c.change.ensures.owed,
     )

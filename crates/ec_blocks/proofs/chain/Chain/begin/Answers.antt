@@ -3,7 +3,7 @@ use Rattle.std.proofs.Common.{length-append, ◌++◌, ◌∷◌, [], Some, refl
 use Rattle.std.proofs.lemmas.Grind.{common_steps}
 use Rattle.std.specs.Vec.{vec_capacity}
 use Rattle.ec_blocks.proofs.ChainLemmas.{starts-count, lasts-count}
-use Rattle.ec_blocks.proofs.EditLemmas.{appended}
+use Rattle.ec_blocks.proofs.EditLemmas.{rooms-more, appended}
 use Rattle.ec_blocks.proofs.CountLemmas.{counted-small, owed-small, counted-push}
 use Rattle.ec_blocks.proofs.chain.Chain.begin.Goals as goal
 
@@ -21,24 +21,16 @@ change-requires-clause-owed_fits g c = omega (arith, owed-small (λ b. b.items) 
 
 pub invariant_of-self : goal.invariant_of-self
 invariant_of-self g c =
-    let rooms = c.self.invariant.1 in
     let there = c.push-3.ensures.items in
     let more = ap length there ∙ length-append c.self.inside.blocks.items (c.push_reserved.new.self ∷ []) in
-    let spares = ap (λ v. v.spares) c.self.view_is in
     let begun = c.push_reserved.ensures.items ∙ ap (λ xs. xs ++ c.args.x ∷ []) c.take_spare-block.ensures.empty in (
       appended (λ b. b.items) (λ b. vec_capacity b) c.self.inside.blocks.items c.self.inside.starts.items c.self.inside.lasts.items c.self.inside.spares.items c.self.invariant.0 c.args.self.now.blocks (ap (λ v. v.blocks) c.self.view_is) _ _ _ _ c.push_reserved.new.self c.total-start.result c.copied-last.result (c.args.x ∷ [])
           there c.push.ensures.items c.push-2.ensures.items
-          (c.push_reserved.ensures.items ∙ ap (λ xs. xs ++ c.args.x ∷ []) c.take_spare-block.ensures.empty) refl (omega arith) c.total-start.ensures
+          begun refl (omega arith) c.total-start.ensures
           (ap (λ x. Some x) c.copied-last.ensures) c.take_spare-block.ensures.spare,
-      record {
-        few = omega (arith, more);
-        blocks_fit = omega (arith, more);
-        starts_fit = omega (arith, more);
-        lasts_fit = omega (arith, more);
-        spares_fit = omega (arith, more);
-      },
-      counted-push (λ b. b.items) c.self.inside.blocks.items _ c.push_reserved.new.self c.self.inside.counts.total c.self.inside.counts.owed _ _ c.self.invariant.2 there
-          (omega (arith, c.change.ensures.total, ap length begun)) (omega (arith, c.change.ensures.owed, ap length begun)),
+      rooms-more _ _ _ _ _ _ _ _ _ _ _ _ c.self.invariant.1 more c.take_spare-block.ensures.len c.push-3.ensures.room c.push.ensures.room c.push-2.ensures.room c.take_spare-block.ensures.capacity,
+      counted-push (λ b. b.items) c.self.inside.blocks.items _ c.push_reserved.new.self (c.args.x ∷ []) c.self.inside.counts.total c.self.inside.counts.owed _ _ c.self.invariant.2 there begun
+          c.change.ensures.total c.change.ensures.owed,
     )
 
 pub returns-clause-spares : goal.returns-clause-spares

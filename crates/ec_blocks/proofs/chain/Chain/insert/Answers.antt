@@ -70,7 +70,7 @@ invariant_of-self g c =
       edited-more (λ b. b.items) (λ b. vec_capacity b) c.self.inside.blocks.items c.self.inside.starts.items c.self.inside.lasts.items c.self.inside.spares.items c.self.invariant.0 c.args.self.now.blocks (ap (λ v. v.blocks) c.self.view_is) c.args.k c.requires.block c.get_mut-block.result.now c.get_mut-block.ensures.member c.insert_within.new.block c.deref.result.now c.deref.ensures.value c.keep_last.new.lasts.items c.keep_last.ensures.lasts c.insert_within.ensures.capacity c.raise_behind.new.self.items
           (ap length c.insert_within.ensures.items ∙ length-insert c.get_mut-block.result.now.items c.args.place c.args.x (omega (arith, ap length list)))
           (omega (arith, ap length list)) c.raise_behind.ensures.items,
-      rooms-set c.self.inside.blocks.items c.args.k _ _ _ _ _ _ _ _ c.self.invariant.1 (omega arith) (omega arith),
+      rooms-set c.self.inside.blocks.items c.args.k _ _ _ _ _ _ _ _ c.self.invariant.1 c.raise_behind.ensures.room c.keep_last.ensures.room,
       counted-set c.args.self.now.blocks _ c.args.k (insert (block_at c.args.k c.args.self.now.blocks) c.args.place c.args.x) c.self.inside.counts.total c.self.inside.counts.owed _ _ (counted-same _ _ _ _ (ap (λ v. v.blocks) c.self.view_is) c.self.invariant.2) c.requires.block (returns-clause-blocks g c)
           (omega (arith, c.change.ensures.total, ap length (old-list (λ b. b.items) (λ b. vec_capacity b) c.self.inside.blocks.items c.self.inside.starts.items c.self.inside.lasts.items c.self.inside.spares.items c.self.invariant.0 c.args.self.now.blocks (ap (λ v. v.blocks) c.self.view_is) c.args.k c.requires.block c.get_mut-block.result.now c.get_mut-block.ensures.member), length-insert (block_at c.args.k c.args.self.now.blocks) c.args.place c.args.x c.requires.place))
           (omega (arith, c.change.ensures.owed, ap length (old-list (λ b. b.items) (λ b. vec_capacity b) c.self.inside.blocks.items c.self.inside.starts.items c.self.inside.lasts.items c.self.inside.spares.items c.self.invariant.0 c.args.self.now.blocks (ap (λ v. v.blocks) c.self.view_is) c.args.k c.requires.block c.get_mut-block.result.now c.get_mut-block.ensures.member), length-insert (block_at c.args.k c.args.self.now.blocks) c.args.place c.args.x c.requires.place)),

@@ -73,7 +73,7 @@ invariant_of-self g c =
       edited-less (λ b. b.items) (λ b. vec_capacity b) c.self.inside.blocks.items c.self.inside.starts.items c.self.inside.lasts.items c.self.inside.spares.items c.self.invariant.0 c.args.self.now.blocks (ap (λ v. v.blocks) c.self.view_is) c.args.k c.requires.block c.get_mut-block.result.now c.get_mut-block.ensures.member c.remove_within-x.new.block c.deref.result.now c.deref.ensures.value c.keep_last.new.lasts.items c.keep_last.ensures.lasts c.remove_within-x.ensures.capacity c.lower_behind.new.self.items
           (omega (arith, ap length c.remove_within-x.ensures.items, length-remove c.get_mut-block.result.now.items c.args.place (omega (arith, ap length list))))
           (omega (arith, ap length list)) c.lower_behind.ensures.items,
-      rooms-set c.self.inside.blocks.items c.args.k _ _ _ _ _ _ _ _ c.self.invariant.1 (omega arith) (omega arith),
+      rooms-set c.self.inside.blocks.items c.args.k _ _ _ _ _ _ _ _ c.self.invariant.1 c.lower_behind.ensures.room c.keep_last.ensures.room,
       counted-set c.args.self.now.blocks _ c.args.k (remove (block_at c.args.k c.args.self.now.blocks) c.args.place) c.self.inside.counts.total c.self.inside.counts.owed _ _ (counted-same _ _ _ _ (ap (λ v. v.blocks) c.self.view_is) c.self.invariant.2) c.requires.block (returns-clause-blocks g c)
           (omega (arith, c.change.ensures.total, c.requires.others, ap length (old-list (λ b. b.items) (λ b. vec_capacity b) c.self.inside.blocks.items c.self.inside.starts.items c.self.inside.lasts.items c.self.inside.spares.items c.self.invariant.0 c.args.self.now.blocks (ap (λ v. v.blocks) c.self.view_is) c.args.k c.requires.block c.get_mut-block.result.now c.get_mut-block.ensures.member), length-remove (block_at c.args.k c.args.self.now.blocks) c.args.place c.requires.place))
           (omega (arith, c.change.ensures.owed, c.requires.others, ap length (old-list (λ b. b.items) (λ b. vec_capacity b) c.self.inside.blocks.items c.self.inside.starts.items c.self.inside.lasts.items c.self.inside.spares.items c.self.invariant.0 c.args.self.now.blocks (ap (λ v. v.blocks) c.self.view_is) c.args.k c.requires.block c.get_mut-block.result.now c.get_mut-block.ensures.member), length-remove (block_at c.args.k c.args.self.now.blocks) c.args.place c.requires.place)),

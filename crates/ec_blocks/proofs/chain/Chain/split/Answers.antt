@@ -6,7 +6,7 @@ use Rattle.std.proofs.lemmas.List.{length-map, length-take-le}
 use Rattle.std.proofs.lemmas.List.Edits.{length-insert}
 use Rattle.ec_blocks.proofs.StartLemmas.{start_of-le, start_of-all}
 use Rattle.ec_blocks.proofs.ChainLemmas.{starts-count, place-within, start-is, kept-blocks, joined-most, map-insert, lasts-count}
-use Rattle.ec_blocks.proofs.EditLemmas.{old-list, edited, halved}
+use Rattle.ec_blocks.proofs.EditLemmas.{rooms-more, old-list, edited, halved}
 use Rattle.ec_blocks.proofs.CountLemmas.{counted-same, counted-small, owed-small, counted-part, owed-part, counted-set, counted-insert}
 use Rattle.ec_blocks.specs.Chain.{block_at, is_block}
 use Rattle.ec_blocks.proofs.chain.Chain.split.Goals as goal
@@ -114,21 +114,13 @@ change-requires-2-clause-owed_fits g c = omega (arith, c.change.ensures.owed, ow
 
 pub invariant_of-self : goal.invariant_of-self
 invariant_of-self g c =
-    let rooms = c.self.invariant.1 in
     let same = length-set c.self.inside.blocks.items c.args.k c.move_half.new.block in
     let within = place-within (λ b. b.items) (λ b. vec_capacity b) c.self.inside.blocks.items _ c.args.k (ap (λ v. v.blocks) c.self.view_is) c.requires.block in
-    let more = ap length c.insert-2.ensures.items ∙ length-insert (set c.self.inside.blocks.items c.args.k c.move_half.new.block) (c.args.k + 1) c.move_half.new.behind (omega (arith, same, within)) in
-    let spares = ap (λ v. v.spares) c.self.view_is in (
+    let more = ap length c.insert-2.ensures.items ∙ length-insert (set c.self.inside.blocks.items c.args.k c.move_half.new.block) (c.args.k + 1) c.move_half.new.behind (omega (arith, same, within)) in (
       halved (λ b. b.items) (λ b. vec_capacity b) c.self.inside.blocks.items c.self.inside.starts.items c.self.inside.lasts.items c.self.inside.spares.items c.self.invariant.0 c.args.self.now.blocks (ap (λ v. v.blocks) c.self.view_is) c.args.k c.requires.block c.get_mut-block.result.now c.get_mut-block.ensures.member c.move_half.new.block c.move_half.new.behind c.deref.result.now c.get-start.result _ _ _ _ c.requires.full
           c.move_half.ensures.front c.move_half.ensures.back c.move_half.ensures.capacity (omega arith)
           c.deref.ensures.value c.get-start.ensures c.insert-2.ensures.items c.insert.ensures.items c.insert_last.ensures.lasts c.take_spare-behind.ensures.spare,
-      record {
-        few = omega (arith, same, more);
-        blocks_fit = omega (arith, same, more);
-        starts_fit = omega (arith, same, more);
-        lasts_fit = omega (arith, same, more);
-        spares_fit = omega (arith, same, more);
-      },
+      rooms-more _ _ _ _ _ _ _ _ _ _ _ _ c.self.invariant.1 (more ∙ ap (λ n. n + 1) same) c.take_spare-behind.ensures.len c.insert-2.ensures.room c.insert.ensures.room c.insert_last.ensures.room c.take_spare-behind.ensures.capacity,
       counted-insert (set c.args.self.now.blocks c.args.k (take 64 (block_at c.args.k c.args.self.now.blocks))) _ (c.args.k + 1) (drop 64 (block_at c.args.k c.args.self.now.blocks)) c.change.new.self.total c.change.new.self.owed _ _
           (counted-set c.args.self.now.blocks _ c.args.k (take 64 (block_at c.args.k c.args.self.now.blocks)) c.self.inside.counts.total c.self.inside.counts.owed _ _ (counted-same _ _ _ _ (ap (λ v. v.blocks) c.self.view_is) c.self.invariant.2) c.requires.block refl
           (omega (arith, c.change.ensures.total, c.requires.full, length-take-le 64 (block_at c.args.k c.args.self.now.blocks) (omega arith)))
