@@ -9,6 +9,10 @@ use Rattle.ec_blocks.specs.Chain.{joined, block_at, debt, is_block}
 use Rattle.ec_blocks.specs.ChainParts.{IsCounted, is_kept}
 use Rattle.ec_blocks.proofs.ChainLemmas.{joined-most, kept-blocks}
 
+-- one member less
+pub one-less : (from before after : ℕ) → from ≡ before → after + 1 ≡ before → from - 1 ≡ after
+one-less from before after same less = omega arith
+
 module _ {X : Type 0} where
   -- the same blocks
   pub counted-same : (inner lists : List (List X)) (total owed : ℕ) → inner ≡ lists → IsCounted inner total owed → IsCounted lists total owed
@@ -68,20 +72,26 @@ module _ {X : Type 0} where
         owed_is = omega (arith, counted.owed_is, sum_by-set (λ block. length block - 64) blocks k b [] within);
       })
 
+  -- as the numbers of its members are passed on
+  pub counted-edit : (blocks after : List (List X)) (k : ℕ) (b : List X) (from to total owed total' owed' : ℕ) → IsCounted blocks total owed → k < length blocks →
+      after ≡ set blocks k b → from ≡ length (block_at k blocks) → to ≡ length b → total' + from ≡ total + to → owed' + (from - 64) ≡ owed + (to - 64) →
+      IsCounted after total' owed'
+  counted-edit blocks after k b from to total owed total' owed' counted within is before behind more owing =
+      counted-set blocks after k b total owed total' owed' counted within is (omega arith) (omega arith)
+
   -- a block more
-  pub counted-insert : (blocks after : List (List X)) (k : ℕ) (b : List X) (total owed total' owed' : ℕ) → IsCounted blocks total owed →
-      after ≡ insert blocks k b → total' ≡ total + length b → owed' ≡ owed + (length b - 64) → IsCounted after total' owed'
-  counted-insert blocks after k b total owed total' owed' counted is more owing =
+  pub counted-insert : (blocks after : List (List X)) (k : ℕ) (b : List X) (to total owed total' owed' : ℕ) → IsCounted blocks total owed →
+      after ≡ insert blocks k b → to ≡ length b → total' + 0 ≡ total + to → owed' + 0 ≡ owed + (to - 64) → IsCounted after total' owed'
+  counted-insert blocks after k b to total owed total' owed' counted is behind more owing =
       counted-same (insert blocks k b) after total' owed' (sym is) (record {
         total_is = omega (arith, counted.total_is, sum_by-insert length blocks k b);
         owed_is = omega (arith, counted.owed_is, sum_by-insert (λ block. length block - 64) blocks k b);
       })
 
   -- a block less
-  pub counted-remove : (blocks after : List (List X)) (k total owed total' owed' : ℕ) → IsCounted blocks total owed → k < length blocks →
-      after ≡ remove blocks k → total' + length (block_at k blocks) ≡ total →
-      owed' + (length (block_at k blocks) - 64) ≡ owed → IsCounted after total' owed'
-  counted-remove blocks after k total owed total' owed' counted within is less owing =
+  pub counted-remove : (blocks after : List (List X)) (k from total owed total' owed' : ℕ) → IsCounted blocks total owed → k < length blocks →
+      after ≡ remove blocks k → from ≡ length (block_at k blocks) → total' + from ≡ total + 0 → owed' + (from - 64) ≡ owed + 0 → IsCounted after total' owed'
+  counted-remove blocks after k from total owed total' owed' counted within is before less owing =
       counted-same (remove blocks k) after total' owed' (sym is) (record {
         total_is = omega (arith, counted.total_is, sum_by-remove length blocks k [] within);
         owed_is = omega (arith, counted.owed_is, sum_by-remove (λ block. length block - 64) blocks k [] within);

@@ -1,7 +1,7 @@
 -- A chain of blocks after an edit of one of them, as the code makes it.
 use Rattle.std.proofs.Common.{◌≡◌, ℕ, ◌+◌, ◌-◌, ◌<◌, ◌≤◌, suc, true, List, [], ◌∷◌, ◌++◌, length, map, get_or, take, drop, set, Some, None, sym, ap, ap₂, ◌∙◌, add-one, zero-add, length-drop, length-set, arith}
 use Rattle.std.specs.List.{slice_get, insert, remove, list_all}
-use Rattle.std.proofs.lemmas.List.{map-set, map_push, length-take-le, get_or-map}
+use Rattle.std.proofs.lemmas.List.{map-set, map_push, length-take-le, get_or-map, nil_from_length}
 use Rattle.std.proofs.lemmas.Bool.Decides.{nat_tests}
 use Rattle.std.proofs.lemmas.Option.{get_or_from_slice_get}
 use Rattle.ec_blocks.specs.Chain.{joined, block_at, last_of, starts_from, is_block}
@@ -13,6 +13,16 @@ use Rattle.ec_lists.proofs.Tests.{list_all-remove}
 -- a block without members that has room is a spare one
 pub is_spare-now : {X B : Type 0} (items : B → List X) (capacity : B → ℕ) (b : B) → items b ≡ [] → 128 ≤ capacity b → is_spare items capacity b ≡ true
 is_spare-now items capacity b empty room = rw empty (grind (arith, nat_tests))
+
+-- and so is the one that held one member, once that is taken out
+pub is_spare-emptied : {X B : Type 0} (items : B → List X) (capacity : B → ℕ) (old new : B) (before after : ℕ) → after + 1 ≡ before → before ≡ length (items old) → after ≡ length (items new) →
+    length (items old) ≡ 1 → 128 ≤ capacity old → capacity old ≤ capacity new → is_spare items capacity new ≡ true
+is_spare-emptied items capacity old new before after less held left one room kept =
+    is_spare-now items capacity new (nil_from_length (items new) (omega arith)) (omega arith)
+
+-- a place behind a block that is edited
+pub behind-within : {B : Type 0} (blocks : List B) (k : ℕ) (new : B) → k < length blocks → k + 1 ≤ length (set blocks k new)
+behind-within blocks k new within = omega (arith, length-set blocks k new)
 
 -- there is room as before, where a block is edited
 pub rooms-set : {B : Type 0} (blocks : List B) (k : ℕ) (new : B) (spares blocks_room starts_room lasts_room spares_room starts_room' lasts_room' : ℕ) →
@@ -118,9 +128,6 @@ module _ {X B : Type 0} (items : B → List X) (capacity : B → ℕ) (blocks : 
     starts_are = ss ∙ chain.starts_are ∙ ap (λ zs. starts_from 0 (map items zs)) (sym bs);
     lasts_are = ap (map Some) ls ∙ chain.lasts_are ∙ ap (λ zs. map last_of (map items zs)) (sym bs);
   }
-
-  pub is_spare-from : (b : B) → items b ≡ [] → 128 ≤ capacity b → is_spare items capacity b ≡ true
-  is_spare-from b empty room = is_spare-now items capacity b empty room
 
   -- a block more at the end
   pub appended : (blocks' : List B) (starts' : List ℕ) (lasts' : List X) (spares' : List B) (new : B) (start : ℕ) (x : X) (members : List X) →

@@ -14,27 +14,28 @@ module _ {X : Type 0} where
   pub full-from : (members block : List X) → members ≡ block → is_block members ≡ true → 128 ≤ length members → length block ≡ 128
   full-from members block is kept least = sym (ap length is) ∙ (let most = is_block-most members kept in omega arith)
 
+  -- the halves of a full block
+  pub half-front : (block : List X) → length block ≡ 128 → length (take 64 block) ≡ 64
+  half-front block full = length-take-le 64 block (omega arith)
+
+  pub half-back : (block : List X) → length block ≡ 128 → length (drop 64 block) ≡ 64
+  half-back block full = length-drop 64 block ∙ ap (λ n. n - 64) full
+
   module _ (blocks after : List (List X)) (k : ℕ) (within : k < length blocks) (full : length (block_at k blocks) ≡ 128)
       (are : after ≡ insert (set blocks k (take 64 (block_at k blocks))) (k + 1) (drop 64 (block_at k blocks))) where
     halves-are : after ≡ insert (set blocks k (take 64 (block_at k blocks))) (suc k) (drop 64 (block_at k blocks))
     halves-are = are ∙ ap (λ n. insert (set blocks k (take 64 (block_at k blocks))) n (drop 64 (block_at k blocks))) (add-one k)
-
-    front-length : length (take 64 (block_at k blocks)) ≡ 64
-    front-length = length-take-le 64 (block_at k blocks) (omega arith)
-
-    back-length : length (drop 64 (block_at k blocks)) ≡ 64
-    back-length = length-drop 64 (block_at k blocks) ∙ ap (λ n. n - 64) full
 
     halves-count : length after ≡ length blocks + 1
     halves-count = ap length halves-are ∙ split-count blocks k (take 64 (block_at k blocks)) (drop 64 (block_at k blocks)) within
 
     halves-front : length (block_at k after) ≡ 64
     halves-front =
-        ap (λ bs. length (block_at k bs)) halves-are ∙ ap length (split-first blocks k (take 64 (block_at k blocks)) (drop 64 (block_at k blocks)) within) ∙ front-length
+        ap (λ bs. length (block_at k bs)) halves-are ∙ ap length (split-first blocks k (take 64 (block_at k blocks)) (drop 64 (block_at k blocks)) within) ∙ half-front (block_at k blocks) full
 
     halves-back : length (block_at (k + 1) after) ≡ 64
     halves-back =
-        ap₂ (λ n bs. length (block_at n bs)) (add-one k) halves-are ∙ ap length (split-second blocks k (take 64 (block_at k blocks)) (drop 64 (block_at k blocks)) within) ∙ back-length
+        ap₂ (λ n bs. length (block_at n bs)) (add-one k) halves-are ∙ ap length (split-second blocks k (take 64 (block_at k blocks)) (drop 64 (block_at k blocks)) within) ∙ half-back (block_at k blocks) full
 
     halves-start : start_of k after ≡ start_of k blocks
     halves-start = ap (start_of k) halves-are ∙ split-start blocks k (take 64 (block_at k blocks)) (drop 64 (block_at k blocks)) within
@@ -49,7 +50,7 @@ module _ {X : Type 0} where
     halves-debt : debt after + 64 ≤ debt blocks
     halves-debt =
         subst (λ bs. debt bs + 64 ≤ debt blocks) (sym halves-are)
-        (debt-split blocks k (take 64 (block_at k blocks)) (drop 64 (block_at k blocks)) within full front-length back-length)
+        (debt-split blocks k (take 64 (block_at k blocks)) (drop 64 (block_at k blocks)) within full (half-front (block_at k blocks) full) (half-back (block_at k blocks) full))
 
     -- both halves stand in the list, and have places left
     pub front-within : k < length after

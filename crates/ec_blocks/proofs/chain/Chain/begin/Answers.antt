@@ -38,6 +38,3 @@ returns-clause-spares c = grind (arith, common_steps)
 
 pub returns-clause-blocks : goal.returns-clause-blocks
 returns-clause-blocks c = grind (arith, common_steps)
-
-pub push_reserved-requires : goal.push_reserved-requires
-push_reserved-requires c = grind (arith, common_steps)

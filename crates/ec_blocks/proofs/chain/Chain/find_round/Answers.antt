@@ -44,6 +44,3 @@ returns-in_err-place-clause-bound c = grind (arith, common_steps)
 
 pub returns-in_err-place-clause-partitioned : goal.returns-in_err-place-clause-partitioned
 returns-in_err-place-clause-partitioned c = grind (arith, common_steps)
-
-pub start-requires : goal.start-requires
-start-requires c = grind (arith, common_steps)

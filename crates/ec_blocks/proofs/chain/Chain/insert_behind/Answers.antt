@@ -50,8 +50,5 @@ insert-requires-clause-block c = grind (arith, common_steps)
 pub insert-requires-clause-room : goal.insert-requires-clause-room
 insert-requires-clause-room c = grind (arith, common_steps)
 
-pub block-place-requires : goal.block-place-requires
-block-place-requires c = grind (arith, common_steps)
-
 pub returns-then-is_last_full-clause-members : goal.returns-then-is_last_full-clause-members
 returns-then-is_last_full-clause-members c = grind (arith, common_steps)

@@ -1,13 +1,12 @@
 -- A block goes, and is a spare one.
-use Rattle.std.proofs.Common.{◌≡◌, ◌+◌, ◌-◌, ◌≤◌, length, [], map, ap, ◌∙◌, arith, sym}
+use Rattle.std.proofs.Common.{◌+◌, ◌-◌, ◌≤◌, length, map, ap, ◌∙◌, arith, sym}
 use Rattle.std.proofs.lemmas.Grind.{common_steps}
 use Rattle.std.specs.List.{remove}
 use Rattle.std.specs.Vec.{vec_capacity}
-use Rattle.std.proofs.lemmas.List.{nil_from_length}
 use Rattle.std.proofs.lemmas.List.Edits.{length-remove}
 use Rattle.std.specs.Prelude.{slice_get}
 use Rattle.ec_blocks.proofs.ChainLemmas.{starts-count, starts-some, place-within, map-remove, lasts-count}
-use Rattle.ec_blocks.proofs.EditLemmas.{rooms-less, old-list, old-room, gone, is_spare-from}
+use Rattle.ec_blocks.proofs.EditLemmas.{rooms-less, old-list, old-room, gone, is_spare-emptied}
 use Rattle.ec_blocks.proofs.NumberLemmas.{behind-length}
 use Rattle.ec_blocks.proofs.CountLemmas.{counted-same, counted-small, owed-small, counted-part, counted-remove}
 use Rattle.ec_blocks.proofs.chain.Chain.remove_block.Goals as goal
@@ -63,15 +62,12 @@ invariant_of-self g c =
     let less = ap length c.remove-block.ensures.items in
     let fewer = length-remove c.self.inside.blocks.items c.args.k within in
     let list = old-list (λ b. b.items) (λ b. vec_capacity b) c.self.inside.blocks.items c.self.inside.starts.items c.self.inside.lasts.items c.self.inside.spares.items c.self.invariant.0 c.args.self.now.blocks (ap (λ v. v.blocks) c.self.view_is) c.args.k c.requires.block c.remove-block.result c.remove-block.ensures.member in
-    let wide = old-room (λ b. b.items) (λ b. vec_capacity b) c.self.inside.blocks.items c.self.inside.starts.items c.self.inside.lasts.items c.self.inside.spares.items c.self.invariant.0 c.args.self.now.blocks (ap (λ v. v.blocks) c.self.view_is) c.args.k c.requires.block c.remove-block.result c.remove-block.ensures.member in
-    let none : c.remove_within-x.new.block.items ≡ [] =
-    nil_from_length c.remove_within-x.new.block.items
-    (omega (arith, ap length c.remove_within-x.ensures.items, length-remove c.remove-block.result.items 0 (omega (arith, ap length list)), ap length list)) in (
+    let wide = old-room (λ b. b.items) (λ b. vec_capacity b) c.self.inside.blocks.items c.self.inside.starts.items c.self.inside.lasts.items c.self.inside.spares.items c.self.invariant.0 c.args.self.now.blocks (ap (λ v. v.blocks) c.self.view_is) c.args.k c.requires.block c.remove-block.result c.remove-block.ensures.member in (
       gone (λ b. b.items) (λ b. vec_capacity b) c.self.inside.blocks.items c.self.inside.starts.items c.self.inside.lasts.items c.self.inside.spares.items c.self.invariant.0 c.args.self.now.blocks (ap (λ v. v.blocks) c.self.view_is) c.args.k c.requires.block c.requires.alone _ _ _ _ _ c.remove_within-x.new.block c.remove-block.ensures.items c.lower_behind.ensures.items c.remove.ensures.items c.remove-2.ensures.items
-          c.push_reserved.ensures.items (is_spare-from (λ b. b.items) (λ b. vec_capacity b) c.self.inside.blocks.items c.self.inside.starts.items c.self.inside.lasts.items c.self.inside.spares.items c.self.invariant.0 c.args.self.now.blocks (ap (λ v. v.blocks) c.self.view_is) c.remove_within-x.new.block none (omega arith)),
+          c.push_reserved.ensures.items (is_spare-emptied (λ b. b.items) (λ b. vec_capacity b) c.remove-block.result c.remove_within-x.new.block c.remove-block.result.len c.remove_within-x.new.block.len c.remove_within-x.ensures.len c.remove-block.result.ok.0 c.remove_within-x.new.block.ok.0 (ap length list ∙ c.requires.alone) wide c.remove_within-x.ensures.capacity),
       rooms-less _ _ _ _ _ _ _ _ _ _ _ _ c.self.invariant.1 (ap (λ n. n + 1) less ∙ fewer) c.push_reserved.ensures.len c.remove-block.ensures.room (c.remove.ensures.room ∙ c.lower_behind.ensures.room) c.remove-2.ensures.room c.push_reserved.ensures.capacity,
-      counted-remove c.args.self.now.blocks _ c.args.k c.self.inside.counts.total c.self.inside.counts.owed _ _ (counted-same _ _ _ _ (ap (λ v. v.blocks) c.self.view_is) c.self.invariant.2) c.requires.block (returns-clause-blocks g c)
-          (omega (arith, c.change.ensures.total, c.requires.alone)) (omega (arith, c.change.ensures.owed, c.requires.alone)),
+      counted-remove c.args.self.now.blocks _ c.args.k 1 c.self.inside.counts.total c.self.inside.counts.owed _ _ (counted-same _ _ _ _ (ap (λ v. v.blocks) c.self.view_is) c.self.invariant.2) c.requires.block (returns-clause-blocks g c)
+          (sym c.requires.alone) c.change.ensures.total c.change.ensures.owed,
     )
 
 pub returns-clause-spares : goal.returns-clause-spares

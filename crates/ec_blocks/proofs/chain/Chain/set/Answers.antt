@@ -1,5 +1,5 @@
 -- A block that changes, and keeps its length.
-use Rattle.std.proofs.Common.{◌+◌, length, length-set, set, refl, sym, ap, ◌∙◌, arith}
+use Rattle.std.proofs.Common.{◌+◌, length, length-set, set, refl, sym, ap, ◌∙◌, arith, ◌-◌, subst, ◌<◌}
 use Rattle.std.proofs.lemmas.Grind.{common_steps}
 use Rattle.std.specs.Prelude.{nat_eq}
 use Rattle.std.specs.Vec.{vec_capacity}
@@ -36,7 +36,7 @@ pub keep_last-requires-clause-same : goal.keep_last-requires-clause-same
 keep_last-requires-clause-same g c same =
     let list = old-list (λ b. b.items) (λ b. vec_capacity b) c.self.inside.blocks.items c.self.inside.starts.items c.self.inside.lasts.items c.self.inside.spares.items c.self.invariant.0 c.args.self.now.blocks (ap (λ v. v.blocks) c.self.view_is) c.args.k c.requires.block c.get_mut-block.result.now c.get_mut-block.ensures.member in
     old-last (λ b. b.items) (λ b. vec_capacity b) c.self.inside.blocks.items c.self.inside.starts.items c.self.inside.lasts.items c.self.inside.spares.items c.self.invariant.0 c.args.self.now.blocks (ap (λ v. v.blocks) c.self.view_is) c.args.k c.requires.block c.get_mut-block.result.now c.get_mut-block.ensures.member
-    ∙ sym (ap last_of (c.deref.ensures.value ∙ c.put_within.ensures.items) ∙ last_of-set c.get_mut-block.result.now.items c.args.place c.args.x (omega (arith, ap length list, c.requires.place)) (ap (λ n. nat_eq (c.args.place + 1) n) (omega arith) ∙ same))
+    ∙ sym (ap last_of (c.deref.ensures.value ∙ c.put_within.ensures.items) ∙ last_of-set c.get_mut-block.result.now.items c.args.place c.args.x (subst (λ n. c.args.place < n) (sym (ap length list)) c.requires.place) (ap (λ n. nat_eq (c.args.place + 1) n) (sym (c.len-len.ensures ∙ c.get_mut-block.result.now.ok.0)) ∙ same))
 
 pub invariant_of-self : goal.invariant_of-self
 invariant_of-self g c = (
@@ -44,7 +44,8 @@ invariant_of-self g c = (
       (ap length c.put_within.ensures.items ∙ length-set c.get_mut-block.result.now.items c.args.place c.args.x),
   rooms-set c.self.inside.blocks.items c.args.k _ _ _ _ _ _ _ _ c.self.invariant.1 refl c.keep_last.ensures.room,
   counted-set c.args.self.now.blocks _ c.args.k (set (block_at c.args.k c.args.self.now.blocks) c.args.place c.args.x) c.self.inside.counts.total c.self.inside.counts.owed _ _ (counted-same _ _ _ _ (ap (λ v. v.blocks) c.self.view_is) c.self.invariant.2) c.requires.block (returns-clause-blocks g c)
-      (omega (arith, length-set (block_at c.args.k c.args.self.now.blocks) c.args.place c.args.x)) (omega (arith, length-set (block_at c.args.k c.args.self.now.blocks) c.args.place c.args.x)),
+      (ap (λ n. c.self.inside.counts.total + n) (sym (length-set (block_at c.args.k c.args.self.now.blocks) c.args.place c.args.x)))
+      (ap (λ n. c.self.inside.counts.owed + (n - 64)) (sym (length-set (block_at c.args.k c.args.self.now.blocks) c.args.place c.args.x))),
 )
 
 pub returns-clause-spares : goal.returns-clause-spares

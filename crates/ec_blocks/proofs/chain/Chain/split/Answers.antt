@@ -1,13 +1,14 @@
 -- A full block becomes two.
-use Rattle.std.proofs.Common.{◌≡◌, ◌+◌, true, length, take, drop, map, sym, ap, ap₂, ◌∙◌, arith, refl, set, length-set, length-drop}
+use Rattle.std.proofs.Common.{◌≡◌, ◌+◌, true, length, take, drop, map, sym, ap, ap₂, ◌∙◌, arith, refl, set, length-set, ◌≤◌, subst}
 use Rattle.std.specs.List.{insert, list_all}
 use Rattle.std.specs.Vec.{vec_capacity}
 use Rattle.std.proofs.lemmas.List.{length-map, length-take-le}
 use Rattle.std.proofs.lemmas.List.Edits.{length-insert}
 use Rattle.ec_blocks.proofs.StartLemmas.{start_of-le, start_of-all}
 use Rattle.ec_blocks.proofs.ChainLemmas.{starts-count, place-within, start-is, kept-blocks, joined-most, map-insert, lasts-count}
-use Rattle.ec_blocks.proofs.EditLemmas.{rooms-more, old-list, edited, halved}
-use Rattle.ec_blocks.proofs.CountLemmas.{counted-same, counted-small, owed-small, counted-part, owed-part, counted-set, counted-insert}
+use Rattle.ec_blocks.proofs.EditLemmas.{behind-within, rooms-more, old-list, edited, halved}
+use Rattle.ec_blocks.proofs.CountLemmas.{counted-same, counted-small, owed-small, counted-part, owed-part, counted-edit, counted-insert}
+use Rattle.ec_blocks.proofs.SplitLemmas.{half-front, half-back}
 use Rattle.ec_blocks.specs.Chain.{block_at, is_block}
 use Rattle.ec_blocks.proofs.chain.Chain.split.Goals as goal
 
@@ -55,7 +56,7 @@ overflow_add-k-2 g c =
 
 pub insert-requires-2-clause-within : goal.insert-requires-2-clause-within
 insert-requires-2-clause-within g c =
-    omega (arith, length-set c.self.inside.blocks.items c.args.k c.move_half.new.block, place-within (λ b. b.items) (λ b. vec_capacity b) c.self.inside.blocks.items _ c.args.k (ap (λ v. v.blocks) c.self.view_is) c.requires.block)
+    behind-within c.self.inside.blocks.items c.args.k c.move_half.new.block (place-within (λ b. b.items) (λ b. vec_capacity b) c.self.inside.blocks.items _ c.args.k (ap (λ v. v.blocks) c.self.view_is) c.requires.block)
 
 pub insert-requires-2-clause-room : goal.insert-requires-2-clause-room
 insert-requires-2-clause-room g c =
@@ -116,14 +117,13 @@ pub invariant_of-self : goal.invariant_of-self
 invariant_of-self g c =
     let same = length-set c.self.inside.blocks.items c.args.k c.move_half.new.block in
     let within = place-within (λ b. b.items) (λ b. vec_capacity b) c.self.inside.blocks.items _ c.args.k (ap (λ v. v.blocks) c.self.view_is) c.requires.block in
-    let more = ap length c.insert-2.ensures.items ∙ length-insert (set c.self.inside.blocks.items c.args.k c.move_half.new.block) (c.args.k + 1) c.move_half.new.behind (omega (arith, same, within)) in (
+    let more = ap length c.insert-2.ensures.items ∙ length-insert (set c.self.inside.blocks.items c.args.k c.move_half.new.block) (c.args.k + 1) c.move_half.new.behind (behind-within c.self.inside.blocks.items c.args.k c.move_half.new.block within) in (
       halved (λ b. b.items) (λ b. vec_capacity b) c.self.inside.blocks.items c.self.inside.starts.items c.self.inside.lasts.items c.self.inside.spares.items c.self.invariant.0 c.args.self.now.blocks (ap (λ v. v.blocks) c.self.view_is) c.args.k c.requires.block c.get_mut-block.result.now c.get_mut-block.ensures.member c.move_half.new.block c.move_half.new.behind c.deref.result.now c.get-start.result _ _ _ _ c.requires.full
-          c.move_half.ensures.front c.move_half.ensures.back c.move_half.ensures.capacity (omega arith)
+          c.move_half.ensures.front c.move_half.ensures.back c.move_half.ensures.capacity (subst (λ n. 128 ≤ n) (sym c.move_half.ensures.back_capacity) c.take_spare-behind.ensures.room)
           c.deref.ensures.value c.get-start.ensures c.insert-2.ensures.items c.insert.ensures.items c.insert_last.ensures.lasts c.take_spare-behind.ensures.spare,
       rooms-more _ _ _ _ _ _ _ _ _ _ _ _ c.self.invariant.1 (more ∙ ap (λ n. n + 1) same) c.take_spare-behind.ensures.len c.insert-2.ensures.room c.insert.ensures.room c.insert_last.ensures.room c.take_spare-behind.ensures.capacity,
-      counted-insert (set c.args.self.now.blocks c.args.k (take 64 (block_at c.args.k c.args.self.now.blocks))) _ (c.args.k + 1) (drop 64 (block_at c.args.k c.args.self.now.blocks)) c.change.new.self.total c.change.new.self.owed _ _
-          (counted-set c.args.self.now.blocks _ c.args.k (take 64 (block_at c.args.k c.args.self.now.blocks)) c.self.inside.counts.total c.self.inside.counts.owed _ _ (counted-same _ _ _ _ (ap (λ v. v.blocks) c.self.view_is) c.self.invariant.2) c.requires.block refl
-          (omega (arith, c.change.ensures.total, c.requires.full, length-take-le 64 (block_at c.args.k c.args.self.now.blocks) (omega arith)))
-          (omega (arith, c.change.ensures.owed, c.requires.full, length-take-le 64 (block_at c.args.k c.args.self.now.blocks) (omega arith))))
-          (returns-clause-blocks g c) (omega (arith, c.change-2.ensures.total, c.requires.full, length-drop 64 (block_at c.args.k c.args.self.now.blocks))) (omega (arith, c.change-2.ensures.owed, c.requires.full, length-drop 64 (block_at c.args.k c.args.self.now.blocks))),
+      counted-insert (set c.args.self.now.blocks c.args.k (take 64 (block_at c.args.k c.args.self.now.blocks))) _ (c.args.k + 1) (drop 64 (block_at c.args.k c.args.self.now.blocks)) 64 c.change.new.self.total c.change.new.self.owed _ _
+          (counted-edit c.args.self.now.blocks _ c.args.k (take 64 (block_at c.args.k c.args.self.now.blocks)) 128 64 c.self.inside.counts.total c.self.inside.counts.owed _ _ (counted-same _ _ _ _ (ap (λ v. v.blocks) c.self.view_is) c.self.invariant.2) c.requires.block refl
+          (sym c.requires.full) (sym (half-front (block_at c.args.k c.args.self.now.blocks) c.requires.full)) c.change.ensures.total c.change.ensures.owed)
+          (returns-clause-blocks g c) (sym (half-back (block_at c.args.k c.args.self.now.blocks) c.requires.full)) c.change-2.ensures.total c.change-2.ensures.owed,
     )
