@@ -1,5 +1,5 @@
 -- A chain of blocks after an edit of one of them, as the code makes it.
-use Rattle.std.proofs.Common.{◌≡◌, ℕ, ◌+◌, ◌-◌, ◌<◌, ◌≤◌, suc, true, List, [], ◌∷◌, ◌++◌, length, map, get_or, take, drop, set, Some, None, sym, ap, ap₂, ◌∙◌, add-one, zero-add, length-drop, length-set, arith}
+use Rattle.std.proofs.Common.{◌≡◌, ℕ, ◌+◌, ◌-◌, ◌^◌, ◌<◌, ◌≤◌, suc, true, List, [], ◌∷◌, ◌++◌, length, map, get_or, take, drop, set, Some, None, sym, ap, ap₂, ◌∙◌, add-one, zero-add, length-drop, length-set, arith}
 use Rattle.std.specs.List.{slice_get, insert, remove, list_all}
 use Rattle.std.proofs.lemmas.List.{map-set, map_push, length-take-le, get_or-map, nil_from_length}
 use Rattle.std.proofs.lemmas.Bool.Decides.{nat_tests}
@@ -50,6 +50,18 @@ pub rooms-less : (blocks spares blocks_room starts_room lasts_room spares_room b
     blocks_room' ≡ blocks_room → starts_room' ≡ starts_room → lasts_room' ≡ lasts_room → spares_room' ≡ spares_room →
     HasRooms blocks' spares' blocks_room' starts_room' lasts_room' spares_room'
 rooms-less blocks spares blocks_room starts_room lasts_room spares_room blocks' spares' blocks_room' starts_room' lasts_room' spares_room' rooms less more b s l r = record {
+  few = omega arith;
+  blocks_fit = omega arith;
+  starts_fit = omega arith;
+  lasts_fit = omega arith;
+  spares_fit = omega arith;
+}
+
+-- and where a spare block is held
+pub rooms-spared : (blocks count spares held starts lasts blocks' spares' blocks_room starts_room lasts_room spares_room : ℕ) → count ≡ blocks → held ≡ spares → starts ≡ blocks → lasts ≡ blocks →
+    blocks' ≡ blocks → count + held < 2 ^ 56 → spares' ≤ spares + 1 → blocks + (held + 1) ≤ blocks_room → starts + (held + 1) ≤ starts_room → lasts + (held + 1) ≤ lasts_room →
+    spares' + count ≤ spares_room → HasRooms blocks' spares' blocks_room starts_room lasts_room spares_room
+rooms-spared blocks count spares held starts lasts blocks' spares' blocks_room starts_room lasts_room spares_room c m s l same few most b t u r = record {
   few = omega arith;
   blocks_fit = omega arith;
   starts_fit = omega arith;

@@ -13,7 +13,7 @@ loop-x-preserved g c = record {
       (omega arith) (omega arith) (omega arith) c.x-item.is;
   len = ap length c.insert.ensures.items
       ∙ (omega (arith, length-insert c.loop-x.self.items (c.len-in-loop-x.result - (c.len.result - c.args.from)) c.copied.result (omega arith)));
-  behind = omega arith;
+  behind = c.loop-x.invariant.behind;
   spare = omega arith;
 }
 
