@@ -5,10 +5,10 @@ use borrow.Rule.Slice.PartMut.{put_mid}
 use Rattle.std.specs.List.{insert, remove, list_all}
 use Rattle.std.proofs.lemmas.Bool.{cases_lt}
 use Rattle.std.proofs.lemmas.Bool.Decides.{nat_tests}
-use Rattle.std.proofs.lemmas.List.{append-nil, length-take-le, take-append-drop, drop-drop, take_at, drop_at, take_all, drop_all, drop_more, take_more_set, get_or_at, set_at, take-append-le, drop-append-le, take-set-le, drop-set-lt, drop-set-add, get_or-take, get_or-drop, get_or_append_left, get_or-append_right, set-append_left, set-append_right, set-get_or, set_split}
+use Rattle.std.proofs.lemmas.List.{append-nil, length_push, length-take-le, take-append-drop, drop-drop, take_at, drop_at, take_all, drop_all, drop_more, take_more_set, get_or_at, set_at, take-append-le, drop-append-le, take-set-le, drop-set-lt, drop-set-add, get_or-take, get_or-drop, get_or_append_left, get_or-append_right, set-append_left, set-append_right, set-get_or, set_split}
 use Rattle.std.proofs.lemmas.List.Edits.{insert-append_left, insert-append_right, remove-append_right, length-insert, get_or-insert_at, paste_all}
 use Rattle.std.proofs.lemmas.Slice.{put_mid-paste}
-use Rattle.std.proofs.lemmas.Option.{slice_get-get_or}
+use Rattle.std.proofs.lemmas.Option.{slice_get-get_or, slice_get_read}
 use Rattle.ec_lists.proofs.Booleans.{and-left, and-right}
 use Rattle.ec_blocks.specs.Tiers.{turned, unrolled, place_of}
 use Rattle.ec_blocks.proofs.ChainLemmas.{list_all-set}
@@ -355,7 +355,66 @@ module _ {X : Type 0} where
     pub group-less : (h : ℕ) → length ms ≡ n + 64 → unrolled hs (take n ms ++ turned h (drop n ms)) ≡ unrolled (hs ++ h ∷ []) ms
     group-less h whole = unrolled-behind hs (take n ms) (turned h (drop n ms)) (length-take-le n ms full ∙ is) ∙ sym (last-group h whole)
 
+-- the last group is turned so that its first member comes first, and has none from then on
+module _ {X : Type 0} (hs heads : List ℕ) (h : ℕ) (ms read new : List X) (m n : ℕ) (are : heads ≡ hs ++ h ∷ []) (n_is : n ≡ length heads) (m_is : m ≡ length ms) (full : m ≡ 64 * n)
+    (same : read ≡ ms) (made : new ≡ take (length read - 64) read ++ turned h (drop (length read - 64) read)) where
+  long : length ms ≡ 64 * length hs + 64
+  long = omega (arith, ap length are, length_push hs h)
+
+  written : take m (new ++ drop (length new) ms) ≡ take (64 * length hs) ms ++ turned h (drop (64 * length hs) ms)
+  written = turned-last ms read new h (64 * length hs) m same made (omega (arith, long)) m_is
+
+  turned-count : length (take m (new ++ drop (length new) ms)) ≡ length ms
+  turned-count =
+      ap length written
+      ∙ (omega (
+        arith,
+        length-append (take (64 * length hs) ms) (turned h (drop (64 * length hs) ms)),
+        turned-length h (drop (64 * length hs) ms),
+        length-append (take (64 * length hs) ms) (drop (64 * length hs) ms),
+        ap length (take-append-drop (64 * length hs) ms),
+      ))
+
+  straightened : unrolled hs (take m (new ++ drop (length new) ms)) ≡ unrolled heads ms
+  straightened =
+      ap (unrolled hs) written ∙ group-less hs ms (64 * length hs) refl (omega (arith, long)) h long ∙ ap (λ us. unrolled us ms) (sym are)
+
+  module _ (k : ℕ) (last : m ≤ k + 64) where
+    pub straightened-get : (x : X) → k < m → x ≡ get_or (take m (new ++ drop (length new) ms)) k x → slice_get (unrolled heads ms) k ≡ Some x
+    straightened-get x within is =
+        slice_get_read (unrolled heads ms) m k x (m_is ∙ sym (unrolled-length heads ms)) within
+        (is ∙ sym (get-straight hs (take m (new ++ drop (length new) ms)) (64 * length hs) refl (omega (arith, turned-count, long)) k x (omega (arith, long)))
+        ∙ ap (λ us. get_or us k x) straightened)
+
+    pub straightened-remove : unrolled hs (remove (take m (new ++ drop (length new) ms)) k) ≡ remove (unrolled heads ms) k
+    straightened-remove =
+        remove-straight hs (take m (new ++ drop (length new) ms)) (64 * length hs) refl (omega (arith, turned-count, long)) k (omega (arith, long))
+        ∙ ap (λ us. remove us k) straightened
+
 -- ---- places
+
+-- the group of a place: where it begins and ends, and the place in it
+pub group-first : (k : ℕ) → k / 64 * 64 ≡ 64 * (k / 64)
+group-first k = omega arith
+
+pub group-end : (k : ℕ) → 64 * (k / 64) + 64 ≡ k / 64 * 64 + 64
+group-end k = omega arith
+
+pub group-from : (k : ℕ) → k / 64 * 64 ≤ k
+group-from k = omega arith
+
+pub group-to : (k : ℕ) → k < 64 * (k / 64) + 64
+group-to k = omega arith
+
+pub group-place : (k : ℕ) → k - k / 64 * 64 ≡ k % 64
+group-place k = omega arith
+
+-- a group that is full has a first member
+pub group-full : (k items members heads : ℕ) → 64 * (k / 64) + 64 ≤ items → members ≡ items → heads ≡ members / 64 → k / 64 < heads
+group-full k items members heads full same count = omega arith
+
+pub groups-most : (members heads : ℕ) → heads ≡ members / 64 → 64 * heads ≤ members
+groups-most members heads count = omega arith
 
 -- the first member of each ring lies in it
 pub head-small : (hs : List ℕ) (g : ℕ) → list_all (λ h. nat_lt h 64) hs ≡ true → g < length hs → get_or hs g 0 < 64
