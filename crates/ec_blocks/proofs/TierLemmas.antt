@@ -416,6 +416,9 @@ group-full k items members heads full same count = omega arith
 pub groups-most : (members heads : ℕ) → heads ≡ members / 64 → 64 * heads ≤ members
 groups-most members heads count = omega arith
 
+pub groups-behind : (items members heads k : ℕ) → 64 * (items / 64) ≤ k → members ≡ items → heads ≡ members / 64 → 64 * heads ≤ k
+groups-behind items members heads k behind same count = omega arith
+
 -- the first member of each ring lies in it
 pub head-small : (hs : List ℕ) (g : ℕ) → list_all (λ h. nat_lt h 64) hs ≡ true → g < length hs → get_or hs g 0 < 64
 head-small [] g all within = absurd (omega arith)
