@@ -1,5 +1,5 @@
 -- The last block goes, and is a spare one.
-use Rattle.std.proofs.Common.{ap, sym, length, ◌∙◌, ◌-◌, arith}
+use Rattle.std.proofs.Common.{ap, sym, length, ◌∙◌, ◌-◌, arith, subst, ◌≤◌}
 use Rattle.std.proofs.lemmas.Grind.{common_steps}
 use Rattle.std.specs.List.{list_all}
 use Rattle.std.specs.Vec.{vec_capacity}
@@ -22,7 +22,7 @@ loop-blocks-preserved g c =
           ∙ list_all-remove (is_kept (λ block. block.items) (λ block. vec_capacity block)) c.loop-blocks.blocks.items _ all;
       spare = ap (list_all (is_spare (λ block. block.items) (λ block. vec_capacity block))) c.push_reserved.ensures.items
           ∙ list_all-push (is_spare (λ block. block.items) (λ block. vec_capacity block)) c.loop-blocks.spares.items c.clear.new.self
-          (is_spare-now (λ block. block.items) (λ block. vec_capacity block) c.clear.new.self c.clear.ensures.items (omega (arith, room, c.clear.ensures.capacity))) c.loop-blocks.invariant.spare;
+          (is_spare-now (λ block. block.items) (λ block. vec_capacity block) c.clear.new.self c.clear.ensures.items (subst (λ n. 128 ≤ n) (sym c.clear.ensures.capacity) room)) c.loop-blocks.invariant.spare;
       len = omega (arith, ap length c.remove-block.ensures.items, length-remove c.loop-blocks.blocks.items (c.len-in-loop-blocks.result - 1) (omega arith), c.loop-blocks.invariant.len);
       blocks_room = c.remove-block.ensures.room ∙ c.loop-blocks.invariant.blocks_room;
       spares_capacity = c.push_reserved.ensures.capacity ∙ c.loop-blocks.invariant.spares_capacity;

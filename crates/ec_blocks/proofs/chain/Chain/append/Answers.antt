@@ -1,5 +1,5 @@
 -- A block more at the end.
-use Rattle.std.proofs.Common.{[], ◌∷◌, length-append, ◌-◌, ◌++◌, length, Some, refl, sym, ap, ◌∙◌, arith, map, ap₂}
+use Rattle.std.proofs.Common.{[], ◌∷◌, length-append, ◌-◌, ◌++◌, length, Some, refl, sym, ap, ◌∙◌, arith, map, ap₂, subst, ◌≤◌}
 use Rattle.std.specs.Vec.{vec_capacity}
 use Rattle.std.proofs.lemmas.Option.{slice_get_read}
 use Rattle.std.proofs.lemmas.List.{map_push}
@@ -33,7 +33,7 @@ returns-clause-blocks g c =
     ∙ ap₂ (λ us members. us ++ members ∷ []) (ap (λ v. v.blocks) c.self.view_is) (c.fill.ensures.items ∙ ap (λ xs. xs ++ c.args.members.now) c.take_spare-block.ensures.empty)
 
 pub returns-clause-spares : goal.returns-clause-spares
-returns-clause-spares g c = omega (arith, ap (λ v. v.spares) c.self.view_is, c.take_spare-block.ensures.len)
+returns-clause-spares g c = c.take_spare-block.ensures.len ∙ ap (λ v. v.spares) c.self.view_is
 
 pub push-requires : goal.push-requires
 push-requires g c = let rooms = c.self.invariant.1 in omega (arith, ap (λ v. v.spares) c.self.view_is, starts-count (λ b. b.items) (λ b. vec_capacity b) _ _ _ _ c.self.invariant.0)
@@ -55,7 +55,7 @@ invariant_of-self g c =
     let filled = c.fill.ensures.items ∙ ap (λ xs. xs ++ c.args.members.now) c.take_spare-block.ensures.empty in (
       appended (λ b. b.items) (λ b. vec_capacity b) c.self.inside.blocks.items c.self.inside.starts.items c.self.inside.lasts.items c.self.inside.spares.items c.self.invariant.0 c.args.self.now.blocks (ap (λ v. v.blocks) c.self.view_is) _ _ _ _ c.fill.new.block c.total-start.result c.copied.result c.args.members.now
           there c.push.ensures.items c.push-2.ensures.items
-          filled c.requires.block (omega arith) c.total-start.ensures
+          filled c.requires.block (subst (λ n. 128 ≤ n) (sym c.fill.ensures.capacity) c.take_spare-block.ensures.room) c.total-start.ensures
           (ap (λ x. Some x) c.copied.ensures
           ∙ sym (slice_get_read c.args.members.now (length c.args.members.now) (length c.args.members.now - 1) c.index-members-members.result refl (omega arith) c.index-members-members.is))
           c.take_spare-block.ensures.spare,

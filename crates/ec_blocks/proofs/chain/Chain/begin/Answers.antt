@@ -1,7 +1,7 @@
 -- A block more at the end.
-use Rattle.std.proofs.Common.{length-append, ◌++◌, ◌∷◌, [], Some, refl, ap, ◌∙◌, arith, length}
-use Rattle.std.proofs.lemmas.Grind.{common_steps}
+use Rattle.std.proofs.Common.{length-append, ◌++◌, ◌∷◌, [], Some, refl, ap, ◌∙◌, arith, length, subst, ◌≤◌, sym, map, ap₂}
 use Rattle.std.specs.Vec.{vec_capacity}
+use Rattle.std.proofs.lemmas.List.{map_push}
 use Rattle.ec_blocks.proofs.ChainLemmas.{starts-count, lasts-count}
 use Rattle.ec_blocks.proofs.EditLemmas.{rooms-more, appended}
 use Rattle.ec_blocks.proofs.CountLemmas.{counted-small, owed-small, counted-push}
@@ -26,7 +26,7 @@ invariant_of-self g c =
     let begun = c.push_reserved.ensures.items ∙ ap (λ xs. xs ++ c.args.x ∷ []) c.take_spare-block.ensures.empty in (
       appended (λ b. b.items) (λ b. vec_capacity b) c.self.inside.blocks.items c.self.inside.starts.items c.self.inside.lasts.items c.self.inside.spares.items c.self.invariant.0 c.args.self.now.blocks (ap (λ v. v.blocks) c.self.view_is) _ _ _ _ c.push_reserved.new.self c.total-start.result c.copied-last.result (c.args.x ∷ [])
           there c.push.ensures.items c.push-2.ensures.items
-          begun refl (omega arith) c.total-start.ensures
+          begun refl (subst (λ n. 128 ≤ n) (sym c.push_reserved.ensures.capacity) c.take_spare-block.ensures.room) c.total-start.ensures
           (ap (λ x. Some x) c.copied-last.ensures) c.take_spare-block.ensures.spare,
       rooms-more _ _ _ _ _ _ _ _ _ _ _ _ c.self.invariant.1 more c.take_spare-block.ensures.len c.push-3.ensures.room c.push.ensures.room c.push-2.ensures.room c.take_spare-block.ensures.capacity,
       counted-push (λ b. b.items) c.self.inside.blocks.items _ c.push_reserved.new.self (c.args.x ∷ []) c.self.inside.counts.total c.self.inside.counts.owed _ _ c.self.invariant.2 there begun
@@ -34,7 +34,9 @@ invariant_of-self g c =
     )
 
 pub returns-clause-spares : goal.returns-clause-spares
-returns-clause-spares c = grind (arith, common_steps)
+returns-clause-spares g c = c.take_spare-block.ensures.len ∙ ap (λ v. v.spares) c.self.view_is
 
 pub returns-clause-blocks : goal.returns-clause-blocks
-returns-clause-blocks c = grind (arith, common_steps)
+returns-clause-blocks g c =
+    ap (map (λ b. b.items)) c.push-3.ensures.items ∙ map_push (λ b. b.items) c.self.inside.blocks.items c.push_reserved.new.self
+    ∙ ap₂ (λ us members. us ++ members ∷ []) (ap (λ v. v.blocks) c.self.view_is) (c.push_reserved.ensures.items ∙ ap (λ xs. xs ++ c.args.x ∷ []) c.take_spare-block.ensures.empty)

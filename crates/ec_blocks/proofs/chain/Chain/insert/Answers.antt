@@ -1,6 +1,5 @@
 -- A block that gets one more.
 use Rattle.std.proofs.Common.{◌+◌, length, sym, ap, ◌∙◌, arith, ◌≡◌, ◌-◌, ◌≤◌, subst, ◌<◌}
-use Rattle.std.proofs.lemmas.Grind.{common_steps}
 use Rattle.std.specs.Prelude.{nat_eq}
 use Rattle.std.specs.List.{insert}
 use Rattle.std.specs.Vec.{vec_capacity}
@@ -81,4 +80,4 @@ invariant_of-self g c =
     )
 
 pub returns-clause-spares : goal.returns-clause-spares
-returns-clause-spares c = grind (arith, common_steps)
+returns-clause-spares g c = ap (λ v. v.spares) c.self.view_is

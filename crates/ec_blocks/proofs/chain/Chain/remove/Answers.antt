@@ -1,6 +1,5 @@
 -- A block that gets one less.
 use Rattle.std.proofs.Common.{◌∙◌, sym, ◌+◌, length, ap, arith, ◌≡◌, ◌-◌, ◌≤◌, subst, ◌<◌}
-use Rattle.std.proofs.lemmas.Grind.{common_steps}
 use Rattle.std.specs.Prelude.{nat_eq, slice_get}
 use Rattle.std.specs.List.{remove}
 use Rattle.std.specs.Vec.{vec_capacity}
@@ -84,4 +83,4 @@ invariant_of-self g c =
     )
 
 pub returns-clause-spares : goal.returns-clause-spares
-returns-clause-spares c = grind (arith, common_steps)
+returns-clause-spares g c = ap (λ v. v.spares) c.self.view_is

@@ -1,6 +1,5 @@
 -- A block goes, and is a spare one.
 use Rattle.std.proofs.Common.{◌+◌, ◌-◌, ◌≤◌, length, map, ap, ◌∙◌, arith, sym}
-use Rattle.std.proofs.lemmas.Grind.{common_steps}
 use Rattle.std.specs.List.{remove}
 use Rattle.std.specs.Vec.{vec_capacity}
 use Rattle.std.proofs.lemmas.List.Edits.{length-remove}
@@ -71,4 +70,4 @@ invariant_of-self g c =
     )
 
 pub returns-clause-spares : goal.returns-clause-spares
-returns-clause-spares c = grind (arith, common_steps)
+returns-clause-spares g c = c.push_reserved.ensures.len ∙ ap (λ v. v.spares + 1) c.self.view_is

@@ -1,6 +1,5 @@
 -- A block that changes, and keeps its length.
 use Rattle.std.proofs.Common.{◌+◌, length, length-set, set, refl, sym, ap, ◌∙◌, arith, ◌-◌, subst, ◌<◌}
-use Rattle.std.proofs.lemmas.Grind.{common_steps}
 use Rattle.std.specs.Prelude.{nat_eq}
 use Rattle.std.specs.Vec.{vec_capacity}
 use Rattle.ec_blocks.proofs.ChainLemmas.{last_of-set, lasts-count, place-within}
@@ -49,4 +48,4 @@ invariant_of-self g c = (
 )
 
 pub returns-clause-spares : goal.returns-clause-spares
-returns-clause-spares c = grind (arith, common_steps)
+returns-clause-spares g c = ap (λ v. v.spares) c.self.view_is

@@ -63,7 +63,7 @@ insert-requires-2-clause-room g c =
     let rooms = c.self.invariant.1 in omega (arith, ap (λ v. v.spares) c.self.view_is, length-set c.self.inside.blocks.items c.args.k c.move_half.new.block)
 
 pub returns-clause-spares : goal.returns-clause-spares
-returns-clause-spares g c = omega (arith, ap (λ v. v.spares) c.self.view_is, c.take_spare-behind.ensures.len)
+returns-clause-spares g c = c.take_spare-behind.ensures.len ∙ ap (λ v. v.spares) c.self.view_is
 
 pub get-start-requires : goal.get-start-requires
 get-start-requires g c = omega (arith, starts-count (λ b. b.items) (λ b. vec_capacity b) _ _ _ _ c.self.invariant.0, place-within (λ b. b.items) (λ b. vec_capacity b) c.self.inside.blocks.items _ c.args.k (ap (λ v. v.blocks) c.self.view_is) c.requires.block)
