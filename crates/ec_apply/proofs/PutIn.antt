@@ -143,7 +143,7 @@ module _ {T : Type 0} where
               let other : bytes_eq event.id e.id ≡ false = bytes_eq_comm event.id e.id ∙ not-true (bytes_eq e.id event.id) (list_all-slice_get (λ (x : Event T). not (bytes_eq x.id event.id)) add i e apart.1 there) in
               ap (slot_of e.id) put.events ∙ slot_of-with_kept rank (put.slot, event) store.events e.id absent-last
               ∙ ap (λ b. cond b (Some put.slot) (slot_of e.id store.events)) other
-              ∙ so_far.fresh.absent i e (slice_get-front add event i e there);
+              ∙ so_far.fresh.absent i e (slice_get-front add (event ∷ []) i e there);
           apart = (ascending-last (λ (x y : Event T). not (bytes_eq x.id y.id)) add event so_far.fresh.apart).0;
         }
           where
@@ -225,9 +225,9 @@ module _ {T : Type 0} where
         IsPutSoFar-more spare places slots room = record {
           lists_left = length-one lists add list event so_far.lists_left;
           bits_left = length-one bits add active event so_far.bits_left;
-          add_front = λ i x there. so_far.add_front i x (slice_get-front add event i x there);
-          lists_front = λ i x there. so_far.lists_front i x (slice_get-front lists list i x there);
-          bits_front = λ i x there. so_far.bits_front i x (slice_get-front bits active i x there);
+          add_front = λ i x there. so_far.add_front i x (slice_get-front add (event ∷ []) i x there);
+          lists_front = λ i x there. so_far.lists_front i x (slice_get-front lists (list ∷ []) i x there);
+          bits_front = λ i x there. so_far.bits_front i x (slice_get-front bits (active ∷ []) i x there);
           fresh = fresh-rest;
           aligned = aligned-now;
           spare = omega (arith, spare, so_far.spare, length-append add (event ∷ []));
