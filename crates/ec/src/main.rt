@@ -1,9 +1,9 @@
 //! The program `ec`: a history of timed events, and what it says of properties.
 #![tactic(auto)]
 
+use ec_lists::NoMemory;
 use ec_outside::{Buffered, RealFolder, RealSink, RealSource, Sink};
 use ec_server::{Status, run};
-use ec_terms::NoMemory;
 use std::env;
 use std::io::ErrorKind;
 use std::process::ExitCode;

@@ -6,12 +6,6 @@ use Rattle.std.proofs.lemmas.List.Elements.{All-cons, All-head, All-tail}
 use Rattle.std.proofs.lemmas.List.Folds.{list_all-append}
 use Rattle.ec_rows.specs.Ordered.{is_ascending}
 
--- what stands at a place of a list stands there with more behind
-pub slice_get-front : {X : Type 0} (xs ys : List X) (i : ℕ) (x : X) → slice_get xs i ≡ Some x → slice_get (xs ++ ys) i ≡ Some x
-slice_get-front [] ys i x there = cc
-slice_get-front (y ∷ xs) ys zero x there = there
-slice_get-front (y ∷ xs) ys (suc i) x there = slice_get-front xs ys i x there
-
 -- the last member stands behind all others
 pub slice_get-last : {X : Type 0} (xs : List X) (x : X) → slice_get (xs ++ x ∷ []) (length xs) ≡ Some x
 slice_get-last [] x = refl

@@ -8,6 +8,7 @@ use Rattle.std.proofs.lemmas.List.{map-append}
 use Rattle.std.proofs.lemmas.List.Sums.{sum_by-append}
 use Rattle.ec_lists.proofs.Booleans.{cond_comm, option_map-cond}
 use Rattle.ec_lists.proofs.Numbers.{bytes_eq_comm}
+use Rattle.ec_lists.proofs.Places.{slice_get-behind}
 use Rattle.ec_lists.proofs.Tests.{list_all-slice_get}
 use Rattle.ec_terms.specs.declared.ids.Slot.{Slot}
 use Rattle.ec_axioms.specs.declared.event.Event.{Event}
@@ -22,7 +23,7 @@ use Rattle.ec_context.specs.declared.entry.Entry.{Entry}
 use Rattle.ec_entries.specs.declared.event_entries.EventEntries.{EventEntries}
 use Rattle.ec_entries.specs.Dependents.{Entered, count_on, count_on_all, room_of}
 use Rattle.ec_apply.specs.Events.{AreAligned, AreFresh, IsPutIn, StaysOrIsAdded, entries_kept}
-use Rattle.ec_apply.proofs.LastMembers.{slice_get-front, slice_get-last, ascending-last}
+use Rattle.ec_apply.proofs.LastMembers.{slice_get-last, ascending-last}
 
 -- some event passes with one more
 list_any-with_event : (p : PlainEvent → Bool) (e : PlainEvent) (es : List PlainEvent) → list_any p (with_event e es) ≡ (p e || list_any p es)
@@ -143,7 +144,7 @@ module _ {T : Type 0} where
               let other : bytes_eq event.id e.id ≡ false = bytes_eq_comm event.id e.id ∙ not-true (bytes_eq e.id event.id) (list_all-slice_get (λ (x : Event T). not (bytes_eq x.id event.id)) add i e apart.1 there) in
               ap (slot_of e.id) put.events ∙ slot_of-with_kept rank (put.slot, event) store.events e.id absent-last
               ∙ ap (λ b. cond b (Some put.slot) (slot_of e.id store.events)) other
-              ∙ so_far.fresh.absent i e (slice_get-front add (event ∷ []) i e there);
+              ∙ so_far.fresh.absent i e (slice_get-behind add (event ∷ []) i e there);
           apart = (ascending-last (λ (x y : Event T). not (bytes_eq x.id y.id)) add event so_far.fresh.apart).0;
         }
           where
@@ -225,9 +226,9 @@ module _ {T : Type 0} where
         IsPutSoFar-more spare places slots room = record {
           lists_left = length-one lists add list event so_far.lists_left;
           bits_left = length-one bits add active event so_far.bits_left;
-          add_front = λ i x there. so_far.add_front i x (slice_get-front add (event ∷ []) i x there);
-          lists_front = λ i x there. so_far.lists_front i x (slice_get-front lists (list ∷ []) i x there);
-          bits_front = λ i x there. so_far.bits_front i x (slice_get-front bits (active ∷ []) i x there);
+          add_front = λ i x there. so_far.add_front i x (slice_get-behind add (event ∷ []) i x there);
+          lists_front = λ i x there. so_far.lists_front i x (slice_get-behind lists (list ∷ []) i x there);
+          bits_front = λ i x there. so_far.bits_front i x (slice_get-behind bits (active ∷ []) i x there);
           fresh = fresh-rest;
           aligned = aligned-now;
           spare = omega (arith, spare, so_far.spare, length-append add (event ∷ []));

@@ -6,10 +6,11 @@ ghost use Rattle.ec_batch.specs.Net.{is_present_by, net_in, old_slot_by};
 
 use ec_axioms::Event;
 use ec_context::EntryList;
+use ec_lists::NoMemory;
 use ec_moment::Moment;
 use ec_rows::TimeRow;
 use ec_store::EventStore;
-use ec_terms::{Name, NoMemory, Slot};
+use ec_terms::{Name, Slot};
 use indexmap::IndexMap;
 
 /// An event that a batch puts in, with its entries.

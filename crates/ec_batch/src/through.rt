@@ -12,10 +12,10 @@ ghost use Rattle.ec_batch.specs.Through.{GoesThrough};
 use crate::refusal::Refusal;
 use crate::walk::{Stop, Walk, assert_event, update};
 use ec_axioms::{Event, Steps, Update};
+use ec_lists::NoMemory;
 use ec_moment::Moment;
 use ec_parts::{Parts, Tally};
 use ec_rows::{MarkRow, SpanRow, TimeRow};
-use ec_terms::NoMemory;
 use std::alloc::Global;
 use std::sync::ledger::Ledger;
 

@@ -12,10 +12,11 @@ ghost use Rattle.ec_batch.specs.Walk.{GoesOn, HasWalked, HasWalkedTo};
 use crate::limited::take_in;
 use crate::net::{Added, Net, Nets, is_present, make_room, old_slot, put};
 use ec_axioms::{Cut, Event, MOST_EVENTS, Steps, Update};
+use ec_lists::NoMemory;
 use ec_moment::Moment;
 use ec_parts::{Parts, Tally, enter, note_props, release_all, release_slot};
 use ec_rows::{MarkRow, SpanRow, TimeRow};
-use ec_terms::{Name, NoMemory, PropId, Slot};
+use ec_terms::{Name, PropId, Slot};
 use std::alloc::Global;
 use std::sync::ledger::Ledger;
 

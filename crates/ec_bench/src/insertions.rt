@@ -3,7 +3,8 @@ ghost use Rattle.std.specs.Prelude.{◌≡◌, ◌+◌, ◌-◌, ◌^◌, ◌<�
 
 use crate::draws::Draws;
 use ec_blocks::Blocks;
-use ec_terms::{NoMemory, PropId};
+use ec_lists::NoMemory;
+use ec_terms::PropId;
 use std::alloc::Global;
 
 /// Where in a list each further member is put.

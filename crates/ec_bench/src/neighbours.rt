@@ -6,8 +6,9 @@ ghost use Rattle.ec_terms.specs.Term.{ground_of, names_are_names};
 
 use anyhow::{Context, Result, bail};
 use ec_exclusive::Neighbours;
+use ec_lists::NoMemory;
 use ec_store::PropTable;
-use ec_terms::{GroundRef, NoMemory, Theory, read_ground};
+use ec_terms::{GroundRef, Theory, read_ground};
 use ec_theory::accept;
 use std::alloc::Global;
 

@@ -4,9 +4,9 @@ ghost use Rattle.ec_rows.specs.Marks.{IsMarkRow, is_counted, are_before, has_mar
 
 use crate::search::{ANYWHERE, count_before, count_up_to, place_of};
 use ec_blocks::Blocks;
+use ec_lists::NoMemory;
 use ec_moment::Moment;
 use ec_rows::{Mark, MarkRow};
-use ec_terms::NoMemory;
 use std::alloc::Global;
 use std::marker::Model;
 
@@ -18,7 +18,7 @@ pub struct BlockMarks<T: Moment> {
 
 impl<T: Moment> Model for BlockMarks<T> {
     ghost use Rattle.ec_rows.specs.declared.mark.Mark.{Mark};
-    ghost use Rattle.ec_terms.specs.Reserved.{Reserved};
+    ghost use Rattle.ec_lists.specs.Reserved.{Reserved};
     ghost use Rattle.ec_rows.specs.Marks.{IsMarkRow};
 
     ghost Value = { Reserved (Mark T) };

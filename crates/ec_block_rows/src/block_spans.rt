@@ -4,9 +4,9 @@ ghost use Rattle.ec_rows.specs.Spans.{IsSpanRow, is_covering, spans_before, reac
 
 use crate::search::{ANYWHERE, count_before};
 use ec_blocks::Blocks;
+use ec_lists::NoMemory;
 use ec_moment::Moment;
 use ec_rows::{End, Span, SpanRow};
-use ec_terms::NoMemory;
 use std::alloc::Global;
 use std::marker::Model;
 
@@ -18,7 +18,7 @@ pub struct BlockSpans<T: Moment> {
 
 impl<T: Moment> Model for BlockSpans<T> {
     ghost use Rattle.ec_rows.specs.declared.span.Span.{Span};
-    ghost use Rattle.ec_terms.specs.Reserved.{Reserved};
+    ghost use Rattle.ec_lists.specs.Reserved.{Reserved};
     ghost use Rattle.ec_rows.specs.Spans.{IsSpanRow};
 
     ghost Value = { Reserved (Span T) };

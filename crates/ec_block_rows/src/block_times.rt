@@ -4,9 +4,10 @@ ghost use Rattle.std.specs.Ordering.{is_lt};
 ghost use Rattle.ec_rows.specs.Times.{IsTimeRow, place_of, place_cmp, entries_before, has_entry, with_entry, without_entry};
 
 use ec_blocks::Blocks;
+use ec_lists::{Copied, NoMemory};
 use ec_moment::Moment;
 use ec_rows::TimeRow;
-use ec_terms::{Copied, Name, NoMemory, Slot};
+use ec_terms::{Name, Slot};
 use std::alloc::Global;
 use std::cmp::Ordering;
 use std::marker::Model;
@@ -20,7 +21,7 @@ pub struct BlockTimes<T: Moment> {
 impl<T: Moment> Model for BlockTimes<T> {
     ghost use Rattle.std.specs.Prelude.{ℕ, List};
     ghost use Rattle.ec_terms.specs.declared.ids.Slot.{Slot};
-    ghost use Rattle.ec_terms.specs.Reserved.{Reserved};
+    ghost use Rattle.ec_lists.specs.Reserved.{Reserved};
     ghost use Rattle.ec_rows.specs.Times.{IsTimeRow};
 
     ghost Value = { Reserved (T × List ℕ × Slot) };

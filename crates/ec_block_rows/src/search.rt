@@ -6,9 +6,9 @@ ghost use Rattle.std.specs.Ordering.{int_eq};
 ghost use Rattle.ec_rows.specs.Ordered.{is_ascending, by_time, members_before, members_from, members_up_to, members_after, has_member};
 
 use ec_blocks::Blocks;
+use ec_lists::Copied;
 use ec_moment::Moment;
 use ec_rows::Timed;
-use ec_terms::Copied;
 
 /// In place of a place to look at first: none.
 pub(crate) const ANYWHERE: usize = usize::MAX;

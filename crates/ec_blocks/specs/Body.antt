@@ -4,7 +4,7 @@ use Rattle.std.specs.Vec.{vec_capacity}
 use Rattle.ec_blocks.specs.declared.blocks.Body.{Body}
 use Rattle.ec_blocks.specs.declared.blocks.Body.TheVariants.{Few, Many}
 use Rattle.ec_blocks.specs.Chain.{joined, room_of}
-use Rattle.ec_terms.specs.Reserved.{Reserved}
+use Rattle.ec_lists.specs.Reserved.{Reserved}
 
 -- the members, and how many further ones there is room for, wherever they are put
 abbrev pub seen_of : {X : Type 0} → Body X → Reserved X

@@ -1,7 +1,7 @@
 //! Numbers that groups have in common, of which all behind a place are raised or lowered together.
 ghost use Rattle.std.specs.Prelude.{◌≡◌, ℕ, ◌+◌, ◌-◌, ◌%◌, ◌^◌, ◌<◌, ◌≤◌, [], ◌⊎◌, OnOk, length, vec_len, slice_index_or};
 
-use ec_terms::NoMemory;
+use ec_lists::NoMemory;
 use std::alloc::Global;
 use std::marker::Model;
 

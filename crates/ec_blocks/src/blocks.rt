@@ -7,7 +7,7 @@ ghost use Rattle.ec_blocks.specs.Body.{IsBody, IsWide, seen_of};
 ghost use Rattle.ec_blocks.specs.Chain.{joined, room_of};
 
 use crate::chain::{CAPACITY, Chain, insert_within, put_within, remove_within};
-use ec_terms::{Copied, NoMemory};
+use ec_lists::{Copied, NoMemory};
 use std::alloc::Global;
 use std::marker::Model;
 
@@ -29,7 +29,7 @@ pub struct Blocks<X> {
 }
 
 impl<X> Model for Blocks<X> {
-    ghost use Rattle.ec_terms.specs.Reserved.{Reserved};
+    ghost use Rattle.ec_lists.specs.Reserved.{Reserved};
 
     ghost Value = { Reserved X };
 

@@ -7,7 +7,7 @@ ghost use Rattle.std.proofs.Common.{suc};
 ghost use Rattle.ec_blocks.specs.Chain.{joined, block_at, debt, room_of};
 
 use crate::chain::{CAPACITY, Chain, HALF, cut_near, cut_round};
-use ec_terms::{Copied, NoMemory};
+use ec_lists::{Copied, NoMemory};
 
 impl<X: Copied + Drop> Chain<X> {
     /// The member at a place.

@@ -10,7 +10,7 @@ ghost use Rattle.ec_blocks.specs.ChainParts.{is_kept, is_spare};
 use crate::counts::Counts;
 use crate::starts::Starts;
 use crate::tiers::{Tiers, passes};
-use ec_terms::{Copied, NoMemory};
+use ec_lists::{Copied, NoMemory};
 use std::alloc::Global;
 use std::cell::Cell;
 use std::marker::Model;

@@ -7,7 +7,7 @@ ghost use Rattle.ec_blocks.specs.Starts.{number_at};
 
 use crate::bases::{Bases, add};
 use crate::chain::insert_within;
-use ec_terms::NoMemory;
+use ec_lists::NoMemory;
 use std::alloc::Global;
 use std::marker::Model;
 

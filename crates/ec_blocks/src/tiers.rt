@@ -9,7 +9,7 @@ ghost use Rattle.ec_blocks.specs.Tiers.{turned, unrolled, place_of};
 
 use crate::chain::{cut, insert_within};
 use crate::starts::choose;
-use ec_terms::NoMemory;
+use ec_lists::NoMemory;
 use std::alloc::Global;
 use std::marker::Model;
 use std::mem;

@@ -9,10 +9,11 @@ ghost use Rattle.ec_exclusive.specs.Neighbours.{AreNeighbours};
 use crate::fixtures::{ONE_PLACE, Tables, boxed, enter, enter_text, no_tables, term_of, theory_of};
 use ec_exclusive::{Neighbours, exclusive};
 use ec_layers::tables::row_of;
+use ec_lists::NoMemory;
 use ec_store::PropTable;
 use ec_terms::{
-    Arg, ArgRef, ArgRefs, Exclusive, GroundRef, Name, NoMemory, PatArg, PatArgs, Pattern, PropId,
-    Sequence, Theory,
+    Arg, ArgRef, ArgRefs, Exclusive, GroundRef, Name, PatArg, PatArgs, Pattern, PropId, Sequence,
+    Theory,
 };
 use std::alloc::Global;
 use std::process::Abort;

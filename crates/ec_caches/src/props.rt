@@ -6,8 +6,9 @@ ghost use Rattle.ec_store.specs.PropKeys.{key_of};
 ghost use Rattle.ec_store.specs.Table.{prop_at};
 
 use crate::fixtures::{boxed, term_of};
+use ec_lists::NoMemory;
 use ec_store::PropTable;
-use ec_terms::{ArgRef, GroundRef, NoMemory, PropId, order};
+use ec_terms::{ArgRef, GroundRef, PropId, order};
 use std::alloc::Global;
 use std::hash::{FoldHasher, Hasher};
 use std::process::Abort;

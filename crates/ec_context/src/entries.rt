@@ -15,11 +15,11 @@ use crate::entry::{Entry, EntryList, EntryLiteral, EntryLiterals, MOST_LITERALS}
 use crate::keeping::{forget_each, keep};
 use crate::rules::Rules;
 use ec_axioms::Event;
+use ec_lists::NoMemory;
 use ec_moment::Moment;
 use ec_store::PropTable;
 use ec_terms::{
-    Binding, GroundRef, Literal, NoMemory, PropId, Rule, Sequence, Theory, fill_ref, matches,
-    tests_hold,
+    Binding, GroundRef, Literal, PropId, Rule, Sequence, Theory, fill_ref, matches, tests_hold,
 };
 use std::alloc::Global;
 

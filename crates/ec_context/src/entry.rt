@@ -2,7 +2,8 @@
 ghost use Rattle.std.specs.Prelude.{◌≡◌, ◌<◌, ◌≤◌, [], ◌∷◌, ◌++◌, length, slice_get, false, Some, OnOk, OnErr};
 ghost use Rattle.ec_context.specs.Entries.{IsEntryList};
 
-use ec_terms::{Kind, NoMemory, PropId};
+use ec_lists::NoMemory;
+use ec_terms::{Kind, PropId};
 use smallvec::SmallVec;
 use std::alloc::Global;
 use std::marker::Model;

@@ -4,8 +4,9 @@ ghost use Rattle.ec_terms.specs.Term.{ground_of, names_are_names};
 ghost use Rattle.ec_store.specs.Table.{term_at};
 ghost use Rattle.ec_context.specs.Widened.{AddsOnly, AreUnmentioned, HasKept, without_props};
 
+use ec_lists::NoMemory;
 use ec_store::PropTable;
-use ec_terms::{GroundRef, NoMemory, PropId};
+use ec_terms::{GroundRef, PropId};
 
 /// The number of a term, which is kept from then on. A number that is new is added to `added`. `Err`: memory ran
 /// out, and the table is as it was.

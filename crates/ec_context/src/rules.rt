@@ -6,7 +6,8 @@ ghost use Rattle.ec_context.specs.RulePlaces.{IsIndex, is_for as is_rule_for, li
 
 use arrayvec::ArrayVec;
 use ec_check::{Checked, MOST_EVENT_RULES, MOST_RULES};
-use ec_terms::{LONGEST_NAME, MOST_ARGS, NoMemory, Rule, Theory};
+use ec_lists::NoMemory;
+use ec_terms::{LONGEST_NAME, MOST_ARGS, Rule, Theory};
 use indexmap::IndexMap;
 use std::alloc::Global;
 use std::marker::Model;

@@ -3,9 +3,10 @@ ghost use Rattle.std.specs.Prelude.{◌≡◌, ◌+◌, ◌==◌, ℕ, [], Some,
 ghost use Rattle.ec_terms.specs.declared.ids.PropId.{PropId};
 ghost use Rattle.ec_delta.specs.Touched.{are_once, first_touched, touched_at, touched_with, widened};
 
+use ec_lists::NoMemory;
 use ec_moment::Moment;
 use ec_numbered::NumberMap;
-use ec_terms::{NoMemory, PropId};
+use ec_terms::PropId;
 use std::alloc::Global;
 use std::marker::Model;
 

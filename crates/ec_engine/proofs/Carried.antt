@@ -2,7 +2,7 @@
 use Rattle.std.proofs.Common.{◌≡◌, ℤ, List, sym, subst}
 use Rattle.std.specs.Prelude.{Result}
 use Rattle.ec_terms.specs.declared.ids.PropId.{PropId}
-use Rattle.ec_terms.specs.declared.no_memory.NoMemory.{NoMemory}
+use Rattle.ec_lists.specs.declared.no_memory.NoMemory.{NoMemory}
 use Rattle.ec_terms.specs.declared.theory.Theory.{Theory}
 use Rattle.ec_axioms.specs.declared.event.Seen.{Seen}
 use Rattle.ec_axioms.specs.Calculus.{PlainEvent}

@@ -1,7 +1,7 @@
 -- What comes of a batch: the list as it was where it is refused, and the steps that it may take.
 use Rattle.std.proofs.Common.{◌≡◌, ◌≤◌, ◌*◌, ◌+◌, ℤ, List, length, sym, ap, ◌∙◌, arith}
 use Rattle.std.specs.Prelude.{Result, Ok, Err}
-use Rattle.ec_terms.specs.declared.no_memory.NoMemory.{NoMemory}
+use Rattle.ec_lists.specs.declared.no_memory.NoMemory.{NoMemory}
 use Rattle.ec_terms.specs.declared.theory.Theory.{Theory}
 use Rattle.ec_axioms.specs.declared.event.Seen.{Seen}
 use Rattle.ec_axioms.specs.Calculus.{PlainEvent}

@@ -1,7 +1,7 @@
 -- What it is to carry out a change: the caches follow the tables to the list that it leads to, or all goes back.
 use Rattle.std.specs.Prelude.{◌≡◌, ℤ, ◌||◌, List, Result, Ok, Err}
 use Rattle.ec_terms.specs.declared.ids.PropId.{PropId}
-use Rattle.ec_terms.specs.declared.no_memory.NoMemory.{NoMemory}
+use Rattle.ec_lists.specs.declared.no_memory.NoMemory.{NoMemory}
 use Rattle.ec_terms.specs.declared.theory.Theory.{Theory}
 use Rattle.ec_axioms.specs.declared.event.Seen.{Seen}
 use Rattle.ec_axioms.specs.Calculus.{PlainEvent}

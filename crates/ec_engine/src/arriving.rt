@@ -13,11 +13,12 @@ ghost use Rattle.ec_engine.specs.Arriving.{IsArrived};
 use ec_axioms::{Cut, Event, MOST_EVENTS};
 use ec_batch::{Refusal, let_in};
 use ec_context::EntryList;
+use ec_lists::NoMemory;
 use ec_moment::Moment;
 use ec_parts::{Parts, Tally};
 use ec_revise::Change;
 use ec_rows::{MarkRow, SpanRow, TimeRow};
-use ec_terms::{GroundRef, Name, NoMemory, PropId, Sequence};
+use ec_terms::{GroundRef, Name, PropId, Sequence};
 use std::alloc::Global;
 
 /// An event that has come into the tables.

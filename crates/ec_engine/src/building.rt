@@ -9,11 +9,11 @@ ghost use Rattle.ec_batch.specs.Limits.{IsWithinLimits};
 use crate::carrying::carry_out;
 use ec_axioms::{Event, Steps};
 use ec_batch::{start, walk_in};
+use ec_lists::NoMemory;
 use ec_moment::Moment;
 use ec_parts::{Parts, Tally};
 use ec_rows::{MarkRow, SpanRow, TimeRow};
 use ec_sweep::Lists;
-use ec_terms::NoMemory;
 use std::alloc::Global;
 use std::sync::ledger::Ledger;
 

@@ -17,12 +17,13 @@ ghost use Rattle.ec_engine.specs.Revise.{steps_between};
 use ec_apply::apply;
 use ec_axioms::{Seen, Steps};
 use ec_batch::{Walk, forget_idle, net_change, undo, undo_change};
+use ec_lists::NoMemory;
 use ec_moment::Moment;
 use ec_parts::{Parts, Tally};
 use ec_revise::Change;
 use ec_rows::{MarkRow, SpanRow, TimeRow};
 use ec_sweep::{Lists, plan};
-use ec_terms::{NoMemory, PropId};
+use ec_terms::PropId;
 use std::alloc::Global;
 use std::sync::ledger::Ledger;
 

@@ -11,7 +11,7 @@ use Rattle.ec_context.specs.Entries.{is_of}
 use Rattle.ec_entries.specs.declared.event_entries.EventEntries.{EventEntries}
 use Rattle.ec_entries.specs.declared.event_entries.Dependent.{Dependent}
 use Rattle.ec_numbered.specs.ByNumber.{kept_at}
-use Rattle.ec_terms.specs.Reserved.{Reserved}
+use Rattle.ec_lists.specs.Reserved.{Reserved}
 use Rattle.ec_rows.specs.Ordered.{is_ascending}
 
 -- some literal is on the property of this number

@@ -1,6 +1,7 @@
 use ec_context::EntryList;
+use ec_lists::Copied;
 use ec_moment::Moment;
-use ec_terms::{Copied, Slot};
+use ec_terms::Slot;
 
 /// What is kept of one event: its time, its entries, and which of them are active. Bit k of `active` stands for the
 /// entry at place k of the list.

@@ -6,8 +6,9 @@ ghost use Rattle.ec_entries.specs.Wanted.{IsWider, wanted_at, WantsMore};
 use crate::noting::{Rows, is_any_on};
 use ec_blocks::Blocks;
 use ec_context::{Entry, EntryList, EntryLiteral};
+use ec_lists::NoMemory;
 use ec_moment::Moment;
-use ec_terms::{NoMemory, PropId};
+use ec_terms::PropId;
 use std::alloc::Global;
 use std::collections::HashMap;
 

@@ -5,7 +5,8 @@ ghost use Rattle.ec_terms.specs.Term.{ground_of, names_are_names};
 ghost use Rattle.ec_exclusive.specs.Forms.{form_in, form_of as the_form};
 
 use crate::keys::keys_of;
-use ec_terms::{GroundRef, NoMemory, Theory, is_strong};
+use ec_lists::NoMemory;
+use ec_terms::{GroundRef, Theory, is_strong};
 use std::alloc::Global;
 
 /// The form of an added property: the keys of the groups in which it stands, and whether it is strong.

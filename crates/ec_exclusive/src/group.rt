@@ -6,9 +6,10 @@ ghost use Rattle.ec_store.specs.Slots.{is_in_front};
 ghost use Rattle.ec_terms.specs.Term.{name_cmp};
 ghost use Rattle.ec_exclusive.specs.Groups.{grouped, group_at, key_at, hash_of, is_member, slot_by_key, with_member, without_member, AreFoundByKey};
 
+use ec_lists::NoMemory;
 use ec_numbered::PropSet;
 use ec_store::{KeyedSlots, Sought};
-use ec_terms::{NoMemory, PropId};
+use ec_terms::PropId;
 use slab::Slab;
 use std::alloc::Global;
 use std::cmp::Ordering;

@@ -6,8 +6,9 @@ ghost use Rattle.ec_exclusive.specs.Groups.{in_group, is_among};
 use crate::group::{
     Group, group_of, hash_of, is_empty_under, place_of, put_under, search, take_out_under,
 };
+use ec_lists::NoMemory;
 use ec_store::KeyedSlots;
-use ec_terms::{NoMemory, PropId};
+use ec_terms::PropId;
 use slab::Slab;
 use std::alloc::Global;
 use std::marker::Model;

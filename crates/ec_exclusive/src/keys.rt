@@ -6,9 +6,11 @@ ghost use Rattle.ec_terms.specs.Term.{arg_of, ground_of, is_argument, names_are_
 ghost use Rattle.ec_exclusive.specs.Keys.{key_if_fits, keys_from, shared_value as shared, shared_term as the_shared_term, side_key as the_key};
 ghost use Rattle.ec_exclusive.specs.Forms.{texts_of};
 
+use ec_lists::NoMemory;
 use ec_terms::{
-    ArgRef, ArgRefs, Binding, Exclusive, GroundRef, NoMemory, PatArg, Pattern, Theory, matches,
-    text,
+
+    ArgRef, ArgRefs, Binding, Exclusive, GroundRef, PatArg, Pattern, Theory, matches, text,
+
 };
 use std::alloc::Global;
 

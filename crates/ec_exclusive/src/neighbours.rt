@@ -13,9 +13,10 @@ use crate::forms::{Form, form_of};
 use crate::groups::{Groups, enter, leave, no_groups};
 use crate::rows::{Row, add_row, make_room, remove_row};
 use crate::search::find_neighbours;
+use ec_lists::NoMemory;
 use ec_numbered::ByNumber;
 use ec_store::PropTable;
-use ec_terms::{NoMemory, PropId, Theory};
+use ec_terms::{PropId, Theory};
 use std::alloc::Global;
 use std::marker::Model;
 

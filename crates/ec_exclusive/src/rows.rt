@@ -6,8 +6,9 @@ ghost use Rattle.ec_terms.specs.declared.ids.PropId.{PropId};
 ghost use Rattle.ec_exclusive.specs.Added.{added_of, stands_in_list};
 ghost use Rattle.ec_exclusive.specs.Kept.{list_at, lists_of, HasRoom, list_with, list_left};
 
+use ec_lists::NoMemory;
 use ec_numbered::{ByNumber, PropSet};
-use ec_terms::{NoMemory, PropId};
+use ec_terms::PropId;
 
 /// What is kept of an added property.
 #[derive(Drop)]

@@ -15,11 +15,12 @@ ghost use Rattle.ec_exclusive.specs.Neighbours.{AreJoined, excludes_at};
 
 use crate::groups::{Groups, members};
 use crate::keys::side_key;
+use ec_lists::NoMemory;
 use ec_numbered::PropSet;
 use ec_store::PropTable;
 use ec_terms::{
-    Binding, Exclusive, GroundRef, NoMemory, Pattern, PropId, Theory, are_exclusive, extend_match,
-    is_same, matches,
+    Binding, Exclusive, GroundRef, Pattern, PropId, Theory, are_exclusive, extend_match, is_same,
+    matches,
 };
 use std::alloc::Global;
 

@@ -11,9 +11,9 @@ ghost use Rattle.ec_rows.specs.PlainMarks.{plain_mark, plain_marks};
 
 use crate::interval::{Begin, Interval};
 use crate::steps::{ended_by, open_behind};
+use ec_lists::NoMemory;
 use ec_moment::Moment;
 use ec_rows::{End, Mark, MarkRow, Span};
-use ec_terms::NoMemory;
 use std::alloc::Global;
 
 /// What is read off some marks: the intervals that they end, and the begin that is open behind them. The interval from

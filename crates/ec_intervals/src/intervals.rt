@@ -14,10 +14,11 @@ use crate::reaches::Reaches;
 use crate::row::{KeptRow, clear_row, count_members, member_of, row_begin_before, row_covers};
 use crate::rows::prepare_row;
 use crate::write::{rebuild_row, splice_row};
+use ec_lists::NoMemory;
 use ec_moment::Moment;
 use ec_numbered::ByNumber;
 use ec_rows::{End, MarkRow, SpanRow};
-use ec_terms::{NoMemory, PropId};
+use ec_terms::PropId;
 use std::alloc::Global;
 use std::marker::Model;
 

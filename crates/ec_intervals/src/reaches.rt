@@ -7,9 +7,10 @@ ghost use Rattle.ec_numbered.specs.ByNumber.{kept_at};
 
 use crate::near::{GROUP, Near};
 use crate::reach::{Reach, all_joined, is_outside};
+use ec_lists::NoMemory;
 use ec_moment::Moment;
 use ec_numbered::ByNumber;
-use ec_terms::{NoMemory, PropId};
+use ec_terms::PropId;
 use std::alloc::Global;
 use std::marker::Model;
 

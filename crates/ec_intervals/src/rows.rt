@@ -5,10 +5,11 @@ ghost use Rattle.ec_intervals.specs.Table.{IsGrown, room_in};
 ghost use Rattle.ec_numbered.specs.ByNumber.{kept_at};
 
 use crate::row::KeptRow;
+use ec_lists::NoMemory;
 use ec_moment::Moment;
 use ec_numbered::ByNumber;
 use ec_rows::SpanRow;
-use ec_terms::{NoMemory, PropId};
+use ec_terms::PropId;
 use std::alloc::Global;
 
 /// A row of no intervals, with room for this many spans.

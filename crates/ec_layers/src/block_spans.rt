@@ -5,9 +5,9 @@ ghost use Rattle.ec_rows.specs.Spans.{IsSpanRow, is_proper, span_before};
 
 use crate::blocks::Draws;
 use ec_block_rows::BlockSpans;
+use ec_lists::NoMemory;
 use ec_moment::{Moment, Tick};
 use ec_rows::{End, Span, SpanRow, VecSpans};
-use ec_terms::NoMemory;
 use std::alloc::Global;
 use std::process::Abort;
 

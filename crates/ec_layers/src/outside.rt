@@ -1,9 +1,9 @@
 //! The answers of inputs, outputs and folders, in memory and real: at worked calls, and where a call fails.
+use ec_lists::NoMemory;
 use ec_outside::{
     Buffered, Failed, Folder, FolderAnswer, MemFolder, MemSink, MemSource, RealFolder, RealSink,
     RealSource, Sink, Source, write_all,
 };
-use ec_terms::NoMemory;
 use std::alloc::Global;
 use std::io;
 use std::io::{ErrorKind, Read, Write};

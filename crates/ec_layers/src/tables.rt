@@ -1,5 +1,5 @@
 //! Tables of rows that are written as one text, which costs a proof nothing, however many rows it has.
-use ec_terms::NoMemory;
+use ec_lists::NoMemory;
 use std::alloc::Global;
 
 /// What stands before and behind the arrow `=>` of a row. An empty line and a heading, which begins with `#`, are no rows.

@@ -1,7 +1,7 @@
 //! A span row that tells what its splices touched.
+use ec_lists::NoMemory;
 use ec_moment::Tick;
 use ec_rows::{Span, SpanRow, VecSpans};
-use ec_terms::NoMemory;
 use std::alloc::Global;
 
 /// A span row that passes each call on. It keeps how many splices were made, and the least place at which one of those

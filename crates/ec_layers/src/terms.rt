@@ -2,7 +2,8 @@
 ghost use Rattle.std.specs.Prelude.{IsTrue};
 ghost use Rattle.ec_terms.specs.Term.{ground_of, names_are_names};
 
-use ec_terms::{ArgRef, GroundRef, Kind, Name, NoMemory, PropId, Slot, read_ground, text};
+use ec_lists::NoMemory;
+use ec_terms::{ArgRef, GroundRef, Kind, Name, PropId, Slot, read_ground, text};
 use std::alloc::Global;
 use std::fmt::{Debug, Display};
 use std::process::Abort;

@@ -6,7 +6,7 @@ ghost use Rattle.ec_lines.specs.ShownLine.{IfText, ShowsLine};
 
 use crate::line::Line;
 use ec_axioms::LONGEST_LINE;
-use ec_terms::NoMemory;
+use ec_lists::NoMemory;
 use memchr::memchr;
 use std::alloc::Global;
 use std::marker::Model;

@@ -1,5 +1,5 @@
 -- What stands at a place of a list, as a walk by places reads it.
-use Rattle.std.proofs.Common.{◌≡◌, ℕ, zero, suc, ◌<◌, ◌≤◌, List, [], ◌∷◌, length, map, take, get_or, replicate, Some, None, refl, ap, arith}
+use Rattle.std.proofs.Common.{◌≡◌, ℕ, zero, suc, ◌<◌, ◌≤◌, List, [], ◌∷◌, ◌++◌, length, map, take, get_or, replicate, Some, None, refl, ap, arith}
 use Rattle.std.proofs.lemmas.List.{get_or_past}
 use Rattle.std.specs.Prelude.{slice_get}
 
@@ -27,3 +27,9 @@ pub get_or-copies : {X : Type 0} (n i : ℕ) (x : X) → get_or (replicate n x) 
 get_or-copies zero i x = get_or_past [] i x (omega arith)
 get_or-copies (suc n) zero x = refl
 get_or-copies (suc n) (suc i) x = get_or-copies n i x
+
+-- what stands at a place of a list stands there with more behind
+pub slice_get-behind : {X : Type 0} (xs more : List X) (i : ℕ) (x : X) → slice_get xs i ≡ Some x → slice_get (xs ++ more) i ≡ Some x
+slice_get-behind [] more i x there = let no : None ≡ Some x = there in cc
+slice_get-behind (y ∷ xs) more zero x there = there
+slice_get-behind (y ∷ xs) more (suc i) x there = slice_get-behind xs more i x there

@@ -1,2 +1,9 @@
-//! Lemmas on truth values, numbers, options and lists that the crates above share. There is no code here.
+//! What the crates above share of lists: the want of memory for one, members that are had again without any, and lemmas on truth
+//! values, numbers, options and lists.
 #![tactic(auto)]
+
+mod copied;
+mod no_memory;
+
+pub use copied::Copied;
+pub use no_memory::NoMemory;

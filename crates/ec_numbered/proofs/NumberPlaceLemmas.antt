@@ -7,6 +7,7 @@ use Rattle.std.specs.Option.{option_map_or}
 use Rattle.std.proofs.lemmas.Bool.{cases_Bool, false≢true}
 use Rattle.std.proofs.lemmas.Cmp.{nat_eq_equiv}
 use Rattle.std.proofs.lemmas.Option.{slice_get-get_or}
+use Rattle.ec_lists.proofs.Places.{slice_get-behind}
 use Rattle.ec_numbered.specs.NumberPlaces.{ArePlaces}
 use Rattle.ec_numbered.specs.KeyedRows.{IsFirst}
 use Rattle.ec_numbered.proofs.KeyedRowLemmas.{IsDistinct-push, IsDistinct-set, absent-head, absent-rest, lookup-nowhere}
@@ -71,12 +72,6 @@ slice_get-push [] y zero x there = let same : y ≡ x = cc in inl (refl, same)
 slice_get-push [] y (suc i) x there = let no : None ≡ Some x = there in cc
 slice_get-push (z ∷ xs) y zero x there = inr there
 slice_get-push (z ∷ xs) y (suc i) x there = ⊎_elim (λ last. inl (ap suc last.0, last.1)) inr (slice_get-push xs y i x there)
-
--- members behind a list change none of it
-slice_get-behind : {X : Type 0} (xs more : List X) (i : ℕ) (x : X) → slice_get xs i ≡ Some x → slice_get (xs ++ more) i ≡ Some x
-slice_get-behind [] more i x there = let no : None ≡ Some x = there in cc
-slice_get-behind (y ∷ xs) more zero x there = there
-slice_get-behind (y ∷ xs) more (suc i) x there = slice_get-behind xs more i x there
 
 -- places behind the others change none
 ArePlaces-more : {V : Type 0} (places more : List ℕ) (rows : List (ℕ × V)) → ArePlaces places rows → ArePlaces (places ++ more) rows

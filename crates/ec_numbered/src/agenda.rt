@@ -2,8 +2,9 @@ ghost use Rattle.std.specs.Prelude.{◌≡◌, ◌∷◌, [], ◌↔◌, IsTrue,
 ghost use Rattle.ec_numbered.specs.Due.{are_in_order, has_due, with_due};
 
 use crate::due_place::free_place;
+use ec_lists::NoMemory;
 use ec_moment::Moment;
-use ec_terms::{NoMemory, PropId};
+use ec_terms::PropId;
 use std::alloc::Global;
 use std::collections::VecDeque;
 use std::marker::Model;

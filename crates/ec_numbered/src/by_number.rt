@@ -4,7 +4,8 @@ ghost use Rattle.std.specs.Borrow.{sem};
 ghost use Rattle.ec_numbered.specs.ByNumber.{kept_at};
 ghost use Rattle.ec_numbered.specs.Lends.{lends_row};
 
-use ec_terms::{NoMemory, PropId};
+use ec_lists::NoMemory;
+use ec_terms::PropId;
 use std::alloc::Global;
 use std::marker::Model;
 

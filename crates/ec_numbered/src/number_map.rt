@@ -3,7 +3,7 @@ ghost use Rattle.std.specs.List.{IsDistinct};
 ghost use Rattle.std.specs.Map.{keys_of, lookup};
 
 use crate::number_places::{place_of, put};
-use ec_terms::NoMemory;
+use ec_lists::NoMemory;
 use std::alloc::Global;
 use std::marker::Model;
 

@@ -4,7 +4,7 @@ ghost use Rattle.std.specs.Map.{lookup};
 ghost use Rattle.ec_numbered.specs.NumberPlaces.{ArePlaces};
 ghost use Rattle.ec_numbered.specs.KeyedRows.{IsFirst};
 
-use ec_terms::NoMemory;
+use ec_lists::NoMemory;
 
 /// The place of the row of a number. `None` exactly when it has none.
 pub(crate) fn place_of<V>(rows: &[(usize, V)], places: &[usize], n: usize) -> Option<usize>

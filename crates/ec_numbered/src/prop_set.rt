@@ -2,7 +2,8 @@ ghost use Rattle.std.specs.Prelude.{◌≡◌, ◌+◌, ◌≤◌, ◌==◌, [],
 ghost use Rattle.ec_numbered.specs.PropSet.{are_ascending, has_number, with_number, without_number};
 
 use crate::ascending::{place_of, put, take_out};
-use ec_terms::{NoMemory, PropId};
+use ec_lists::NoMemory;
+use ec_terms::PropId;
 use std::alloc::Global;
 use std::marker::Model;
 
@@ -16,7 +17,7 @@ impl Model for PropSet {
     ghost use Rattle.std.specs.Prelude.{◌-◌, IsTrue, vec_len};
     ghost use Rattle.std.specs.Vec.{vec_capacity};
     ghost use Rattle.ec_terms.specs.declared.ids.PropId.{PropId};
-    ghost use Rattle.ec_terms.specs.Reserved.{Reserved};
+    ghost use Rattle.ec_lists.specs.Reserved.{Reserved};
     ghost use Rattle.ec_numbered.specs.PropSet.{are_ascending};
 
     ghost Value = { Reserved PropId };

@@ -4,7 +4,7 @@ ghost use Rattle.std.specs.Map.{keys_of, lookup};
 ghost use Rattle.ec_numbered.specs.KeyedRows.{AreRows, rows_of};
 
 use crate::few_rows::{boxed_with, put, value_of};
-use ec_terms::NoMemory;
+use ec_lists::NoMemory;
 use indexmap::IndexMap;
 use std::alloc::Global;
 use std::hash::Hash;

@@ -6,7 +6,7 @@ ghost use Rattle.ec_outside.specs.Streams.{Appended, Kept};
 
 use crate::sink::{Sink, write_counted};
 use crate::source::Failed;
-use ec_terms::NoMemory;
+use ec_lists::NoMemory;
 use std::alloc::Global;
 use std::marker::Model;
 

@@ -8,7 +8,7 @@ ghost use Rattle.ec_outside.specs.FolderState.{read_fails, is_fault};
 use crate::counted_calls::CountedCalls;
 use crate::folder::{Folder, FolderAnswer};
 use crate::named_files::NamedFiles;
-use ec_terms::NoMemory;
+use ec_lists::NoMemory;
 use std::alloc::Global;
 use std::marker::Model;
 

@@ -7,7 +7,7 @@ ghost use Rattle.ec_outside.specs.Streams.{Appended, Kept};
 use crate::calls::Calls;
 use crate::sink::Sink;
 use crate::source::Failed;
-use ec_terms::NoMemory;
+use ec_lists::NoMemory;
 use std::alloc::Global;
 use std::marker::Model;
 

@@ -6,7 +6,7 @@ ghost use Rattle.ec_outside.specs.Streams.{Took, IsAtEnd};
 
 use crate::calls::Calls;
 use crate::source::{Failed, Source};
-use ec_terms::NoMemory;
+use ec_lists::NoMemory;
 use std::alloc::Global;
 use std::marker::Model;
 

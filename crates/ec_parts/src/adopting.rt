@@ -7,9 +7,10 @@ ghost use Rattle.ec_parts.specs.StandFor.{view_of};
 use crate::gathering::gather;
 use crate::parts::Parts;
 use ec_context::forget_each;
+use ec_lists::NoMemory;
 use ec_moment::Moment;
 use ec_rows::{MarkRow, SpanRow, TimeRow};
-use ec_terms::{NoMemory, PropId};
+use ec_terms::PropId;
 use std::alloc::Global;
 
 /// Adds a property that the table keeps to the neighbours, and gathers its marks. `Err`: memory ran out, and it is not

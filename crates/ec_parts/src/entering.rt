@@ -12,9 +12,10 @@ use crate::adopting::adopt;
 use crate::parts::Parts;
 use ec_axioms::Event;
 use ec_context::{EntryList, entries_of};
+use ec_lists::NoMemory;
 use ec_moment::Moment;
 use ec_rows::{MarkRow, SpanRow, TimeRow};
-use ec_terms::{NoMemory, PropId};
+use ec_terms::PropId;
 use std::alloc::Global;
 
 /// The entries of an event. The properties that they name are kept from then on, in all parts. Those that are new are

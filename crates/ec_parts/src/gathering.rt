@@ -5,10 +5,11 @@ ghost use Rattle.std.specs.Ordering.{int_cmp};
 ghost use Rattle.ec_points.specs.Table.{marks_at, row_at};
 ghost use Rattle.ec_parts.specs.Gathered.{AreGathered, AreInTime, clashing, initiations_at, marks_under};
 
+use ec_lists::NoMemory;
 use ec_moment::Moment;
 use ec_points::Points;
 use ec_rows::{Mark, MarkRow};
-use ec_terms::{NoMemory, PropId};
+use ec_terms::PropId;
 use std::alloc::Global;
 use std::cmp::Ordering;
 

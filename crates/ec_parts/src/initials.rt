@@ -19,12 +19,13 @@ use ec_context::Rules;
 use ec_entries::Entries;
 use ec_exclusive::Neighbours;
 use ec_intervals::Intervals;
+use ec_lists::NoMemory;
 use ec_moment::Moment;
 use ec_numbered::PropSet;
 use ec_points::Points;
 use ec_rows::{MarkRow, SpanRow, TimeRow};
 use ec_store::{EventStore, PropTable};
-use ec_terms::{Binding, Initial, NoMemory, PropId, Theory, fill_ref};
+use ec_terms::{Binding, Initial, PropId, Theory, fill_ref};
 use std::alloc::Global;
 
 /// Keeps an initial property, with one mention of its own.

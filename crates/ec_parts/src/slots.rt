@@ -12,9 +12,10 @@ use crate::parts::Parts;
 use crate::tally::Tally;
 use ec_axioms::Steps;
 use ec_context::{Entry, EntryList};
+use ec_lists::NoMemory;
 use ec_moment::Moment;
 use ec_rows::{MarkRow, SpanRow, TimeRow};
-use ec_terms::{NoMemory, PropId, Slot};
+use ec_terms::{PropId, Slot};
 use std::sync::ledger::Ledger;
 
 /// Counts one mention more of each property that the entries in a slot mention, as `mention_all` does. To read them is one

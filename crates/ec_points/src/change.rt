@@ -3,9 +3,10 @@ ghost use Rattle.std.specs.List.{list_any};
 ghost use Rattle.std.specs.Ordering.{int_eq};
 ghost use Rattle.ec_points.specs.Changes.{are_all_apart, count_of, has_change};
 
+use ec_lists::NoMemory;
 use ec_moment::Moment;
 use ec_rows::Mark;
-use ec_terms::{NoMemory, PropId};
+use ec_terms::PropId;
 use std::alloc::Global;
 use std::marker::Model;
 

@@ -6,8 +6,9 @@ ghost use Rattle.std.specs.Ordering.{int_eq, is_lt, is_eq};
 ghost use Rattle.ec_points.specs.Clashes.{are_clashes, clash_cmp, has_clash, is_behind};
 
 use ec_blocks::Blocks;
+use ec_lists::{Copied, NoMemory};
 use ec_moment::Moment;
-use ec_terms::{Copied, NoMemory, PropId};
+use ec_terms::PropId;
 use std::alloc::Global;
 use std::cmp::Ordering;
 use std::marker::Model;
@@ -33,7 +34,7 @@ pub(crate) struct Clashes<T: Moment> {
 
 impl<T: Moment> Model for Clashes<T> {
     ghost use Rattle.std.specs.Prelude.{IsTrue};
-    ghost use Rattle.ec_terms.specs.Reserved.{Reserved};
+    ghost use Rattle.ec_lists.specs.Reserved.{Reserved};
     ghost use Rattle.ec_points.specs.declared.clashes.Clash.{Clash};
     ghost use Rattle.ec_points.specs.Clashes.{are_clashes};
 

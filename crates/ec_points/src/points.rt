@@ -15,10 +15,11 @@ use crate::reading::{Reading, read_row};
 use crate::row::last_mark;
 use crate::rows::{change_rows, clear_in, empty_rows, push_in, reserve_in};
 use ec_axioms::Current;
+use ec_lists::NoMemory;
 use ec_moment::Moment;
 use ec_numbered::{ByNumber, PropSet};
 use ec_rows::{Mark, MarkRow};
-use ec_terms::{NoMemory, PropId};
+use ec_terms::PropId;
 use std::alloc::Global;
 use std::marker::{Model, PhantomData};
 

@@ -9,10 +9,11 @@ ghost use Rattle.ec_points.specs.Table.{marks_in, room_in};
 
 use crate::change::MarkChange;
 use crate::row::{change_row, clear_row};
+use ec_lists::NoMemory;
 use ec_moment::Moment;
 use ec_numbered::ByNumber;
 use ec_rows::{Mark, MarkRow};
-use ec_terms::{NoMemory, PropId};
+use ec_terms::PropId;
 use std::alloc::Global;
 
 /// Makes room for `n` further marks of `p`, which gets a row of no marks where it has none. A refusal leaves the same

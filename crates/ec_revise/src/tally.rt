@@ -11,8 +11,9 @@ ghost use Rattle.ec_revise.specs.TurnCounts.{CountsEach, CountsTurn, IsTallyAt, 
 use crate::settled::{Counts, Tallied};
 use crate::turn::Turn;
 use ec_exclusive::Neighbours;
+use ec_lists::NoMemory;
 use ec_numbered::NumberMap;
-use ec_terms::{Kind, NoMemory, PropId};
+use ec_terms::{Kind, PropId};
 use std::alloc::Global;
 use std::marker::Model;
 

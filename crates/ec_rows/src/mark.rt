@@ -1,6 +1,6 @@
 use crate::search::Timed;
+use ec_lists::Copied;
 use ec_moment::Moment;
-use ec_terms::Copied;
 
 /// What happens to a property at one time, counted over the active entries of the events there: how many
 /// initiate it, how many terminate it, and how many initiate a property that is exclusive to it.

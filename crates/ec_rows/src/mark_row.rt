@@ -4,8 +4,8 @@ ghost use Rattle.ec_rows.specs.declared.mark.Mark.{Mark};
 ghost use Rattle.ec_rows.specs.Marks.{IsMarkRow, is_counted, marks_before, marks_after, mark_at, has_mark, with_mark, are_before};
 
 use crate::mark::Mark;
+use ec_lists::NoMemory;
 use ec_moment::Moment;
-use ec_terms::NoMemory;
 use std::alloc::Global;
 
 /// The marks of one property: a list in the order of their times, at each time one mark at the most and

@@ -1,6 +1,6 @@
 use crate::search::Timed;
+use ec_lists::Copied;
 use ec_moment::Moment;
-use ec_terms::Copied;
 
 /// The end of a span: the last time that it covers, or none.
 #[derive(Clone, Copy, Debug, PartialEq, Eq)]

@@ -4,8 +4,8 @@ ghost use Rattle.ec_rows.specs.declared.span.Span.{Span};
 ghost use Rattle.ec_rows.specs.Spans.{IsSpanRow, is_covering, spans_before};
 
 use crate::span::Span;
+use ec_lists::NoMemory;
 use ec_moment::Moment;
-use ec_terms::NoMemory;
 use std::alloc::Global;
 
 /// The spans over which one property holds: a list in order, in which each span ends by the start of the

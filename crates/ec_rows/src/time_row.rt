@@ -2,8 +2,9 @@ ghost use Rattle.std.specs.Prelude.{◌≡◌, ◌+◌, ◌<◌, ◌≤◌, ℕ,
 ghost use Rattle.ec_terms.specs.declared.ids.Slot.{Slot};
 ghost use Rattle.ec_rows.specs.Times.{IsTimeRow, entries_before, has_entry, with_entry, without_entry};
 
+use ec_lists::NoMemory;
 use ec_moment::Moment;
-use ec_terms::{Name, NoMemory, Slot};
+use ec_terms::{Name, Slot};
 use std::alloc::Global;
 
 /// The times of events: a list of times, each with the identity of an event and the slot under which the

@@ -7,8 +7,8 @@ use crate::edits::insert_within;
 use crate::mark::Mark;
 use crate::mark_row::MarkRow;
 use crate::search::{count_before, count_up_to, place_of};
+use ec_lists::NoMemory;
 use ec_moment::Moment;
-use ec_terms::NoMemory;
 use std::alloc::Global;
 use std::marker::Model;
 
@@ -22,7 +22,7 @@ impl<T: Moment> Model for VecMarks<T> {
     ghost use Rattle.std.specs.Prelude.{◌-◌, vec_len};
     ghost use Rattle.std.specs.Vec.{vec_capacity};
     ghost use Rattle.ec_rows.specs.declared.mark.Mark.{Mark};
-    ghost use Rattle.ec_terms.specs.Reserved.{Reserved};
+    ghost use Rattle.ec_lists.specs.Reserved.{Reserved};
     ghost use Rattle.ec_rows.specs.Marks.{IsMarkRow};
 
     ghost Value = { Reserved (Mark T) };

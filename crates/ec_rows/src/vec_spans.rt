@@ -6,8 +6,8 @@ use crate::edits::splice_within;
 use crate::search::count_before;
 use crate::span::{End, Span};
 use crate::span_row::SpanRow;
+use ec_lists::NoMemory;
 use ec_moment::Moment;
-use ec_terms::NoMemory;
 use std::alloc::Global;
 use std::marker::Model;
 
@@ -21,7 +21,7 @@ impl<T: Moment> Model for VecSpans<T> {
     ghost use Rattle.std.specs.Prelude.{◌-◌, vec_len};
     ghost use Rattle.std.specs.Vec.{vec_capacity};
     ghost use Rattle.ec_rows.specs.declared.span.Span.{Span};
-    ghost use Rattle.ec_terms.specs.Reserved.{Reserved};
+    ghost use Rattle.ec_lists.specs.Reserved.{Reserved};
     ghost use Rattle.ec_rows.specs.Spans.{IsSpanRow};
 
     ghost Value = { Reserved (Span T) };

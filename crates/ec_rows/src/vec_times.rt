@@ -6,8 +6,9 @@ ghost use Rattle.ec_rows.specs.Times.{IsTimeRow, place_of, place_cmp, entries_be
 
 use crate::edits::insert_within;
 use crate::time_row::TimeRow;
+use ec_lists::NoMemory;
 use ec_moment::Moment;
-use ec_terms::{Name, NoMemory, Slot};
+use ec_terms::{Name, Slot};
 use std::alloc::Global;
 use std::cmp::Ordering;
 use std::marker::Model;
@@ -22,7 +23,7 @@ impl<T: Moment> Model for VecTimes<T> {
     ghost use Rattle.std.specs.Prelude.{◌-◌, ℕ, List, vec_len};
     ghost use Rattle.std.specs.Vec.{vec_capacity};
     ghost use Rattle.ec_terms.specs.declared.ids.Slot.{Slot};
-    ghost use Rattle.ec_terms.specs.Reserved.{Reserved};
+    ghost use Rattle.ec_lists.specs.Reserved.{Reserved};
     ghost use Rattle.ec_rows.specs.Times.{IsTimeRow};
 
     ghost Value = { Reserved (T × List ℕ × Slot) };

@@ -8,9 +8,9 @@ ghost use Rattle.ec_server.specs.Soaking.{IsSoaked, soak_text};
 
 use crate::served::serve;
 use crate::status::Status;
+use ec_lists::NoMemory;
 use ec_outside::Sink;
 use ec_soak::{Counts, SoakSource, TallySink, write_summary};
-use ec_terms::NoMemory;
 use ec_theory::accept;
 use std::alloc::Global;
 

@@ -5,8 +5,9 @@ ghost use Rattle.ec_axioms.specs.Events.{plain_update};
 ghost use Rattle.ec_sessions.specs.Drafts.{draft_in, plain_draft, IsOpenWithRoom, IsRoomOf};
 
 use ec_axioms::{MOST_DRAFTED, SESSIONS, Update};
+use ec_lists::NoMemory;
 use ec_moment::Moment;
-use ec_terms::{NoMemory, Sequence};
+use ec_terms::Sequence;
 use std::alloc::Global;
 use std::marker::Model;
 

@@ -22,9 +22,10 @@ use crate::sessions::Sessions;
 use ec_axioms::{Cut, Event, Seen, Steps, Update};
 use ec_engine::Refusal;
 use ec_lines::Answer;
+use ec_lists::NoMemory;
 use ec_moment::Moment;
 use ec_rows::{MarkRow, SpanRow, TimeRow};
-use ec_terms::{GroundRef, Name, NoMemory, Sequence};
+use ec_terms::{GroundRef, Name, Sequence};
 use std::alloc::Global;
 use std::sync::ledger::Ledger;
 

@@ -7,7 +7,8 @@ ghost use Rattle.ec_store.specs.Table.{prop_at, term_at, term_place, mentions_at
 use crate::prop_order::{compare, count_before};
 use crate::property::Property;
 use ec_blocks::Blocks;
-use ec_terms::{Ground, GroundRef, NoMemory, PropId};
+use ec_lists::NoMemory;
+use ec_terms::{Ground, GroundRef, PropId};
 use slab::Slab;
 use std::alloc::Global;
 use std::cmp::Ordering;
@@ -24,7 +25,7 @@ pub(crate) struct Records {
 impl Model for Records {
     ghost use Rattle.std.specs.Prelude.{◌-◌, min};
     ghost use Rattle.slab.specs.Slab.{get as property_at, slab_len};
-    ghost use Rattle.ec_terms.specs.Reserved.{Reserved};
+    ghost use Rattle.ec_lists.specs.Reserved.{Reserved};
     ghost use Rattle.ec_store.specs.Table.{KeptProp, kept_of, IsTable};
 
     ghost Value = { Reserved KeptProp };

@@ -5,7 +5,8 @@ ghost use Rattle.ec_store.specs.Table.{prop_at, term_at, mentions_at, prop_of, i
 use crate::prop_keys::{SoughtTerm, key_of, search};
 use crate::prop_records::Records;
 use crate::slots::KeyedSlots;
-use ec_terms::{GroundRef, NoMemory, PropId};
+use ec_lists::NoMemory;
+use ec_terms::{GroundRef, PropId};
 use std::alloc::Global;
 use std::marker::Model;
 

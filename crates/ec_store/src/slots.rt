@@ -5,7 +5,7 @@ ghost use Rattle.ec_store.specs.Slots.{is_in_front, slot_of, IsInOrder};
 
 use crate::sought::Sought;
 use ec_blocks::Blocks;
-use ec_terms::{Copied, NoMemory};
+use ec_lists::{Copied, NoMemory};
 use std::alloc::Global;
 use std::marker::Model;
 
@@ -32,7 +32,7 @@ pub struct KeyedSlots {
 
 impl Model for KeyedSlots {
     ghost use Rattle.ec_store.specs.declared.slots.KeyedSlot.{KeyedSlot};
-    ghost use Rattle.ec_terms.specs.Reserved.{Reserved};
+    ghost use Rattle.ec_lists.specs.Reserved.{Reserved};
 
     ghost Value = { Reserved KeyedSlot };
 

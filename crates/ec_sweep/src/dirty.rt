@@ -3,11 +3,12 @@ ghost use Rattle.std.specs.Prelude.{◌≡◌, ◌==◌, ℕ, [], OnOk, OnErr, i
 ghost use Rattle.ec_sweep.specs.State.{dirty_at, is_current_over};
 
 use ec_axioms::Current;
+use ec_lists::NoMemory;
 use ec_moment::Moment;
 use ec_numbered::NumberMap;
 use ec_points::Points;
 use ec_rows::MarkRow;
-use ec_terms::{NoMemory, PropId};
+use ec_terms::PropId;
 use std::alloc::Global;
 use std::marker::Model;
 

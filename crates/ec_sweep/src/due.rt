@@ -4,9 +4,10 @@ ghost use Rattle.ec_numbered.specs.Due.{has_due};
 ghost use Rattle.ec_sweep.specs.Visiting.{AreDueAt, IsAgendaBehind};
 
 use crate::scratch::Scratch;
+use ec_lists::NoMemory;
 use ec_moment::Moment;
 use ec_numbered::Agenda;
-use ec_terms::{NoMemory, PropId};
+use ec_terms::PropId;
 
 /// Whether a time comes before another.
 fn is_before<T: Moment>(at: T, other: T) -> bool

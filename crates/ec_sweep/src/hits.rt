@@ -8,10 +8,11 @@ ghost use Rattle.ec_sweep.specs.Hits.{AreHits, depends_at, has_hit, is_hit, same
 use crate::dirty::Dirty;
 use crate::scratch::Scratch;
 use ec_entries::{Dependent, Entries};
+use ec_lists::NoMemory;
 use ec_moment::Moment;
 use ec_numbered::SmallMap;
 use ec_revise::Removal;
-use ec_terms::{NoMemory, PropId, Slot};
+use ec_terms::{PropId, Slot};
 use std::alloc::Global;
 use std::marker::Model;
 

@@ -16,11 +16,12 @@ use crate::runs::{between, count_added, count_removals};
 use crate::scratch::Scratch;
 use ec_axioms::Steps;
 use ec_delta::Looked;
+use ec_lists::NoMemory;
 use ec_moment::Moment;
 use ec_parts::Parts;
 use ec_revise::{Change, Turn};
 use ec_rows::{MarkRow, SpanRow, TimeRow};
-use ec_terms::{NoMemory, PropId};
+use ec_terms::PropId;
 use std::sync::ledger::Ledger;
 
 /// Looks at the entries of one instant: evaluates those of the kept events that read a dirty property which is due, and those

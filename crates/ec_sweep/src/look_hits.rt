@@ -13,9 +13,10 @@ use ec_axioms::{Current, Steps};
 use ec_context::evaluate;
 use ec_delta::{Flip, Looked};
 use ec_entries::Entries;
+use ec_lists::NoMemory;
 use ec_moment::Moment;
 use ec_revise::Turn;
-use ec_terms::{NoMemory, Sequence};
+use ec_terms::Sequence;
 use std::sync::ledger::Ledger;
 
 /// Looks at one entry: notes whether it is active now, and its turn, if it was not so.

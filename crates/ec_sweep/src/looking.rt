@@ -13,9 +13,10 @@ use ec_axioms::{Current, Steps};
 use ec_context::EntryList;
 use ec_delta::Looked;
 use ec_entries::Entries;
+use ec_lists::NoMemory;
 use ec_moment::Moment;
 use ec_revise::{Removal, Turn};
-use ec_terms::{NoMemory, PropId};
+use ec_terms::PropId;
 use std::sync::ledger::Ledger;
 
 /// The events that a change takes out at an instant, and the entries of those that it puts in there.

@@ -8,12 +8,13 @@ ghost use Rattle.ec_sweep.specs.Rooms.{AreIntervalsGrown, AreMarksGrown, HasRoom
 
 use ec_delta::{Planned, Touched, Touches};
 use ec_intervals::Intervals;
+use ec_lists::NoMemory;
 use ec_moment::Moment;
 use ec_parts::Parts;
 use ec_points::Points;
 use ec_revise::Change;
 use ec_rows::{MarkRow, SpanRow, TimeRow};
-use ec_terms::{NoMemory, PropId};
+use ec_terms::PropId;
 
 /// How many spans a property may have besides those that it has, once so many of its marks change. `Err`: a word does not
 /// count them.

@@ -13,12 +13,13 @@ use crate::dirty::Dirty;
 use crate::scratch::Scratch;
 use crate::settle_rows::{settle_rows, tally_of};
 use ec_delta::Planned;
+use ec_lists::NoMemory;
 use ec_moment::Moment;
 use ec_numbered::Agenda;
 use ec_parts::Parts;
 use ec_revise::Turn;
 use ec_rows::{MarkRow, SpanRow, TimeRow};
-use ec_terms::{NoMemory, PropId};
+use ec_terms::PropId;
 
 /// Settles the properties that are due at an instant, and those for which something that turned there counts: plans the new
 /// mark of each, and keeps whether it is dirty behind the instant and when it is due again. `Err`: memory ran out, and what was

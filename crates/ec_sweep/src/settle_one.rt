@@ -17,13 +17,14 @@ use crate::next_time::next_time;
 use crate::places::Places;
 use ec_delta::{Planned, Touch};
 use ec_exclusive::Neighbours;
+use ec_lists::NoMemory;
 use ec_moment::Moment;
 use ec_numbered::Agenda;
 use ec_parts::Parts;
 use ec_points::Points;
 use ec_revise::{Currencies, Settled, Tallied, settle};
 use ec_rows::{Mark, MarkRow, SpanRow, TimeRow};
-use ec_terms::{NoMemory, PropId};
+use ec_terms::PropId;
 
 /// In place of a place to look at first: none.
 const ANYWHERE: usize = usize::MAX;

@@ -14,12 +14,13 @@ use crate::scratch::Scratch;
 use crate::settle_one::settle_one;
 use ec_delta::Planned;
 use ec_exclusive::Neighbours;
+use ec_lists::NoMemory;
 use ec_moment::Moment;
 use ec_numbered::Agenda;
 use ec_parts::Parts;
 use ec_revise::{Tally, Turn};
 use ec_rows::{MarkRow, SpanRow, TimeRow};
-use ec_terms::{NoMemory, PropId};
+use ec_terms::PropId;
 
 /// What turned, tallied for each property that it counts for, and nothing for the others that are due. `Err`: memory ran out.
 pub(crate) fn tally_of(

@@ -19,12 +19,12 @@ use crate::scratch::Scratch;
 use crate::settle_all::settle_all;
 use ec_axioms::Steps;
 use ec_delta::{Looked, Planned};
+use ec_lists::NoMemory;
 use ec_moment::Moment;
 use ec_numbered::Agenda;
 use ec_parts::Parts;
 use ec_revise::Change;
 use ec_rows::{MarkRow, SpanRow, TimeRow};
-use ec_terms::NoMemory;
 use std::sync::ledger::Ledger;
 
 /// What a sweep keeps while it goes from instant to instant.

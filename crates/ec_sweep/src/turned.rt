@@ -8,9 +8,10 @@ use crate::words::{has_bit, with_bit};
 use ec_axioms::{Current, Steps};
 use ec_context::{Entry, EntryList, evaluate};
 use ec_entries::Entries;
+use ec_lists::NoMemory;
 use ec_moment::Moment;
 use ec_revise::{Removal, Turn};
-use ec_terms::{NoMemory, Sequence};
+use ec_terms::Sequence;
 use std::sync::ledger::Ledger;
 
 /// Tells the turns down of the entries of an event that are active.

@@ -5,8 +5,9 @@ ghost use Rattle.ec_delta.specs.Looked.{are_apart};
 ghost use Rattle.ec_sweep.specs.Words.{flip_of, word_at};
 
 use ec_delta::Flip;
+use ec_lists::NoMemory;
 use ec_numbered::NumberMap;
-use ec_terms::{NoMemory, Sequence, Slot};
+use ec_terms::{Sequence, Slot};
 use std::alloc::Global;
 use std::marker::Model;
 

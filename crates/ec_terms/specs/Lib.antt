@@ -10,4 +10,3 @@ pub mod Binding
 pub mod MatchingLaws
 pub mod Matchable
 pub mod Pieces
-pub mod Reserved

@@ -7,9 +7,9 @@ ghost use Rattle.ec_terms.specs.Term.{arg_of, ground_of, is_argument, names_are_
 
 use crate::binding::Binding;
 use crate::ground::{ArgRef, ArgRefs, Ground, GroundRef};
-use crate::no_memory::NoMemory;
 use crate::pattern::{PatArg, Pattern};
 use crate::theory::{Rule, Test, TestOp};
+use ec_lists::NoMemory;
 use std::alloc::Global;
 
 /// The value of a place of a pattern: a fixed argument, or what the binding gives its variable.

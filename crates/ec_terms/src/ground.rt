@@ -4,8 +4,8 @@ ghost use Rattle.ec_terms.specs.Term.{arg_of, ground_of, is_argument, names_are_
 
 use crate::limits::MOST_ARGS;
 use crate::name::Name;
-use crate::no_memory::NoMemory;
 use arrayvec::ArrayVec;
+use ec_lists::NoMemory;
 use smallvec::SmallVec;
 use std::alloc::Global;
 use std::marker::Model;

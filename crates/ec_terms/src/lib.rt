@@ -2,7 +2,6 @@
 #![tactic(auto)]
 
 mod binding;
-mod copied;
 mod domain;
 mod domain_laws;
 mod filling;
@@ -13,7 +12,6 @@ mod limits;
 mod matching;
 mod matching_laws;
 mod name;
-mod no_memory;
 mod order_laws;
 mod pattern;
 mod reading;
@@ -24,7 +22,6 @@ mod term_text;
 mod theory;
 
 pub use binding::Binding;
-pub use copied::Copied;
 pub use domain::{are_exclusive, is_initial, is_same, is_strong};
 pub use domain_laws::{entries_ascend, exclusive_is_symmetric, exclusive_is_under_one_binding};
 pub use filling::{fill, fill_ref, tests_hold};
@@ -35,7 +32,6 @@ pub use limits::{LONGEST_NAME, LONGEST_TERM, MOST_ARGS, MOST_VARIABLES};
 pub use matching::{extend_match, matches};
 pub use matching_laws::fitting_binding_is_unique;
 pub use name::Name;
-pub use no_memory::NoMemory;
 pub use order_laws::{arguments_are_ordered, equality_is_decided, terms_are_ordered};
 pub use pattern::{PatArg, PatArgs, Pattern};
 pub use reading::{read_ground, read_int, read_name};

@@ -9,6 +9,7 @@ ghost use Rattle.std.proofs.Common.{rules};
 use crate::limits::LONGEST_NAME;
 use crate::spelling::is_name;
 use arrayvec::ArrayString;
+use ec_lists::Copied;
 use std::cmp::Ordering;
 use std::hash::{Hash, Hasher};
 use std::marker::Model;
@@ -78,6 +79,12 @@ impl Name {
         let mut text = ArrayString::new();
         text.push_str(self.text.as_str());
         Name { text }
+    }
+}
+
+impl Copied for Name {
+    fn copied(&self) -> Name {
+        self.copied()
     }
 }
 

@@ -1,7 +1,7 @@
 ghost use Rattle.std.specs.Prelude.{◌≡◌, ◌<◌, [], ◌∷◌, ◌++◌, length, slice_get, Some, IfNone, OnOk, OnErr};
 ghost use Rattle.std.specs.Option.{option_to_list};
 
-use crate::no_memory::NoMemory;
+use ec_lists::NoMemory;
 use std::alloc::Global;
 use std::marker::Model;
 

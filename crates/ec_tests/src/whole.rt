@@ -3,9 +3,9 @@
 //! The contracts of `run` and `serve` are long, so one function alone calls each.
 use crate::texts::text_of;
 use ec_layers::tables::bytes_of;
+use ec_lists::NoMemory;
 use ec_outside::{MemFolder, MemSink, MemSource};
 use ec_server::{run, serve};
-use ec_terms::NoMemory;
 use ec_theory::{MOST_BYTES, accept};
 use std::alloc::Global;
 use std::process::Abort;

@@ -12,7 +12,8 @@ use crate::pattern::read_pattern;
 use crate::sign::{Keyword, Symbol, name_of};
 use crate::syntax_fault::SyntaxFault;
 use crate::variables::Variables;
-use ec_terms::{Exclusive, Initial, Kind, NoMemory, Rule, Strong, Theory};
+use ec_lists::NoMemory;
+use ec_terms::{Exclusive, Initial, Kind, Rule, Strong, Theory};
 use std::alloc::Global;
 
 /// One clause of a theory.

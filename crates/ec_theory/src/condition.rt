@@ -12,7 +12,8 @@ use crate::pattern::{read_argument, read_pattern};
 use crate::sign::Symbol;
 use crate::syntax_fault::SyntaxFault;
 use crate::variables::Variables;
-use ec_terms::{Literal, Literals, NoMemory, Sequence, Test, Tests};
+use ec_lists::NoMemory;
+use ec_terms::{Literal, Literals, Sequence, Test, Tests};
 use std::alloc::Global;
 
 /// One condition of a rule.

@@ -1,6 +1,6 @@
 //! Why tokens are no theory.
 use crate::place::Place;
-use ec_terms::NoMemory;
+use ec_lists::NoMemory;
 use std::alloc::AllocFailed;
 use std::error::Error;
 use std::fmt;

@@ -1,6 +1,6 @@
 -- No clash is at the time where the first that is not earlier is later, or there is none.
 use Rattle.std.proofs.Common.{sym, ap, ◌∙◌, arith}
-use Rattle.ec_terms.specs.Reserved.{Reserved}
+use Rattle.ec_lists.specs.Reserved.{Reserved}
 use Rattle.ec_points.specs.Clashes.{has_clash}
 use Rattle.ec_points.proofs.CalmTimes.{calm-end, calm-later}
 use Rattle.ec_points.proofs.clashes.Clashes.is_calm.Goals as goal

@@ -1,7 +1,7 @@
 -- The clash at the place where those behind the time begin is the next.
 use Rattle.std.proofs.Common.{◌≡◌, ◌≤◌, ℕ, length, Some, subst, arith}
 use Rattle.std.specs.Prelude.{slice_get}
-use Rattle.ec_terms.specs.Reserved.{Reserved}
+use Rattle.ec_lists.specs.Reserved.{Reserved}
 use Rattle.ec_points.specs.Clashes.{are_clashes}
 use Rattle.ec_points.proofs.NextClash.{next-there, next-behind, next-least, none-behind}
 use Rattle.ec_points.proofs.clashes.Clashes.next.Goals as goal

@@ -1,7 +1,7 @@
 -- The clash goes in at its place.
 use Rattle.std.proofs.Common.{◌||◌, ap, ◌∙◌, arith}
 use Rattle.std.proofs.lemmas.Grind.{common_steps}
-use Rattle.ec_terms.specs.Reserved.{Reserved}
+use Rattle.ec_lists.specs.Reserved.{Reserved}
 use Rattle.ec_points.specs.Clashes.{has_clash, is_clash_of}
 use Rattle.ec_points.proofs.ClashLemmas.{list_any-insert}
 use Rattle.ec_points.proofs.clashes.Clashes.put.Goals as goal

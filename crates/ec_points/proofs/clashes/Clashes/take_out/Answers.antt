@@ -1,7 +1,7 @@
 -- The clash goes out at its place.
 use Rattle.std.proofs.Common.{◌&&◌, not, IsTrue, sym, ap, subst, ◌∙◌, arith}
 use Rattle.std.proofs.lemmas.Grind.{common_steps}
-use Rattle.ec_terms.specs.Reserved.{Reserved}
+use Rattle.ec_lists.specs.Reserved.{Reserved}
 use Rattle.ec_points.specs.Clashes.{are_clashes, has_clash, is_clash_of}
 use Rattle.ec_points.proofs.ClashLemmas.{are_clashes-without, has_clash-without}
 use Rattle.ec_points.proofs.clashes.Clashes.take_out.Goals as goal

@@ -3,7 +3,7 @@ use Rattle.std.proofs.Common.{sym, subst, arith}
 use Rattle.std.specs.Prelude.{IsTrue}
 use Rattle.std.proofs.lemmas.Grind.{common_steps}
 use Rattle.ec_rows.specs.declared.mark.Mark.{Mark}
-use Rattle.ec_terms.specs.Reserved.{Reserved}
+use Rattle.ec_lists.specs.Reserved.{Reserved}
 use Rattle.ec_rows.specs.Marks.{are_before}
 use Rattle.ec_rows.proofs.MarkLemmas.{IsMarkRow-push}
 use Rattle.ec_rows.proofs.vec_marks.VecMarksMarkRow.push.Goals as goal

@@ -3,7 +3,7 @@ use Rattle.std.proofs.Common.{◌≡◌, Bool, false, cond, ◌&&◌, Some, None
 use Rattle.std.specs.Prelude.{◌==◌}
 use Rattle.std.specs.Ordering.{is_eq}
 use Rattle.std.proofs.lemmas.Bool.{cases_Bool, and_right, eqb-true, eq-eqb}
-use Rattle.ec_terms.specs.Reserved.{Reserved}
+use Rattle.ec_lists.specs.Reserved.{Reserved}
 use Rattle.ec_store.specs.Slots.{is_there, slot_of, IsInOrder}
 use Rattle.ec_store.proofs.SlotLemmas.{IsCut, slot_of-end, slot_of-at}
 use Rattle.ec_store.proofs.slots.KeyedSlots.at.Goals as goal

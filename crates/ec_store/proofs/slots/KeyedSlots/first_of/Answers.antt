@@ -2,7 +2,7 @@
 use Rattle.std.proofs.Common.{rules, nat_lt, sym, subst}
 use Rattle.std.specs.List.Sorted.{IsPartitionedBy}
 use Rattle.std.proofs.lemmas.List.Sorted.{IsPartitionPoint-from_clause}
-use Rattle.ec_terms.specs.Reserved.{Reserved}
+use Rattle.ec_lists.specs.Reserved.{Reserved}
 use Rattle.ec_store.specs.declared.slots.KeyedSlot.{KeyedSlot}
 use Rattle.std.specs.declared.cmp.Ordering.TheVariants.{Less}
 use Rattle.ec_store.proofs.SlotLemmas.{IsKeyCut}

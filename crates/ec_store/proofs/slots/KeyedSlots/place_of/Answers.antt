@@ -1,7 +1,7 @@
 -- The search cuts the slots where the test of the closure ends.
 use Rattle.std.proofs.Common.{rules, subst, sym}
 use Rattle.std.proofs.lemmas.List.Sorted.{IsPartitionPoint-from_clause}
-use Rattle.ec_terms.specs.Reserved.{Reserved}
+use Rattle.ec_lists.specs.Reserved.{Reserved}
 use Rattle.ec_store.specs.Slots.{is_in_front, IsInOrder}
 use Rattle.ec_store.proofs.SlotLemmas.{IsCut}
 use Rattle.ec_store.proofs.slots.KeyedSlots.place_of.Goals as goal

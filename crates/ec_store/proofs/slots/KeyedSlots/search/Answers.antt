@@ -2,7 +2,7 @@
 use Rattle.std.proofs.Common.{◌&&◌, subst, sym, ap, ap₂, ◌∙◌}
 use Rattle.std.specs.Ordering.{is_eq}
 use Rattle.std.proofs.lemmas.Bool.{eq-eqb}
-use Rattle.ec_terms.specs.Reserved.{Reserved}
+use Rattle.ec_lists.specs.Reserved.{Reserved}
 use Rattle.ec_store.specs.Slots.{slot_of, IsInOrder}
 use Rattle.ec_store.proofs.SlotLemmas.{IsCut, IsKeyCut, IsCut-end, IsCut-other, slot_of-end, slot_of-other, slot_of-first}
 use Rattle.ec_store.proofs.slots.KeyedSlots.search.Goals as goal

@@ -1,9 +1,5 @@
 ghost use Rattle.std.specs.Prelude.{◌≡◌};
 
-use crate::ids::{PropId, Slot};
-use crate::name::Name;
-use ec_moment::Moment;
-
 /// Values of which another one is had without memory. `Copy` does not serve here: a name is none.
 pub trait Copied {
     /// An equal value.
@@ -11,15 +7,9 @@ pub trait Copied {
         ensures { result ≡ self.now };
 }
 
-impl Copied for PropId {
+impl<A: Copy, B: Copied, C: Copy> Copied for (A, B, C) {
     fn copied(&self) -> Self {
-        *self
-    }
-}
-
-impl<T: Moment> Copied for (T, Name, Slot) {
-    fn copied(&self) -> Self {
-        let (at, id, slot) = self;
-        (*at, id.copied(), *slot)
+        let (first, second, third) = self;
+        (*first, second.copied(), *third)
     }
 }
