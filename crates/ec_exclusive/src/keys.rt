@@ -8,9 +8,7 @@ ghost use Rattle.ec_exclusive.specs.Forms.{texts_of};
 
 use ec_lists::NoMemory;
 use ec_terms::{
-
     ArgRef, ArgRefs, Binding, Exclusive, GroundRef, PatArg, Pattern, Theory, matches, text,
-
 };
 use std::alloc::Global;
 
