@@ -1,7 +1,9 @@
 -- The intervals of touched properties, mended one after the other.
-use Rattle.std.proofs.Common.{◌≡◌, ◌≢◌, ℕ, ◌+◌, ◌≤◌, ◌<◌, ℤ, zero, suc, Bool, true, false, cond, not, ◌&&◌, ◌||◌, List, [], ◌∷◌, ◌++◌, length, take, filter, Some, IsTrue, IsFalse, is_some, refl, sym, ap, ap₂, subst, ◌∙◌, ⊎_elim, slice_get, arith, length-append}
+use Rattle.std.proofs.Common.{◌≡◌, ◌≢◌, ℕ, ◌+◌, ◌≤◌, ◌<◌, ℤ, Bool, true, false, cond, not, ◌&&◌, ◌||◌, List, [], ◌∷◌, ◌++◌, length, take, filter, Some, IsTrue, IsFalse, is_some, refl, sym, ap, ap₂, subst, ◌∙◌, ⊎_elim, slice_get, arith, length-append}
 use Rattle.std.specs.Prelude.{◌==◌}
 use Rattle.std.proofs.lemmas.Bool.{cases_Bool, false≢true, eq-eqb, eqb-true, or_parts}
+use Rattle.std.proofs.lemmas.List.{take_more}
+use Rattle.std.proofs.lemmas.Option.{slice_get_within, get_or_from_slice_get}
 use Rattle.std.proofs.lemmas.List.Elements.{filter-append}
 use Rattle.std.proofs.lemmas.List.Folds.{list_any-append}
 use Rattle.ec_axioms.proofs.Members.{IsMember, filter_agree, list_any-false}
@@ -19,12 +21,7 @@ use Rattle.ec_apply.proofs.Listed.{matters_in-before}
 
 -- the members before the place behind one are those before it, and that one
 pub take_next : {X : Type 0} (xs : List X) (i : ℕ) (x : X) → slice_get xs i ≡ Some x → take (i + 1) xs ≡ take i xs ++ x ∷ []
-take_next xs i x there = let more : i + 1 ≡ suc i = omega arith in ap (λ n. take n xs) more ∙ next xs i there
-  where
-    next : {X : Type 0} {x : X} (ys : List X) (j : ℕ) → slice_get ys j ≡ Some x → take (suc j) ys ≡ take j ys ++ x ∷ []
-    next [] j there = cc
-    next (y ∷ ys) zero there = let same : y ≡ _ = cc in ap (λ z. z ∷ []) same
-    next (y ∷ ys) (suc j) there = ap (λ zs. y ∷ zs) (next ys j there)
+take_next xs i x there = take_more xs i x (slice_get_within xs i x there) ∙ ap (λ y. take i xs ++ y ∷ []) (get_or_from_slice_get xs i x x there)
 
 module _ {T : Type 0} (rank : T → ℤ) (around : Neighbourhoods) (points : PointTable T) (touched : List (Row T)) (start : IntervalTable T) where
   -- The touched properties before a place are mended that matter, and the others are as they were.
