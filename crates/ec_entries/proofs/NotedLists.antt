@@ -3,7 +3,7 @@ use Rattle.std.proofs.Common.{◌≡◌, ◌≢◌, ◌+◌, ◌<◌, ◌≤◌,
 use Rattle.std.specs.Prelude.{◌==◌, option_and_then, slice_get}
 use Rattle.std.specs.Option.{option_to_list}
 use Rattle.std.proofs.lemmas.Bool.{cases_Bool, cases_eq, cases_lt}
-use Rattle.std.proofs.lemmas.List.Sums.{count_by_more_no, count_by_more_yes}
+use Rattle.std.proofs.lemmas.List.Sums.{count_by_more_no, count_by_more_yes, sum_by_more_le}
 use Rattle.std.proofs.lemmas.Option.{slice_get_read}
 use Rattle.ec_lists.proofs.Places.{slice_get-take}
 use Rattle.ec_context.specs.declared.entry.Entry.{Entry}
@@ -41,6 +41,14 @@ count_on-more q list i entry within here =
     (λ no. count_by_more_no (λ (e : Entry). any_on q e.literals) list i entry within (sym (ap (λ (e : Entry). any_on q e.literals) here) ∙ no)
     ∙ sym (ap (λ b. count_on q (take i list) + cond b 1 0) no ∙ omega arith))
     (cases_Bool (any_on q entry.literals))
+
+-- where there was room for all entries there is room for the next one
+pub room-next : (q : ℕ) (list : List Entry) (i : ℕ) (entry : Entry) → i < length list → entry ≡ get_or list i entry → (all left : ℕ) →
+    count_on q list ≤ all → all ≤ left + count_on q (take i list) → cond (any_on q entry.literals) 1 0 ≤ left
+room-next q list i entry within here all left enough so_far =
+    let next = subst (λ (e : Entry). count_on q (take i list) + cond (any_on q e.literals) 1 0 ≤ count_on q list) (sym here)
+        (sum_by_more_le (λ (e : Entry). cond (any_on q e.literals) 1 0) list i entry within) in
+    omega (arith, next, enough, so_far)
 
 -- what the entry found at a place makes
 abbrev made : {T : Type 0} → T → ℕ → ℕ → ℕ → Option Entry → List (Dependent T)

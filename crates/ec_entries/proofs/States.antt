@@ -7,7 +7,7 @@ use Rattle.std.proofs.lemmas.Option.{slice_get_past}
 use Rattle.ec_context.specs.declared.entry.Entry.{Entry}
 use Rattle.ec_entries.specs.declared.event_entries.Dependent.{Dependent}
 use Rattle.ec_entries.specs.declared.event_entries.EventEntries.{EventEntries}
-use Rattle.ec_entries.specs.Dependents.{AreDependents, Rows, any_on, dependent_at, dependent_if, dependent_in, dependents_of, from_place}
+use Rattle.ec_entries.specs.Dependents.{AreDependents, AreInOrder, Rows, any_on, dependent_at, dependent_if, dependent_in, dependents_of, from_place}
 use Rattle.ec_entries.specs.Noting.{AreNoted, AreTakenOut}
 use Rattle.ec_numbered.specs.ByNumber.{kept_at}
 use Rattle.ec_rows.specs.Ordered.{is_ascending}
@@ -35,6 +35,43 @@ pub kept_at-read : {X : Type 0} (slots : List (Option X)) (slot : ℕ) (o : Opti
 kept_at-read [] slot o read some = cc
 kept_at-read (y ∷ ys) zero o read some = sym read
 kept_at-read (y ∷ ys) (suc n) o read some = kept_at-read ys n o read some
+
+-- dependents stay right where each entry makes what it made, and they are the same
+AreDependents-made : {T : Type 0} (rank : T → ℤ) (q : ℕ) (old new : List (Option (EventEntries T))) (before after : List (Dependent T)) →
+    ((slot place : ℕ) → dependent_at q new slot place ≡ dependent_at q old slot place) → after ≡ before → AreDependents rank q old before → AreDependents rank q new after
+AreDependents-made rank q old new before after made same are = record {
+  order = subst (AreInOrder rank) (sym same) are.order;
+  exact = λ slot place. ap (from_place slot place) same ∙ are.exact slot place ∙ sym (ap option_to_list (made slot place));
+}
+
+-- so it is where each slot keeps what it kept
+pub AreDependents-same : {T : Type 0} (rank : T → ℤ) (q : ℕ) (old new : List (Option (EventEntries T))) (before after : List (Dependent T)) →
+    ((slot : ℕ) → kept_at slot new ≡ kept_at slot old) → after ≡ before → AreDependents rank q old before → AreDependents rank q new after
+AreDependents-same {T} rank q old new before after kept =
+    AreDependents-made rank q old new before after (λ slot place. ap (λ (k : Option (EventEntries T)). option_and_then (λ k. dependent_in q k.at slot k.list place) k) (kept slot))
+
+-- and where other entries of an event are active
+pub AreDependents-active : {T : Type 0} (rank : T → ℤ) (slots : List (Option (EventEntries T))) (slot : ℕ) (kept : EventEntries T) (active : ℕ) → kept_at slot slots ≡ Some kept →
+    (q : ℕ) (dependents : List (Dependent T)) → AreDependents rank q slots dependents → AreDependents rank q (set slots slot (Some (record kept { active = active }))) dependents
+AreDependents-active {T} rank slots slot kept active there q dependents =
+    AreDependents-made rank q slots (set slots slot new) dependents dependents (λ s place. ⊎_elim (here s place) (other s place) (cases_eq s slot)) refl
+  where
+    new : Option (EventEntries T)
+    new = Some (record kept { active = active })
+
+    here : (s place : ℕ) → s ≡ slot → dependent_at q (set slots slot new) s place ≡ dependent_at q slots s place
+    here s place same =
+        subst (λ n. dependent_at q (set slots slot new) n place ≡ dependent_at q slots n place) (sym same)
+        (ap (λ (k : Option (EventEntries T)). option_and_then (λ k. dependent_in q k.at slot k.list place) k) (get_or-set_same slots slot new None (within slots slot kept there))
+        ∙ sym (ap (λ (k : Option (EventEntries T)). option_and_then (λ k. dependent_in q k.at slot k.list place) k) there))
+
+    other : (s place : ℕ) → s ≢ slot → dependent_at q (set slots slot new) s place ≡ dependent_at q slots s place
+    other s place apart = ap (λ (k : Option (EventEntries T)). option_and_then (λ k. dependent_in q k.at s k.list place) k) (kept_at-set_other slots slot s new apart)
+
+-- what is there is one of the values that could be there
+pub IsSome-apart : {X : Type 0} (o : Option X) → IsSome o → ((x : X) → o ≢ Some x) → ⊥
+IsSome-apart None some apart = cc
+IsSome-apart (Some x) some apart = apart x refl
 
 -- a slot in which nothing is kept has no dependents
 pub from_place-none : {T : Type 0} (rank : T → ℤ) (slots : List (Option (EventEntries T))) (slot : ℕ) → kept_at slot slots ≡ None → (q : ℕ) (dependents : List (Dependent T)) →

@@ -18,7 +18,7 @@ IsWider-then first second third before after = record {
 }
 
 -- one literal more
-any_on-more : (q : ℕ) (ls : List EntryLiteral) (k : ℕ) (d : EntryLiteral) → k < length ls → any_on q (take (k + 1) ls) ≡ (any_on q (take k ls) || (get_or ls k d).prop.0 == q)
+pub any_on-more : (q : ℕ) (ls : List EntryLiteral) (k : ℕ) (d : EntryLiteral) → k < length ls → any_on q (take (k + 1) ls) ≡ (any_on q (take k ls) || (get_or ls k d).prop.0 == q)
 any_on-more q ls k d within =
     ap (any_on q) (take_more ls k d within) ∙ list_any-append (is_of q) (take k ls) (get_or ls k d ∷ [])
     ∙ ap (λ b. any_on q (take k ls) || b) (or-false ((get_or ls k d).prop.0 == q))

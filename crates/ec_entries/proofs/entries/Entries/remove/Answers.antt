@@ -1,7 +1,7 @@
 -- The entries of the slot were taken out of all rows.
-use Rattle.std.proofs.Common.{◌≡◌, length, set, IsSome, Some, sym, subst, ◌∙◌, arith}
+use Rattle.std.proofs.Common.{◌≡◌, ◌≤◌, length, set, IsSome, Some, sym, subst, ◌∙◌, arith}
 use Rattle.std.proofs.lemmas.Grind.{common_steps}
-use Rattle.ec_entries.specs.Dependents.{AreDependents, Entered, dependents_of}
+use Rattle.ec_entries.specs.Dependents.{AreDependents, Entered, dependents_of, room_of}
 use Rattle.ec_entries.specs.Noting.{AreTakenOut}
 use Rattle.ec_entries.proofs.States.{AreDependents-out, kept_at-read}
 use Rattle.ec_numbered.specs.ByNumber.{kept_at}
@@ -16,6 +16,10 @@ invariant_of-self g c =
     subst (λ ls. AreTakenOut g.T.Moment.rank c.args.slot.0 (length ls) c.self.inside.rows c.drop_all.new.rows) c.as_slice.ensures.items c.drop_all.ensures in
     λ q. subst (λ x. AreDependents g.T.Moment.rank q (set slots c.args.slot.0 x) (dependents_of q c.drop_all.new.rows)) (sym c.take.ensures.after)
     (AreDependents-out g.T.Moment.rank slots c.args.slot.0 c.in-Some.kept there c.self.inside.rows c.drop_all.new.rows c.self.invariant out q)
+
+pub returns-clause-kept_room : goal.returns-clause-kept_room
+returns-clause-kept_room g c q =
+    subst (λ (e : Entered g.row.T.Denot). room_of q e.rows ≤ room_of q c.drop_all.new.rows) c.self.view_is (c.drop_all.ensures.room q)
 
 pub drop_all-requires-clause-present : goal.drop_all-requires-clause-present
 drop_all-requires-clause-present c = grind (arith, common_steps)
