@@ -5,7 +5,7 @@ use Rattle.std.specs.Prelude.{int_lt, int_le}
 use Rattle.std.specs.List.Sorted.{IsPartitionedBy}
 use Rattle.std.proofs.lemmas.Bool.{cases_lt}
 use Rattle.std.proofs.lemmas.Int.{ints}
-use Rattle.std.proofs.lemmas.List.{drop-take, get_or-drop, get_or-take}
+use Rattle.std.proofs.lemmas.List.{drop-take, get_or_default, get_or-drop, get_or-take}
 use Rattle.std.proofs.Common.{drop-drop}
 use Rattle.ec_lists.proofs.Partitions.{IsCut}
 use Rattle.ec_blocks.proofs.SearchLemmas.{IsPartitionPoint-from_edges}
@@ -13,6 +13,13 @@ use Rattle.ec_entries.specs.declared.event_entries.Dependent.{Dependent}
 use Rattle.ec_entries.specs.Dependents.{AreInOrder, dependents_after, dependents_at}
 use Rattle.ec_entries.proofs.Orders.{IsPartitionedBy-earlier, IsPartitionedBy-up_to}
 use Rattle.ec_entries.proofs.Readings.{dependents_at-run, drop-after, earlier, up_to}
+
+-- where the members from a place on pass, and the next one does, those up to it pass
+pub passes-next : {X : Type 0} (test : X → Bool) (xs : List X) (from k : ℕ) (x : X) → k < length xs → x ≡ get_or xs k x → test x ≡ true →
+    ((j : ℕ) (d : X) → from ≤ j → j < k → test (get_or xs j d) ≡ true) → (j : ℕ) (d : X) → from ≤ j → j < k + 1 → test (get_or xs j d) ≡ true
+passes-next test xs from k x within here passed so_far j d low high =
+    ⊎_elim (λ early. so_far j d low early)
+    (λ late. let same : j ≡ k = omega (arith, late, high) in ap (λ n. test (get_or xs n d)) same ∙ ap test (get_or_default xs k d x within ∙ sym here) ∙ passed) (cases_lt j k)
 
 module _ {X : Type 0} (xs few : List X) (from : ℕ) (start : from < length xs) (is : few ≡ take (length few) (drop from xs)) where
   few-length : from + length few ≤ length xs

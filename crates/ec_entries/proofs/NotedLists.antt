@@ -1,5 +1,5 @@
--- The entries of one event that are noted, with one entry more.
-use Rattle.std.proofs.Common.{◌≡◌, ◌≢◌, ◌+◌, ◌<◌, ◌≤◌, ℕ, ℤ, zero, suc, false, cond, ◌&&◌, List, [], ◌∷◌, length, take, get_or, Option, None, refl, sym, ap, subst, ◌∙◌, ⊎_elim, arith}
+-- The entries of one event that are noted, or taken out, with one entry more.
+use Rattle.std.proofs.Common.{◌≡◌, ◌≢◌, ◌+◌, ◌<◌, ◌≤◌, ℕ, ℤ, zero, suc, Bool, true, false, cond, ◌&&◌, List, [], ◌∷◌, length, take, get_or, Option, None, refl, sym, ap, subst, ◌∙◌, ⊎_elim, arith}
 use Rattle.std.specs.Prelude.{◌==◌, option_and_then, slice_get}
 use Rattle.std.specs.Option.{option_to_list}
 use Rattle.std.proofs.lemmas.Bool.{cases_Bool, cases_eq, cases_lt}
@@ -9,7 +9,7 @@ use Rattle.ec_lists.proofs.Places.{slice_get-take}
 use Rattle.ec_context.specs.declared.entry.Entry.{Entry}
 use Rattle.ec_entries.specs.declared.event_entries.Dependent.{Dependent}
 use Rattle.ec_entries.specs.Dependents.{Rows, any_on, count_on, dependent_if, dependents_of, from_place}
-use Rattle.ec_entries.specs.Noting.{AreNoted, IsNoted}
+use Rattle.ec_entries.specs.Noting.{AreNoted, AreTakenOut, IsNoted, IsTakenOut}
 
 -- a beginning of a list has nothing behind its end
 slice_get-take_past : {X : Type 0} (xs : List X) (n k : ℕ) → n ≤ k → slice_get (take n xs) k ≡ None
@@ -54,6 +54,12 @@ room-next q list i entry within here all left enough so_far =
 abbrev made : {T : Type 0} → T → ℕ → ℕ → ℕ → Option Entry → List (Dependent T)
 made at slot q place found = option_to_list (option_and_then (λ (e : Entry). dependent_if (any_on q e.literals) at slot place) found)
 
+-- nothing of the next entry is noted yet
+pub AreNoted-next : {T : Type 0} (rank : T → ℤ) (at : T) (slot : ℕ) (list : List Entry) (i : ℕ) (old mid : Rows T) → AreNoted rank at slot (take i list) old mid →
+    (q : ℕ) → from_place slot i (dependents_of q mid) ≡ []
+AreNoted-next rank at slot list i old mid noted q = noted.here q i ∙ ap (made at slot q i) (slice_get-take_past list i i (omega arith))
+
+-- the next entry is noted too
 pub AreNoted-more : {T : Type 0} (rank : T → ℤ) (at : T) (slot : ℕ) (list : List Entry) (i : ℕ) (entry : Entry) → i < length list → entry ≡ get_or list i entry →
     (old mid new : Rows T) → AreNoted rank at slot (take i list) old mid → IsNoted rank at slot i (λ q. any_on q entry.literals) mid new →
     AreNoted rank at slot (take (i + 1) list) old new
@@ -72,3 +78,29 @@ AreNoted-more {T} rank at slot list i entry within here old mid new noted step =
     at_other : (q place : ℕ) → place ≢ i → from_place slot place (dependents_of q new) ≡ made at slot q place (slice_get (take (i + 1) list) place)
     at_other q place other =
         step.others q slot place (other_place slot i place other) ∙ noted.here q place ∙ sym (ap (made at slot q place) (slice_get-take_other list i place other))
+
+module _ {T : Type 0} (rank : T → ℤ) (at : T) (slot : ℕ) (list : List Entry) (i : ℕ) (entry : Entry) (within : i < length list) (here : entry ≡ get_or list i entry)
+    (old mid : Rows T) (present : (q place : ℕ) → from_place slot place (dependents_of q old) ≡ made at slot q place (slice_get list place))
+    (out : AreTakenOut rank slot i old mid) where
+  -- the next entry is noted still
+  pub AreTakenOut-next : (q : ℕ) → from_place slot i (dependents_of q mid) ≡ option_to_list (dependent_if (any_on q entry.literals) at slot i)
+  AreTakenOut-next q = out.left q i (omega arith) ∙ present q i ∙ ap (made at slot q i) (slice_get_read list (length list) i entry refl within here)
+
+  -- the next entry is taken out too
+  pub AreTakenOut-more : (new : Rows T) → IsTakenOut rank slot i (λ q. any_on q entry.literals) mid new → AreTakenOut rank slot (i + 1) old new
+  AreTakenOut-more new step = record {
+    order = step.order;
+    gone = λ q place below.
+        ⊎_elim (λ same. subst (λ n. from_place slot n (dependents_of q new) ≡ []) (sym same) (gone_here q))
+        (λ other. step.others q slot place (other_place slot i place other) ∙ out.gone q place (omega (arith, below, other))) (cases_eq place i);
+    left = λ q place past. step.others q slot place (other_place slot i place (λ same. omega (arith, past, same))) ∙ out.left q place (omega (arith, past));
+    others = λ q s p other. step.others q s p (other_slot slot i s p other) ∙ out.others q s p other;
+    room = λ q. let first = out.room q in let second = step.room q in omega (arith, first, second);
+  }
+    where
+      either : (b : Bool) → cond b [] (option_to_list (dependent_if b at slot i)) ≡ []
+      either true = refl
+      either false = refl
+
+      gone_here : (q : ℕ) → from_place slot i (dependents_of q new) ≡ []
+      gone_here q = step.here q ∙ ap (cond (any_on q entry.literals) []) (AreTakenOut-next q) ∙ either (any_on q entry.literals)

@@ -24,6 +24,12 @@ AreDependents-none rank slots rows no_slots no_rows q =
 pub kept_at-set_other : {X : Type 0} (slots : List (Option X)) (slot other : ℕ) (x : Option X) → other ≢ slot → kept_at other (set slots slot x) ≡ kept_at other slots
 kept_at-set_other slots slot other x apart = rw get_or-set_other refl
 
+-- nothing is kept in a slot that was emptied
+pub kept_at-emptied : {X : Type 0} (slots : List (Option X)) (slot : ℕ) → kept_at slot (set slots slot None) ≡ None
+kept_at-emptied [] slot = refl
+kept_at-emptied (y ∷ ys) zero = refl
+kept_at-emptied (y ∷ ys) (suc n) = kept_at-emptied ys n
+
 -- a slot in which something is kept is among the slots
 within : {X : Type 0} (slots : List (Option X)) (slot : ℕ) (x : X) → kept_at slot slots ≡ Some x → slot < length slots
 within [] slot x kept = cc
