@@ -11,3 +11,4 @@ pub mod SortedLists
 pub mod NetChanges
 pub mod UndoingChange
 pub mod Built
+pub mod Counts

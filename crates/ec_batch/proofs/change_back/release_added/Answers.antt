@@ -1,5 +1,5 @@
 -- Place by place, an added event goes.
-use Rattle.std.proofs.Common.{◌≡◌, ◌≤◌, Some, length, take, refl, sym, ap, subst, ◌∙◌, arith}
+use Rattle.std.proofs.Common.{◌≡◌, ◌≤◌, Some, length, take, refl, sym, ap, subst, ◌∙◌}
 use Rattle.std.specs.Prelude.{slice_get}
 use Rattle.std.proofs.lemmas.List.{take_all}
 use Rattle.std.proofs.lemmas.Option.{slice_get-get_or}
@@ -77,9 +77,7 @@ returns-clause-stay g c =
     let hist = history_of rank c.args.parts.now.store.events in
     let added = events_by_id c.args.change.now.add in
     let soon = c.requires.soon in
-    let many = length-entries c.requires.to in
-    let all = ap length c.as_slice-list-items.ensures in
-    let last = c.loop-list-test.false in
-    let end : length added ≤ c.loop-list.list-index = omega (arith, many, all, last) in
+    let all = ap length c.as_slice-list-items.ensures ∙ length-entries c.requires.to in
+    let end : length added ≤ c.loop-list.list-index = subst (λ n. n ≤ c.loop-list.list-index) all c.loop-list-test.false in
     subst (λ es. StandForBoth rank theory hist es (view_of c.loop-list.parts) c.loop-list.tally)
     (ap (λ xs. untouched xs soon) (take_all c.loop-list.list-index added end) ∙ untouched-both c.requires.to c.len.ensures.slots) (inv.so_far soon c.requires.to)

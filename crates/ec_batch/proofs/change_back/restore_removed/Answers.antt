@@ -1,5 +1,5 @@
 -- Place by place, a removed event comes back.
-use Rattle.std.proofs.Common.{◌≡◌, ◌≤◌, ℕ, List, Some, length, drop, sym, ap, subst, ◌∙◌, arith}
+use Rattle.std.proofs.Common.{◌≡◌, ◌≤◌, ℕ, List, Some, length, drop, sym, ap, subst, ◌∙◌}
 use Rattle.std.specs.Prelude.{slice_get}
 use Rattle.std.proofs.lemmas.List.{drop_all, length-map}
 use Rattle.std.proofs.lemmas.Option.{slice_get-get_or}
@@ -12,6 +12,7 @@ use Rattle.ec_parts.specs.StandFor.{StandForBoth, view_of}
 use Rattle.ec_revise.specs.declared.change.Removal.{Removal}
 use Rattle.ec_batch.specs.Undo.{MayRestore, Restores, untouched}
 use Rattle.ec_batch.specs.UndoChange.{id_in, removals_by_id}
+use Rattle.ec_batch.proofs.Counts.{count-more}
 use Rattle.ec_batch.proofs.Undoing.{few_back, put_back_next, untouched-none}
 use Rattle.ec_batch.proofs.UndoingChange.{removals_distinct, slot_of-removal}
 use Rattle.ec_batch.proofs.change_back.restore_removed.Goals as goal
@@ -73,7 +74,7 @@ loop-removal-preserved g c =
           }));
       terms = λ id. c.restore_old.ensures.terms id ∙ inv.terms id;
       rest = c.restore_old.ensures.rest ∙ ap (λ (p : Parts _ _ _ _). record p { props = c.restore_old.new.parts.props }) inv.rest;
-      steps = omega (arith, c.restore_old.ensures.steps, inv.steps);
+      steps = count-more _ _ _ c.restore_old.ensures.steps inv.steps;
     }
 
 pub returns-clause-back : goal.returns-clause-back
@@ -83,7 +84,6 @@ returns-clause-back g c =
     let hist = history_of rank c.args.parts.now.store.events in
     let keyed = removals_by_id c.args.parts.now.store.events c.args.removals.now in
     let many = length-map {B = List ℕ × Removal g.row.T.Denot} c.args.removals.now (λ (r : Removal g.row.T.Denot). (id_in c.args.parts.now.store.events r.slot, r)) in
-    let last = c.loop-removal-test.false in
-    let end : length keyed ≤ c.loop-removal.removal-index = omega (arith, many, last) in
+    let end : length keyed ≤ c.loop-removal.removal-index = subst (λ n. n ≤ c.loop-removal.removal-index) (sym many) c.loop-removal-test.false in
     subst (λ es. StandForBoth rank c.args.parts.now.checked hist es (view_of c.loop-removal.parts) c.loop-removal.tally)
     (ap (λ xs. untouched xs hist) (drop_all c.loop-removal.removal-index keyed end) ∙ untouched-none (Removal g.row.T.Denot) hist) inv.so_far

@@ -1,5 +1,5 @@
 -- The event comes into the tables, or a limit refuses it, or memory runs out; then its new properties are forgotten.
-use Rattle.std.proofs.Common.{◌≡◌, ◌<◌, ◌≤◌, ◌^◌, Some, length, refl, sym, ap, subst, ◌∙◌, arith}
+use Rattle.std.proofs.Common.{◌≡◌, ◌≤◌, Some, length, refl, sym, ap, subst, ◌∙◌}
 use Rattle.std.specs.Prelude.{Ok, Err}
 use Rattle.ec_terms.specs.Domain.{entries_of}
 use Rattle.ec_axioms.specs.Changes.{with_event}
@@ -13,6 +13,7 @@ use Rattle.ec_batch.specs.Limited.{ComesIn}
 use Rattle.ec_batch.specs.Walk.{AreLiveOrListed}
 use Rattle.ec_replies.specs.Updates.{with_few_mentions}
 use Rattle.ec_batch.proofs.ComingIn.{listed_entered, listed_terms, may_want_alone, refused_alone}
+use Rattle.ec_batch.proofs.Counts.{few-mentions}
 use Rattle.ec_batch.proofs.Moved.{AreLiveOrListed-moved}
 use Rattle.ec_batch.proofs.LetIn.{shown_after}
 use Rattle.ec_batch.proofs.WalkSteps.{asked_limits, may_want-asserted}
@@ -21,14 +22,13 @@ use Rattle.ec_batch.proofs.coming_in.let_in.Goals as goal
 pub enter-requires : goal.enter-requires
 enter-requires g c =
     let hist = history_of g.T.Moment.rank c.args.parts.now.store.events in
-    let few = c.requires.within.few_mentions in
-    record { stand = record { now = hist; soon = hist; tally = c.args.tally.now; few = omega arith; stand = c.requires.stand.both } }
+    record { stand = record { now = hist; soon = hist; tally = c.args.tally.now; few = few-mentions c.requires.within.few_mentions; stand = c.requires.stand.both } }
 
 pub forget_idle-requires : goal.forget_idle-requires
 forget_idle-requires g c =
     let hist = history_of g.T.Moment.rank c.args.parts.now.store.events in
     let mentions = c.requires.within.few_mentions in
-    let few : length (mentions_of c.args.parts.now.checked hist) < 2 ^ 32 = omega arith in
+    let few = few-mentions mentions in
     record {
       events = hist;
       tally = c.args.tally.now;
@@ -43,7 +43,7 @@ returns-in_default-clause-let_in g c =
     let hist = history_of rank c.args.parts.now.store.events in
     let mid = c.enter.new.parts in
     let mentions = c.requires.within.few_mentions in
-    let few : length (mentions_of theory hist) < 2 ^ 32 = omega arith in
+    let few = few-mentions mentions in
     let both = c.enter.ensures.both hist hist c.args.tally.now few c.requires.stand.both in
     let listed = listed_entered theory hist c.args.parts.now.props mid.props (λ id. has_number id c.enter.new.fresh.items) c.requires.stand.only_live c.enter.ensures.before c.enter.ensures.fresh in
     let listed_there : AreLiveOrListed mid.checked hist mid.props (λ id. has_number id c.as_slice.result.now) =
@@ -60,7 +60,7 @@ take_in-requires g c =
     let theory = c.args.parts.now.checked in
     let hist = history_of rank c.args.parts.now.store.events in
     let mentions = c.requires.within.few_mentions in
-    let few : length (mentions_of theory hist) < 2 ^ 32 = omega arith in
+    let few = few-mentions mentions in
     record {
       now = hist;
       soon = hist;
@@ -85,7 +85,7 @@ forget_idle-requires-in-Err g c =
     let last = c.take_in.new.parts in
     let tally = c.take_in.new.tally in
     let mentions = c.requires.within.few_mentions in
-    let few : length (mentions_of theory hist) < 2 ^ 32 = omega arith in
+    let few = few-mentions mentions in
     let comes : ComesIn rank mid.checked c.in-Ok.list (view_of mid) c.args.tally.now hist hist e = record {
       both = subst (λ t. StandForBoth rank t hist hist (view_of mid) c.args.tally.now) (sym c.enter.ensures.theory) (c.enter.ensures.both hist hist c.args.tally.now few c.requires.stand.both);
       history = c.requires.stand.both.caches.history;
@@ -112,7 +112,7 @@ returns-in-Err-clause-let_in g c =
     let last = c.take_in.new.parts in
     let tally = c.take_in.new.tally in
     let mentions = c.requires.within.few_mentions in
-    let few : length (mentions_of theory hist) < 2 ^ 32 = omega arith in
+    let few = few-mentions mentions in
     let comes : ComesIn rank mid.checked c.in-Ok.list (view_of mid) c.args.tally.now hist hist e = record {
       both = subst (λ t. StandForBoth rank t hist hist (view_of mid) c.args.tally.now) (sym c.enter.ensures.theory) (c.enter.ensures.both hist hist c.args.tally.now few c.requires.stand.both);
       history = c.requires.stand.both.caches.history;
@@ -143,7 +143,7 @@ returns-clause-let_in g c =
     let last = c.take_in.new.parts in
     let tally = c.take_in.new.tally in
     let mentions = c.requires.within.few_mentions in
-    let few : length (mentions_of theory hist) < 2 ^ 32 = omega arith in
+    let few = few-mentions mentions in
     let comes : ComesIn rank mid.checked c.in-Ok.list (view_of mid) c.args.tally.now hist hist e = record {
       both = subst (λ t. StandForBoth rank t hist hist (view_of mid) c.args.tally.now) (sym c.enter.ensures.theory) (c.enter.ensures.both hist hist c.args.tally.now few c.requires.stand.both);
       history = c.requires.stand.both.caches.history;

@@ -1,8 +1,9 @@
 -- One touched identity more.
-use Rattle.std.proofs.Common.{◌≡◌, ◌+◌, ◌++◌, [], ◌∷◌, filter_map, reverse, sym, ap, subst, ◌∙◌, IfSome, IsSome, All, arith}
+use Rattle.std.proofs.Common.{◌≡◌, ◌+◌, ◌++◌, [], ◌∷◌, filter_map, reverse, sym, ap, subst, ◌∙◌, IfSome, IsSome, All}
 use Rattle.indexmap.specs.IndexMap.{index_map_len}
 use Rattle.ec_store.specs.Store.{event_at}
 use Rattle.ec_batch.specs.NetChange.{HasRoom, coming, going}
+use Rattle.ec_batch.proofs.Counts.{count-less}
 use Rattle.ec_batch.proofs.NetChanges.{All-in_front, gathered-next}
 use Rattle.ec_batch.proofs.net_changes.gather.Goals as goal
 
@@ -25,5 +26,5 @@ loop-net-preserved g c =
       live = All-in_front (λ entry. IfSome entry.1.old (λ slot. IsSome (event_at slot events))) front ((c.in-Some.field-0-0, c.in-Some.net) ∷ [])
           (subst (All (λ entry. IfSome entry.1.old (λ slot. IsSome (event_at slot events)))) popped inv.live);
       room = c.gather_one.ensures.room (index_map_len c.pop.new.self) (subst (λ n. HasRoom n c.loop-net.gathered) one_less inv.room);
-      steps = let more = c.gather_one.ensures.steps in let before = inv.steps in omega (arith, more, before, one_less);
+      steps = count-less _ _ _ c.gather_one.ensures.steps inv.steps one_less;
     }

@@ -1,5 +1,5 @@
 -- Each event is let in, since all of them are within the limits.
-use Rattle.std.proofs.Common.{◌≡◌, ◌+◌, [], ◌∷◌, ◌++◌, map, take, drop, refl, sym, ap, subst, ◌∙◌, arith}
+use Rattle.std.proofs.Common.{◌≡◌, ◌+◌, [], ◌∷◌, ◌++◌, map, take, drop, refl, sym, ap, subst, ◌∙◌, le-add_right}
 use Rattle.std.specs.Prelude.{MatchResult}
 use Rattle.std.proofs.lemmas.List.{take_all}
 use Rattle.ec_axioms.specs.Changes.{with_event}
@@ -11,11 +11,12 @@ use Rattle.ec_batch.specs.Build.{history_from}
 use Rattle.ec_batch.specs.Walk.{HasWalkedTo}
 use Rattle.ec_batch.proofs.Batches.{not_both}
 use Rattle.ec_batch.proofs.Built.{asserted-next, history_from-next}
+use Rattle.ec_batch.proofs.Counts.{count-more}
 use Rattle.ec_batch.proofs.Moved.{HasWalkedTo-moved}
 use Rattle.ec_batch.proofs.through.walk_in.Goals as goal
 
 pub loop-event-init : goal.loop-event-init
-loop-event-init g c = record { so_far = c.requires.walked; theory = refl; store = refl; len = omega arith }
+loop-event-init g c = record { so_far = c.requires.walked; theory = refl; store = refl; len = le-add_right _ 0 }
 
 pub assert_event-requires : goal.assert_event-requires
 assert_event-requires g c =
@@ -68,7 +69,7 @@ loop-event-preserved g c =
           (sym inv.theory) (sym (ap (λ s. s.events) inv.store)) gone);
       theory = c.assert_event.ensures.theory ∙ inv.theory;
       store = c.assert_event.ensures.store ∙ inv.store;
-      len = omega (arith, c.assert_event.ensures.len, inv.len);
+      len = count-more _ _ _ c.assert_event.ensures.len inv.len;
     }
 
 pub returns-clause-goes : goal.returns-clause-goes

@@ -1,5 +1,5 @@
 -- Update by update, the list that the batch leaves.
-use Rattle.std.proofs.Common.{◌≡◌, ◌+◌, ◌≤◌, [], ◌∷◌, ◌++◌, length, map, take, drop, ap₂, refl, sym, ap, subst, ◌∙◌, arith}
+use Rattle.std.proofs.Common.{◌≡◌, ◌+◌, ◌≤◌, [], ◌∷◌, ◌++◌, length, map, take, drop, ap₂, refl, sym, ap, subst, ◌∙◌, le_of_lt, add_comm, le-add_right}
 use Rattle.ec_parts.specs.StandFor.{view_of}
 use Rattle.std.specs.Prelude.{Err}
 use Rattle.std.proofs.lemmas.List.{length-map, length-take-le}
@@ -9,12 +9,13 @@ use Rattle.ec_replies.specs.Runs.{may_want_by}
 use Rattle.ec_replies.specs.Updates.{updated, updated_from}
 use Rattle.ec_batch.specs.BatchMemory.{batch_may_want_memory}
 use Rattle.ec_batch.proofs.Batches.{batch_may_want-next, goes_ok, updated_from-next, updated_from-refused}
+use Rattle.ec_batch.proofs.Counts.{count-more}
 use Rattle.ec_batch.specs.Walk.{HasWalkedTo}
 use Rattle.ec_batch.proofs.through.walk_through.Goals as goal
 
 pub loop-one-init : goal.loop-one-init
 unfolding updated_from
-loop-one-init g c = record { so_far = λ soon start. (soon, refl, start); counted = refl; theory = refl; store = refl; len = omega arith; steps = omega arith }
+loop-one-init g c = record { so_far = λ soon start. (soon, refl, start); counted = refl; theory = refl; store = refl; len = le-add_right _ 0; steps = le-add_right _ 0 }
 
 pub update-requires : goal.update-requires
 update-requires g c =
@@ -38,8 +39,8 @@ returns-in-Err-Refused-clause-goes g c soon start =
     let f = plain_update g.T.Moment.rank in
     let xs = c.args.batch.now in
     let i = c.loop-one.one-index in
-    let within : i ≤ length xs = omega (arith, c.loop-one-test.true) in
-    let number : 1 + length (map f (take i xs)) ≡ c.loop-one.place + 1 = omega (arith, length-map (take i xs) f, length-take-le i xs within, inv.counted) in (
+    let within : i ≤ length xs = le_of_lt c.loop-one-test.true in
+    let number : 1 + length (map f (take i xs)) ≡ c.loop-one.place + 1 = ap (λ n. 1 + n) (length-map (take i xs) f ∙ length-take-le i xs within ∙ sym inv.counted) ∙ add_comm 1 c.loop-one.place in (
       ap (λ us. updated_from c.args.parts.now.checked 1 soon us) (map-cut f xs i c.one-item.result c.loop-one-test.true)
           ∙ ap (λ x. updated_from c.args.parts.now.checked 1 soon (map f (take i xs) ++ f x ∷ map f (drop (i + 1) xs))) (sym c.one-item.is)
           ∙ updated_from-refused c.args.parts.now.checked 1 soon mid.0 c.in-Err-Refused.cut (map f (take i xs)) (map f (drop (i + 1) xs)) (f c.one-item.result) mid.1
@@ -93,6 +94,6 @@ loop-one-preserved g c = record {
   counted = ap (λ n. n + 1) c.loop-one.invariant.counted;
   theory = c.update.ensures.theory ∙ c.loop-one.invariant.theory;
   store = c.update.ensures.store ∙ c.loop-one.invariant.store;
-  len = omega (arith, c.update.ensures.len, c.loop-one.invariant.len);
-  steps = omega (arith, c.update.ensures.steps, c.loop-one.invariant.steps);
+  len = count-more _ _ _ c.update.ensures.len c.loop-one.invariant.len;
+  steps = count-more _ _ _ c.update.ensures.steps c.loop-one.invariant.steps;
 }

@@ -1,5 +1,5 @@
 -- The event is refused in the order of the tests, or comes in with its mentions.
-use Rattle.std.proofs.Common.{◌≡◌, ◌+◌, ◌≤◌, Some, length, false, refl, sym, ap, ap₂, subst, ◌∙◌, inl, arith}
+use Rattle.std.proofs.Common.{◌≡◌, ◌+◌, ◌≤◌, ◌<◌, Some, length, false, refl, sym, ap, ap₂, subst, ◌∙◌, inl, add-one-le}
 use Rattle.std.specs.Prelude.{Ok, Err}
 use Rattle.ec_terms.specs.Domain.{entries_of}
 use Rattle.ec_axioms.specs.declared.event.Event.{Event}
@@ -27,8 +27,7 @@ returns-then-is_present-clause-goes g c soon walked = (
 
 pub returns-then-walk-ge-MOST_EVENTS-clause-goes : goal.returns-then-walk-ge-MOST_EVENTS-clause-goes
 returns-then-walk-ge-MOST_EVENTS-clause-goes g c soon walked =
-    let were = walked.count in
-    let full : most_events ≤ length soon = omega arith in (
+    let full : most_events ≤ length soon = subst (λ n. most_events ≤ n) walked.count c.if-walk-ge-MOST_EVENTS.true in (
       refused_full c.args.parts.now.checked soon (event_of g.T.Moment.rank c.args.event.now)
           (sym (present walked c.args.event.now.id) ∙ sym c.is_present.ensures ∙ c.if-is_present.false) full,
       walked,
@@ -36,8 +35,7 @@ returns-then-walk-ge-MOST_EVENTS-clause-goes g c soon walked =
 
 pub returns-in_default-clause-goes : goal.returns-in_default-clause-goes
 returns-in_default-clause-goes g c soon walked =
-    let were = walked.count in
-    let room : length soon + 1 ≤ most_events = omega arith in
+    let room : length soon + 1 ≤ most_events = add-one-le (subst (λ n. n < most_events) walked.count c.if-walk-ge-MOST_EVENTS.false) in
     let absent : has_id c.args.event.now.id soon ≡ false = sym (present walked c.args.event.now.id) ∙ sym c.is_present.ensures ∙ c.if-is_present.false in (
       may_want-asserted c.args.parts.now.checked soon (event_of g.T.Moment.rank c.args.event.now) absent room,
       stays walked _ _ _ refl walked.both (λ id p is. is) (λ id p is. inl is) c.make_room.ensures.same refl (λ id is. is) (λ id is. is),
@@ -45,8 +43,7 @@ returns-in_default-clause-goes g c soon walked =
 
 pub returns-in_default-copy_of-clause-goes : goal.returns-in_default-copy_of-clause-goes
 returns-in_default-copy_of-clause-goes g c soon walked =
-    let were = walked.count in
-    let room : length soon + 1 ≤ most_events = omega arith in
+    let room : length soon + 1 ≤ most_events = add-one-le (subst (λ n. n < most_events) walked.count c.if-walk-ge-MOST_EVENTS.false) in
     let absent : has_id c.args.event.now.id soon ≡ false = sym (present walked c.args.event.now.id) ∙ sym c.is_present.ensures ∙ c.if-is_present.false in (
       may_want-asserted c.args.parts.now.checked soon (event_of g.T.Moment.rank c.args.event.now) absent room,
       stays walked _ _ _ refl walked.both (λ id p is. is) (λ id p is. inl is) c.make_room.ensures.same refl (λ id is. is) (λ id is. is),
@@ -66,8 +63,7 @@ enter-requires g c = record {
 pub returns-in_default-enter-clause-goes : goal.returns-in_default-enter-clause-goes
 returns-in_default-enter-clause-goes g c soon walked =
     let hist = history_of g.T.Moment.rank c.args.parts.now.store.events in
-    let were = walked.count in
-    let room : length soon + 1 ≤ most_events = omega arith in
+    let room : length soon + 1 ≤ most_events = add-one-le (subst (λ n. n < most_events) walked.count c.if-walk-ge-MOST_EVENTS.false) in
     let absent : has_id c.args.event.now.id soon ≡ false = sym (present walked c.args.event.now.id) ∙ sym c.is_present.ensures ∙ c.if-is_present.false in (
       may_want-asserted c.args.parts.now.checked soon (event_of g.T.Moment.rank c.args.event.now) absent room,
       stays walked _ _ _ c.enter.ensures.events
@@ -108,8 +104,7 @@ returns-in-Err-clause-goes g c soon walked =
       shown = c.in-Ok-enter.ensures.entries ∙ ap (λ theory. Some (entries_of theory c.args.event.now.term)) (sym c.enter.ensures.theory);
     } in
     let refused = c.in-Err.ensures.limits hist soon e comes in
-    let were = walked.count in
-    let room : length soon + 1 ≤ most_events = omega arith in (
+    let room : length soon + 1 ≤ most_events = add-one-le (subst (λ n. n < most_events) walked.count c.if-walk-ge-MOST_EVENTS.false) in (
       asked_limits c.args.parts.now.checked soon e absent room
           ∙ subst (λ theory. with_few_mentions theory (with_event e soon) ≡ Err c.in-Err.cut) c.enter.ensures.theory refused.0,
       stays walked _ _ _ (ap (λ (p : Parts _ _ _ _). p.store) c.take_in.ensures.rest ∙ c.enter.ensures.events)
@@ -142,9 +137,8 @@ returns-clause-goes g c soon walked =
     let stand = subst (λ t. StandForBoth rank t hist (with_event e soon) (view_of c.take_in.new.parts) c.take_in.new.tally) c.enter.ensures.theory let_in.1 in
     let shown = shown_after comes c.take_in.new.parts.props c.take_in.ensures.terms ∙ ap (λ t. Some (entries_of t c.args.event.now.term)) c.enter.ensures.theory in
     let store = ap (λ (p : Parts _ _ _ _). p.store) c.take_in.ensures.rest ∙ c.enter.ensures.events in
-    let were = walked.count in
-    let room : length soon + 1 ≤ most_events = omega arith in
-    let free : c.args.walk.now.events + 1 ≤ most_events = omega arith in
+    let room : length soon + 1 ≤ most_events = add-one-le (subst (λ n. n < most_events) walked.count c.if-walk-ge-MOST_EVENTS.false) in
+    let free : c.args.walk.now.events + 1 ≤ most_events = add-one-le c.if-walk-ge-MOST_EVENTS.false in
     rw (asked_limits theory soon e absent room ∙ few ∙ ap (λ (x : Event _). Ok (with_event (event_of rank x) soon)) (sym same))
     (comes_in walked (record { event = copy; entries = entries }) _ _ _ store
     (ap (λ (x : Event _). has_id x.id soon) same ∙ absent) free

@@ -1,5 +1,5 @@
 -- The event that is put in goes out, with its mentions.
-use Rattle.std.proofs.Common.{◌≡◌, ◌≤◌, Some, None, refl, sym, ap, ◌∙◌, inl, arith}
+use Rattle.std.proofs.Common.{◌≡◌, ◌≤◌, Some, None, refl, sym, ap, ◌∙◌, inl, sub-add_cancel}
 use Rattle.std.proofs.Common.{is_some}
 use Rattle.ec_batch.specs.Net.{net_in}
 use Rattle.ec_axioms.specs.Events.{event_of}
@@ -59,4 +59,4 @@ returns-clause-goes g c soon walked =
     c.release_all.ensures.released.terms
     (λ other. put_as c.copied-2.result id other _ _ _ _ _ (c.put.ensures.nets other) c.copied-2.ensures.same
     (ap (λ o. net_of o None) ((walked.nets.touched id c.in-Some.net.now net_is).old)) (c.make_room.ensures.same other))
-    (omega arith) refl c.in-Ok-note_props.ensures.ok)
+    (sub-add_cancel some) refl c.in-Ok-note_props.ensures.ok)

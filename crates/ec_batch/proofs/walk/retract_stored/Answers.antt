@@ -1,5 +1,5 @@
 -- The event of the store goes out of the list to come, with its mentions.
-use Rattle.std.proofs.Common.{◌≡◌, ◌≤◌, ◌++◌, All, None, IfSome, is_some, refl, sym, ap, subst, ◌∙◌, inl, arith}
+use Rattle.std.proofs.Common.{◌≡◌, ◌≤◌, ◌++◌, All, None, IfSome, is_some, refl, sym, ap, subst, ◌∙◌, inl, sub-add_cancel}
 use Rattle.ec_context.specs.Entries.{IsKeptEntry}
 use Rattle.ec_context.proofs.Shown.{IsKeptEntry-shown}
 use Rattle.ec_entries.specs.declared.event_entries.EventEntries.{EventEntries}
@@ -65,4 +65,4 @@ returns-clause-goes g c soon walked =
     c.release_slot.ensures.terms
     (λ other. put_as c.copied.result id other _ _ _ _ _ (c.put.ensures.nets other) c.copied.ensures.same
     (ap (λ o. net_of o None) (sym c.requires.slot)) (c.make_room.ensures.same other))
-    (omega arith) refl noted)
+    (sub-add_cancel some) refl noted)

@@ -1,5 +1,5 @@
 -- Place by place, what stands under a touched identity goes.
-use Rattle.std.proofs.Common.{◌≡◌, ◌≤◌, Some, length, take, refl, sym, ap, subst, ◌∙◌, arith}
+use Rattle.std.proofs.Common.{◌≡◌, ◌≤◌, Some, length, take, refl, sym, ap, subst, ◌∙◌}
 use Rattle.std.specs.Prelude.{slice_get}
 use Rattle.std.proofs.lemmas.List.{take_all}
 use Rattle.ec_store.specs.Store.{history_of}
@@ -60,6 +60,6 @@ returns-clause-halfway g c soon lead =
     let inv = c.loop-i.invariant in
     let entries = c.args.nets.now.entries in
     let rank = g.T.Moment.rank in
-    let end : length entries ≤ c.loop-i.i = omega (arith, c.len-i-end.ensures.len, c.loop-i-test.false) in
+    let end : length entries ≤ c.loop-i.i = subst (λ n. n ≤ c.loop-i.i) c.len-i-end.ensures.len c.loop-i-test.false in
     halfway_at_end lead entries (λ id. is_touched-found id entries) (view_of c.loop-i.parts) c.loop-i.tally (ap (λ (p : Parts _ _ _ _). p.store) inv.rest)
     (subst (λ xs. StandForBoth rank c.args.parts.now.checked (history_of rank c.args.parts.now.store.events) (untouched xs soon) (view_of c.loop-i.parts) c.loop-i.tally) (take_all c.loop-i.i entries end) (inv.so_far soon lead))

@@ -1,5 +1,5 @@
 -- Place by place, what stood under a touched identity comes back.
-use Rattle.std.proofs.Common.{◌≡◌, ◌≤◌, Some, length, drop, sym, ap, subst, ◌∙◌, arith}
+use Rattle.std.proofs.Common.{◌≡◌, ◌≤◌, Some, length, drop, sym, ap, subst, ◌∙◌}
 use Rattle.std.specs.Prelude.{slice_get}
 use Rattle.std.proofs.lemmas.List.{drop_all}
 use Rattle.ec_axioms.specs.Links.{most_mentions}
@@ -8,6 +8,7 @@ use Rattle.ec_parts.specs.declared.parts.Parts.{Parts}
 use Rattle.ec_parts.specs.StandFor.{StandForBoth, view_of}
 use Rattle.ec_batch.specs.declared.net.Net.{Net}
 use Rattle.ec_batch.specs.Undo.{MayRestore, Restores, untouched}
+use Rattle.ec_batch.proofs.Counts.{count-more}
 use Rattle.ec_batch.proofs.Undoing.{few_back, put_back_next, untouched-none}
 use Rattle.ec_batch.proofs.walk_back.restore_nets.Goals as goal
 
@@ -55,7 +56,7 @@ loop-i-preserved g c =
           (back before k (record { both = both; old = c.requires.halfway.old k n c.in-Some.ensures.value; few = few_back theory entries i most_mentions hist _ next c.requires.within.few_mentions }));
       terms = λ id. c.restore_old.ensures.terms id ∙ inv.terms id;
       rest = c.restore_old.ensures.rest ∙ ap (λ (p : Parts _ _ _ _). record p { props = c.restore_old.new.parts.props }) inv.rest;
-      steps = omega (arith, c.restore_old.ensures.steps, inv.steps);
+      steps = count-more _ _ _ c.restore_old.ensures.steps inv.steps;
     }
 
 pub returns-clause-back : goal.returns-clause-back
@@ -64,6 +65,6 @@ returns-clause-back g c =
     let entries = c.args.nets.now.entries in
     let rank = g.T.Moment.rank in
     let hist = history_of rank c.args.parts.now.store.events in
-    let end : length entries ≤ c.loop-i.i = omega (arith, c.len-i-end.ensures.len, c.loop-i-test.false) in
+    let end : length entries ≤ c.loop-i.i = subst (λ n. n ≤ c.loop-i.i) c.len-i-end.ensures.len c.loop-i-test.false in
     subst (λ es. StandForBoth rank c.args.parts.now.checked hist es (view_of c.loop-i.parts) c.loop-i.tally)
     (ap (λ xs. untouched xs hist) (drop_all c.loop-i.i entries end) ∙ untouched-none (Net g.row.T.Denot) hist) inv.so_far

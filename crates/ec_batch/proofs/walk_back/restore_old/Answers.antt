@@ -1,5 +1,5 @@
 -- The event of the store comes back; where the store has none, nothing does.
-use Rattle.std.proofs.Common.{◌≤◌, ◌+◌, ◌^◌, IfSome, All, is_some, length, sym, ap, subst, ◌∙◌, arith}
+use Rattle.std.proofs.Common.{◌≤◌, ◌+◌, ◌^◌, IfSome, All, is_some, length, sym, ap, subst, ◌∙◌}
 use Rattle.ec_axioms.specs.Links.{mentions_of, most_mentions}
 use Rattle.ec_context.specs.Entries.{IsKeptEntry}
 use Rattle.ec_context.proofs.Shown.{IsKeptEntry-shown}
@@ -8,6 +8,7 @@ use Rattle.ec_store.specs.Store.{history_of}
 use Rattle.ec_parts.specs.Mentions.{TakeEventIn, list_props}
 use Rattle.ec_parts.specs.StandFor.{StandForBoth, view_of}
 use Rattle.ec_batch.specs.Undo.{put_back}
+use Rattle.ec_batch.proofs.Counts.{mentions-back}
 use Rattle.ec_batch.proofs.LetIn.{length-list_props, length-mentions_with}
 use Rattle.ec_batch.proofs.Undoing.{not_stored}
 use Rattle.ec_batch.proofs.WalkSteps.{stored_in}
@@ -35,7 +36,7 @@ mention_slot-requires-clause-few g c =
     let made = length-list_props c.args.parts.now.props stored.kept.list _ stored.shown in
     let all = length-mentions_with theory stored.event c.requires.soon in
     let counted = r.both.tables.tally_of.mentions in
-    let here : P stored.kept = omega (arith, few, made, all, counted) in
+    let here : P stored.kept = mentions-back _ _ few all made counted in
     subst (λ o. IfSome o P) (sym stored.kept_is) here
 
 pub returns-in-None-clause-back : goal.returns-in-None-clause-back
