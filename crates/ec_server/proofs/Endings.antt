@@ -1,5 +1,5 @@
 -- How the serving of an input ends.
-use Rattle.std.proofs.Common.{◌≡◌, ◌≤◌, ◌<◌, ℕ, arith, Bool, true, false, ◌⊎◌, List, [], ◌∷◌, ◌++◌, length, refl, sym, subst, inl, inr}
+use Rattle.std.proofs.Common.{◌≡◌, ◌≤◌, ◌<◌, ℕ, ◌+◌, arith, Bool, true, false, ◌⊎◌, List, [], ◌∷◌, ◌++◌, length, refl, sym, ◌∙◌, subst, inl, inr}
 use Rattle.std.specs.Prelude.{Option}
 use Rattle.ec_axioms.specs.Lines.{lines_of, whole_lines}
 use Rattle.ec_replies.specs.State.{State}
@@ -14,7 +14,7 @@ use Rattle.ec_outside.specs.Streams.{IsAtEnd, Kept}
 use Rattle.ec_outside.proofs.Counts.{Rose-earlier}
 use Rattle.ec_server.specs.declared.ending.Ending.{Ending}
 use Rattle.ec_server.specs.declared.ending.Ending.TheVariants.{End, Quit, Limit, ReadFault, WriteFault as Broken}
-use Rattle.ec_server.specs.Ending.{IsEnding, HasEnded, SaysServed}
+use Rattle.ec_server.specs.Ending.{GoesOn, IsEnding, HasEnded, SaysServed}
 use Rattle.ec_server.specs.ExitStatus.{status_of}
 use Rattle.ec_server.specs.Serving.{IsLast}
 use Rattle.ec_server.proofs.Serving.{AnswersLines-line, AnswersLines-so_far, AnswersLines-kept, HasQuit-kept}
@@ -29,6 +29,11 @@ ending_either ending (inr failed) = inr failed.0
 pub ending_fault : {before middle after : ℕ} (ending : Ending) → before ≤ middle → (ending ≡ End) ⊎ ((ending ≡ Broken) × Rose middle after) → ending ≡ Broken → Rose before after
 ending_fault ending counted (inl ended) fault = cc
 ending_fault ending counted (inr failed) fault = Rose-earlier counted failed.1
+
+-- where handing on ended so or failed, a fault was counted if it failed
+pub either_fault : {before middle after : ℕ} (ending so : Ending) → (so ≡ Broken → ⊥) → middle ≡ before → (ending ≡ so) ⊎ ((ending ≡ Broken) × Rose middle after) → ending ≡ Broken → Rose before after
+either_fault ending so other same (inl ended) fault = absurd (other (sym ended ∙ fault))
+either_fault {after = after} ending so other same (inr failed) fault = subst (λ (n : ℕ). Rose n after) same failed.1
 
 module _ {K : Type 0} (stands : K → List ℕ → Type 0) (language : Language) where
   -- the line behind the last line end was handled
@@ -71,6 +76,21 @@ module _ {K : Type 0} (stands : K → List ℕ → Type 0) (language : Language)
   pub IsEnding-broken : (limit : ℕ) (left : Option (List ℕ)) (taken : List ℕ) (start now : K) → length taken ≤ limit → AnswersPart stands language (whole_lines taken) start now
       → IsEnding stands language Broken limit left taken start now
   IsEnding-broken limit left taken start now within part = record { within = within; says = inl part }
+
+  -- the whole lines are answered so far
+  GoesOn-so_far : (taken : List ℕ) (state : State) (start now : K) → IsServing stands language taken state start now → GoesOn stands language taken start now
+  GoesOn-so_far taken state start now serving = record { answers = AnswersLines-so_far refl serving; going = serving.going }
+
+  -- all that the limit allows was taken
+  pub IsEnding-limit : (limit remaining : ℕ) (left : Option (List ℕ)) (taken : List ℕ) (state : State) (start now : K) → length taken + remaining ≡ limit → remaining ≡ 0
+      → IsServing stands language taken state start now → IsEnding stands language Limit limit left taken start now
+  IsEnding-limit limit remaining left taken state start now within none serving =
+      record { within = omega (arith, within); says = (GoesOn-so_far taken state start now serving, omega (arith, within, none)) }
+
+  -- a read failed
+  pub IsEnding-unread : (limit remaining : ℕ) (left : Option (List ℕ)) (taken : List ℕ) (state : State) (start now : K) → length taken + remaining ≡ limit
+      → IsServing stands language taken state start now → IsEnding stands language ReadFault limit left taken start now
+  IsEnding-unread limit remaining left taken state start now within serving = record { within = omega (arith, within); says = GoesOn-so_far taken state start now serving }
 
   -- nothing is left, and all lines are answered or the sink failed within their replies
   pub IsEnding-last : (ending : Ending) (limit : ℕ) (left : Option (List ℕ)) (taken : List ℕ) (start now : K) → IsAtEnd left → length taken < limit

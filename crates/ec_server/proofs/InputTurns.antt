@@ -1,6 +1,7 @@
 -- How far an input is served, turn by turn.
-use Rattle.std.proofs.Common.{◌≡◌, ℕ, ◌+◌, false, List, [], ◌++◌, length, take, Result, Ok, Err, OnOk, append-nil, sym, refl, ap, ◌∙◌, subst, arith, length-append}
+use Rattle.std.proofs.Common.{◌≡◌, ◌≤◌, ◌<◌, ℕ, zero, suc, ◌+◌, ◌-◌, true, false, List, [], ◌++◌, length, take, Result, Ok, Err, OnErr, OnOk, append-nil, sym, refl, ap, ◌∙◌, subst, arith, length-append}
 use Rattle.std.specs.Prelude.{Option, is_err}
+use Rattle.std.proofs.lemmas.List.{length-take-le}
 use Rattle.ec_axioms.specs.Lines.{cut_of}
 use Rattle.ec_replies.specs.State.{State, empty_state}
 use Rattle.ec_replies.specs.Replies.{Language}
@@ -16,10 +17,53 @@ pub Took-none : {a b c : Option (List ℕ)} {taken : List ℕ} (buffer : List �
 Took-none {a} {c = c} {taken = taken} buffer count first second none =
     subst (λ (t : List ℕ). Took a c t) (ap (λ (n : ℕ). taken ++ take n buffer) none ∙ append-nil taken) (Took-then first second)
 
--- what is said of a result without an error
+-- what is said of a result without an error, and of one with an error
 pub from_no_err : {T E P : Type 0} (r : Result T E) → is_err r ≡ false → OnOk r P → P
 from_no_err (Ok x) fine holds = holds
 from_no_err (Err e) fine holds = absurd (cc)
+
+pub from_err : {T E P : Type 0} (r : Result T E) → is_err r ≡ true → OnErr r P → P
+from_err (Ok x) failed holds = absurd (cc)
+from_err (Err e) failed holds = holds
+
+-- ---- numbers of bytes
+
+-- a piece has as many bytes as were read
+pub piece_size : (count most : ℕ) (buffer : List ℕ) → count ≤ most → length buffer ≡ most → length (take count buffer) ≡ count
+piece_size count most buffer within long = length-take-le count buffer (omega (arith, within, long))
+
+pub piece_fits : (count most : ℕ) (buffer : List ℕ) → count ≤ most → length buffer ≡ most → count ≤ length buffer
+piece_fits count most buffer within long = omega (arith, within, long)
+
+-- what a piece leaves of the limit
+pub piece_shorter : (piece : List ℕ) (count remaining : ℕ) → length piece ≡ count → count ≤ remaining → length piece + (remaining - count) ≡ remaining
+piece_shorter piece count remaining size few = omega (arith, size, few)
+
+pub piece_within : (taken piece : List ℕ) (count remaining limit : ℕ) → length taken + remaining ≡ limit → length piece ≡ count → count ≤ remaining → length (taken ++ piece) ≤ limit
+piece_within taken piece count remaining limit within size few = omega (arith, length-append taken piece, within, size, few)
+
+-- what was taken is within the limit, and below it where something of it is left
+pub taken_within : (taken : List ℕ) (remaining limit : ℕ) → length taken + remaining ≡ limit → length taken ≤ limit
+taken_within taken remaining limit within = omega (arith, within)
+
+pub taken_below : (taken : List ℕ) (remaining limit : ℕ) → length taken + remaining ≡ limit → (remaining ≡ 0 → ⊥) → length taken < limit
+taken_below taken zero limit within some = absurd (some refl)
+taken_below taken (suc remaining) limit within some = omega (arith, within)
+
+-- a piece with a byte leaves less
+pub less_left : (count remaining : ℕ) → (count ≡ 0 → ⊥) → count ≤ remaining → remaining - count < remaining
+less_left zero remaining some few = absurd (some refl)
+less_left (suc count) remaining some few = omega (arith, few)
+
+pub some_left : (remaining : ℕ) → (remaining ≡ 0 → ⊥) → 0 < remaining
+some_left zero some = absurd (some refl)
+some_left (suc remaining) some = omega arith
+
+-- ---- turns
+
+-- a read that failed took nothing
+pub Took-same : {a b c : Option (List ℕ)} {taken : List ℕ} → c ≡ b → Took a b taken → Took a c taken
+Took-same {a} {taken = taken} same took = subst (λ (o : Option (List ℕ)). Took a o taken) (sym same) took
 
 -- So many bytes of the limit are left, and the bytes taken so far are served.
 pub record IsTaking {S K : Type 0} (left : S → Option (List ℕ)) (stands : K → List ℕ → Type 0) (language : Language)

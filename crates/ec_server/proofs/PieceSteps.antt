@@ -13,6 +13,13 @@ use Rattle.ec_server.specs.Serving.{IsAt, IsPieceHandled}
 use Rattle.ec_server.proofs.PartialReplies.{AnswersPart-line}
 use Rattle.ec_server.proofs.Serving.{IsServing-piece, IsServing-line, HasQuit-line}
 
+-- what goes on, and what ends with `quit`, did not end with a fault
+pub go_is_quiet : Go ≡ WriteFault → ⊥
+go_is_quiet same = cc
+
+pub bye_is_quiet : Bye ≡ WriteFault → ⊥
+bye_is_quiet same = cc
+
 module _ {K : Type 0} (stands : K → List ℕ → Type 0) (language : Language) where
   -- no line is ready: the feed is at the rest of more bytes
   pub IsAt-part : (taken longer : List ℕ) (state : State) (feed : FeedState) (start now : K) → IsServing stands language taken state start now

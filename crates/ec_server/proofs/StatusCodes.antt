@@ -1,12 +1,13 @@
 -- Exit statuses and their numbers, and shapes.
-use Rattle.std.proofs.Common.{◌≡◌, ◌==◌, ◌⊎◌, ℕ, true, Option, Some, None, IsSome, IsTrue, refl, sym, ap, subst, ◌∙◌, inl, inr, cond}
+use Rattle.std.proofs.Common.{◌≡◌, ◌≤◌, ◌==◌, ◌⊎◌, ℕ, arith, true, Option, Some, None, IsSome, IsTrue, refl, sym, ap, subst, ◌∙◌, inl, inr, cond}
 use Rattle.std.proofs.lemmas.Bool.{false≢true}
+use Rattle.ec_outside.specs.Counts.{Rose}
 use Rattle.ec_server.specs.declared.ending.Ending.{Ending}
-use Rattle.ec_server.specs.declared.ending.Ending.TheVariants.{WriteFault}
+use Rattle.ec_server.specs.declared.ending.Ending.TheVariants as ending
 use Rattle.ec_server.specs.declared.status.Status.{Status}
 use Rattle.ec_server.specs.declared.status.Status.TheVariants as status
 use Rattle.ec_server.specs.ExitStatus.{code_of, hands_on, status_of}
-use Rattle.ec_server.specs.Words.{Shape}
+use Rattle.ec_server.specs.Words.{Shape, check_theory, replay_lines, serve_theory, soak_lines}
 
 -- ---- statuses
 
@@ -56,10 +57,35 @@ hands_on-code s is (inr (inl four)) = subst (λ (t : Status). IsTrue (hands_on t
 hands_on-code s is (inr (inr eight)) = subst (λ (t : Status). IsTrue (hands_on t)) (status_same {s = status.LimitReached} s eight is) refl
 
 -- where serving ended other than by a write that failed, nothing waits
-pub hands_on-ending : (ending : Ending) (waits : ℕ) → (ending ≡ WriteFault) ⊎ (waits ≡ 0) → IsTrue (hands_on (status_of ending)) → waits ≡ 0
+pub hands_on-ending : (e : Ending) (waits : ℕ) → (e ≡ ending.WriteFault) ⊎ (waits ≡ 0) → IsTrue (hands_on (status_of e)) → waits ≡ 0
 unfolding hands_on status_of
-hands_on-ending ending waits (inr none) on = none
-hands_on-ending ending waits (inl fault) on = absurd (false≢true (subst (λ (e : Ending). hands_on (status_of e) ≡ true) fault on))
+hands_on-ending e waits (inr none) on = none
+hands_on-ending e waits (inl fault) on = absurd (false≢true (subst (λ (e : Ending). hands_on (status_of e) ≡ true) fault on))
+
+-- an ending at which no read failed, and one at which no write did
+abbrev pub IsNoReadFault : Ending → Type 0
+IsNoReadFault ending.ReadFault = ⊥
+IsNoReadFault e = Unit {0}
+
+abbrev pub IsNoWriteFault : Ending → Type 0
+IsNoWriteFault ending.WriteFault = ⊥
+IsNoWriteFault e = Unit {0}
+
+-- it is another than the fault
+pub no_read_fault : {e : Ending} → IsNoReadFault e → e ≡ ending.ReadFault → ⊥
+no_read_fault is same = subst (λ (e : Ending). IsNoReadFault e) same is
+
+pub no_write_fault : {e : Ending} → IsNoWriteFault e → e ≡ ending.WriteFault → ⊥
+no_write_fault is same = subst (λ (e : Ending). IsNoWriteFault e) same is
+
+-- where handing on ended so or failed, no read did
+pub either-no_read_fault : {R : Type 0} {e : Ending} {a : Ending} → (e ≡ a) ⊎ ((e ≡ ending.WriteFault) × R) → IsNoReadFault a → e ≡ ending.ReadFault → ⊥
+either-no_read_fault (inl so) is same = no_read_fault is (sym so ∙ same)
+either-no_read_fault (inr failed) is same = no_read_fault tt (sym failed.0 ∙ same)
+
+pub ended_or_broken-no_read_fault : {e : Ending} → (e ≡ ending.End) ⊎ (e ≡ ending.WriteFault) → e ≡ ending.ReadFault → ⊥
+ended_or_broken-no_read_fault (inl ended) same = no_read_fault tt (sym ended ∙ same)
+ended_or_broken-no_read_fault (inr broken) same = no_read_fault tt (sym broken ∙ same)
 
 -- ---- shapes
 
@@ -68,6 +94,17 @@ shape_same one other = let both = sym one ∙ other in cc
 
 pub shape_is_there : {a : Shape} {shape : Option Shape} → shape ≡ Some a → shape ≡ None → ⊥
 shape_is_there one none = let both = sym one ∙ none in cc
+
+-- a shape that asks for no generated lines
+abbrev pub IsNoSoak : Shape → Type 0
+IsNoSoak (check_theory name) = Unit {0}
+IsNoSoak (serve_theory name) = Unit {0}
+IsNoSoak (replay_lines name lines) = Unit {0}
+IsNoSoak (soak_lines lines seed) = ⊥
+
+-- words of such a shape ask for none
+pub no_soak : {a : Shape} {shape : Option Shape} {lines seed : ℕ} → shape ≡ Some a → IsNoSoak a → shape ≡ Some (soak_lines lines seed) → ⊥
+no_soak one is other = subst (λ (s : Shape). IsNoSoak s) (shape_same one other) is
 
 -- ---- either of two
 
@@ -87,6 +124,16 @@ second_of_two (inr b) never = b
 pub quiet-then : {Told : Type 0} {before middle after : ℕ} → middle ≡ before → Told ⊎ (after ≡ middle) → Told ⊎ (after ≡ before)
 quiet-then same (inl told) = inl told
 quiet-then same (inr quiet) = inr (quiet ∙ same)
+
+-- a count that stayed and then rose, did not fall or stayed
+pub Rose-since : {before middle after : ℕ} → middle ≡ before → Rose middle after → Rose before after
+Rose-since {after = after} same rose = subst (λ (n : ℕ). Rose n after) same rose
+
+pub counted-since : {before middle after : ℕ} → middle ≡ before → middle ≤ after → before ≤ after
+counted-since {after = after} same counted = subst (λ (n : ℕ). n ≤ after) same counted
+
+pub counted-same : {before after : ℕ} → after ≡ before → before ≤ after
+counted-same same = omega (arith, same)
 
 -- an option that has a value
 pub some_of : {A : Type 0} (option : Option A) → IsSome option → (a : A) × (option ≡ Some a)

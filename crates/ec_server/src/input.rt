@@ -88,6 +88,7 @@ fn finish<T: Moment, M: MarkRow<T>, I: SpanRow<T>, X: TimeRow<T>, K: Sink, L: Le
 }
 
 /// Hands the output on where the serving ends so.
+#[tactic(none)]
 fn hand_on<K: Sink>(out: &mut K, ending: Ending) -> Ending
     ensures kept { Kept K.stands out.old out.new }
     ensures either { (result ≡ ending) ⊎ ((result ≡ Ending.WriteFault) × Rose (K.faults out.old) (K.faults out.new)) }
@@ -143,6 +144,7 @@ pub(crate) fn serve_input<
             return Ending::ReadFault;
         };
         if count == 0 {
+            #[tactic(none)]
             return finish(sessions, feed, output, steps);
         }
         left -= count as u64;

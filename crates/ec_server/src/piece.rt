@@ -63,6 +63,7 @@ pub fn answer_piece<T: Moment, M: MarkRow<T>, I: SpanRow<T>, X: TimeRow<T>, K: S
         rest = &rest[count..];
         match answer_ready(sessions, feed, out, steps) {
             Handled::Go => {}
+            #[tactic(none)]
             handled => return handled,
         }
     }

@@ -1,12 +1,11 @@
 -- Each turn serves the bytes up to the next line end.
-use Rattle.std.proofs.Common.{◌≡◌, ℕ, List, length, ◌∙◌, refl, subst, arith}
+use Rattle.std.proofs.Common.{◌≡◌, ℕ, List, length, ◌∙◌, refl, subst, inr, arith}
 use Rattle.ec_terms.specs.declared.theory.Theory.{Theory}
 use Rattle.ec_lines.specs.FeedState.{Advances}
 use Rattle.ec_server.specs.Answered.{IsServing}
 use Rattle.ec_server.specs.Serving.{IsAt, IsPieceHandled}
-use Rattle.ec_server.proofs.PieceSteps.{IsUnderWay-start, IsUnderWay-next, IsUnderWay-stop, IsUnderWay-end, empty_list}
-use Rattle.ec_outside.proofs.Counts.{Rose-earlier}
-use Rattle.ec_server.proofs.StatusCodes.{quiet-then, second_of_two}
+use Rattle.ec_server.proofs.PieceSteps.{IsUnderWay-start, IsUnderWay-next, IsUnderWay-stop, IsUnderWay-end, empty_list, go_is_quiet}
+use Rattle.ec_server.proofs.StatusCodes.{Rose-since, counted-same, counted-since, quiet-then, second_of_two}
 use Rattle.ec_server.proofs.piece.answer_piece.Goals as goal
 
 pub loop-rest-init : goal.loop-rest-init
@@ -26,7 +25,7 @@ loop-rest-preserved g c = record {
       → Advances c.push-count.new.self.is_ready c.push-count.new.self taken longer
       → IsAt g.K.Sink.stands (record { theory = theory; spelt = g.T.Moment.spelt; canon = g.T.Moment.canon }) longer c.answer_ready.new.sessions.state c.answer_ready.new.feed start c.answer_ready.new.out)
       c.loop-rest.invariant.theory c.in-Go.ensures.served)
-      c.answer_ready.ensures.ready (second_of_two c.in-Go.ensures.quiet (λ broken. cc));
+      c.answer_ready.ensures.ready (second_of_two c.in-Go.ensures.quiet go_is_quiet);
 }
 
 pub returns-in_default : goal.returns-in_default
@@ -40,13 +39,20 @@ returns-in_default g c = record {
       → IsPieceHandled g.K.Sink.stands (record { theory = theory; spelt = g.T.Moment.spelt; canon = g.T.Moment.canon }) c.answer_ready.result longer c.answer_ready.new.sessions.state c.answer_ready.new.feed start c.answer_ready.new.out)
       c.loop-rest.invariant.theory c.answer_ready.ensures.served);
   ready = c.answer_ready.ensures.ready;
-  failed = λ fault. Rose-earlier (omega (arith, c.loop-rest.invariant.under_way.quiet)) (c.answer_ready.ensures.failed fault);
+  failed = λ fault. Rose-since c.loop-rest.invariant.under_way.quiet (c.answer_ready.ensures.failed fault);
   quiet = quiet-then c.loop-rest.invariant.under_way.quiet c.answer_ready.ensures.quiet;
-  counted = omega (arith, c.loop-rest.invariant.under_way.quiet, c.answer_ready.ensures.counted);
+  counted = counted-since c.loop-rest.invariant.under_way.quiet c.answer_ready.ensures.counted;
 }
 
-pub returns-clause-served : goal.returns-clause-served
-returns-clause-served g c =
+pub returns : goal.returns
+returns g c =
     let none : length c.loop-rest.rest.now ≡ 0 = grind (arith, c.is_empty.ensures, c.loop-rest-test.false) in
-    IsUnderWay-end g.K.Sink.stands g.K.Sink.faults (record { theory = c.args.sessions.now.theory; spelt = g.T.Moment.spelt; canon = g.T.Moment.canon }) c.args.piece.now
-    c.args.sessions.now.state c.args.feed.now c.args.out.now c.loop-rest.rest.now c.loop-rest.sessions.state c.loop-rest.feed c.loop-rest.out c.loop-rest.invariant.under_way (empty_list c.loop-rest.rest.now none)
+    record {
+      theory = c.loop-rest.invariant.theory;
+      served = IsUnderWay-end g.K.Sink.stands g.K.Sink.faults (record { theory = c.args.sessions.now.theory; spelt = g.T.Moment.spelt; canon = g.T.Moment.canon }) c.args.piece.now
+          c.args.sessions.now.state c.args.feed.now c.args.out.now c.loop-rest.rest.now c.loop-rest.sessions.state c.loop-rest.feed c.loop-rest.out c.loop-rest.invariant.under_way (empty_list c.loop-rest.rest.now none);
+      ready = c.loop-rest.invariant.under_way.ready;
+      failed = λ same. absurd (go_is_quiet same);
+      quiet = inr c.loop-rest.invariant.under_way.quiet;
+      counted = counted-same c.loop-rest.invariant.under_way.quiet;
+    }

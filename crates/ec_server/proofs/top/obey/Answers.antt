@@ -2,6 +2,7 @@
 use Rattle.std.proofs.Common.{Some, refl, sym, ap, ◌∙◌}
 use Rattle.ec_server.specs.ShownShape.{plain_shape}
 use Rattle.ec_server.proofs.RunEnds.{Ends-asked}
+use Rattle.ec_server.proofs.StatusCodes.{no_soak, shape_is_there}
 use Rattle.ec_server.proofs.top.obey.Goals as goal
 
 pub returns-in-Some-Check-clause-ends : goal.returns-in-Some-Check-clause-ends
@@ -22,3 +23,21 @@ returns-in-Some-Soak-clause-ends g c =
 
 pub returns-in-None-clause-ends : goal.returns-in-None-clause-ends
 returns-in-None-clause-ends g c = Ends-asked (sym c.in-None.ensures) (record { says = (c.refuse_words.ensures.status, c.refuse_words.ensures.usage, refl, refl) })
+
+pub returns-in-Some-Check-clause-folder : goal.returns-in-Some-Check-clause-folder
+returns-in-Some-Check-clause-folder g c = λ lines seed asks. absurd (no_soak (sym c.in-Some-Check.ensures ∙ ap (λ (s : _). Some (plain_shape s)) c.in-Some-Check.field-0-is) tt asks)
+
+pub returns-in-Some-Check-clause-no_words : goal.returns-in-Some-Check-clause-no_words
+returns-in-Some-Check-clause-no_words g c = λ none. absurd (shape_is_there (sym c.in-Some-Check.ensures) none)
+
+pub returns-in-Some-Serve-clause-folder : goal.returns-in-Some-Serve-clause-folder
+returns-in-Some-Serve-clause-folder g c = λ lines seed asks. absurd (no_soak (sym c.in-Some-Serve.ensures ∙ ap (λ (s : _). Some (plain_shape s)) c.in-Some-Serve.field-0-is) tt asks)
+
+pub returns-in-Some-Serve-clause-no_words : goal.returns-in-Some-Serve-clause-no_words
+returns-in-Some-Serve-clause-no_words g c = λ none. absurd (shape_is_there (sym c.in-Some-Serve.ensures) none)
+
+pub returns-in-Some-Replay-clause-folder : goal.returns-in-Some-Replay-clause-folder
+returns-in-Some-Replay-clause-folder g c = λ lines seed asks. absurd (no_soak (sym c.in-Some-Replay.ensures ∙ ap (λ (s : _). Some (plain_shape s)) c.in-Some-Replay.field-0-is) tt asks)
+
+pub returns-in-Some-Replay-clause-no_words : goal.returns-in-Some-Replay-clause-no_words
+returns-in-Some-Replay-clause-no_words g c = λ none. absurd (shape_is_there (sym c.in-Some-Replay.ensures) none)
