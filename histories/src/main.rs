@@ -3,7 +3,7 @@
 //!
 //!     histories PROGRAM [COUNT]
 //!
-//! PROGRAM is the built program, and COUNT is how many histories are tried. The first difference is told, and ends it with status 1.
+//! PROGRAM is the built program, and COUNT is how many histories are tried. A difference is told, and ends it with status 1.
 mod changes;
 mod dialogue;
 mod drawn_commands;
@@ -22,17 +22,23 @@ use served::Folder;
 use std::env;
 use std::error::Error;
 use std::ffi::OsString;
+use std::num::NonZero;
+use std::panic::resume_unwind;
 use std::path::Path;
 use std::process::ExitCode;
+use std::thread;
 
 /// How many histories are tried where no number is given.
 const HISTORIES: u64 = 2000;
 
-/// Tries the histories of the first seeds. Answers how many lines they have.
-fn try_all(program: &Path, count: u64) -> Result<usize, Box<dyn Error>> {
+/// Tries the histories of these seeds. Answers how many lines they have.
+fn try_some(
+    program: &Path,
+    seeds: impl Iterator<Item = u64>,
+) -> Result<usize, Box<dyn Error + Send + Sync>> {
     let folder = Folder::new()?;
     let mut lines = 0;
-    for seed in 0..count {
+    for seed in seeds {
         let dialogue = Dialogue::of(seed);
         if let Some(difference) = folder.difference(program, &dialogue)? {
             return Err(
@@ -42,6 +48,20 @@ fn try_all(program: &Path, count: u64) -> Result<usize, Box<dyn Error>> {
         lines += dialogue.exchanges.len();
     }
     Ok(lines)
+}
+
+/// Tries the histories of the first seeds, as many at a time as there are processors. Answers how many lines they have.
+fn try_all(program: &Path, count: u64) -> Result<usize, Box<dyn Error + Send + Sync>> {
+    let workers = thread::available_parallelism().map_or(1, NonZero::get);
+    thread::scope(|scope| {
+        let tries: Vec<_> = (0..count.min(workers as u64))
+            .map(|first| scope.spawn(move || try_some(program, (first..count).step_by(workers))))
+            .collect();
+        tries
+            .into_iter()
+            .map(|tried| tried.join().unwrap_or_else(|panic| resume_unwind(panic)))
+            .sum()
+    })
 }
 
 /// How many histories a word asks for.
