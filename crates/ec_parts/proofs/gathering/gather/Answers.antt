@@ -7,7 +7,7 @@ use Rattle.std.proofs.lemmas.List.Sorted.{All-permutation}
 use Rattle.std.proofs.lemmas.Result.{on_ok_weaker}
 use Rattle.ec_rows.specs.declared.mark.Mark.{Mark}
 use Rattle.ec_points.specs.Table.{marks_at}
-use Rattle.ec_parts.specs.Gathered.{AreGathered, initiations_at, marks_under}
+use Rattle.ec_parts.specs.Gathered.{AreGathered, AreInTime, initiations_at, marks_under}
 use Rattle.ec_parts.proofs.GatheredRows.{AreGathered-permuted, AreGathered-none, first-others, few-permuted}
 use Rattle.ec_parts.proofs.gathering.gather.Goals as goal
 
@@ -19,6 +19,11 @@ sorted others collected marks slice is moved same = subst (λ xs. IsPermutation 
 nothing : {X : Type 0} (xs : List X) → length xs < 1 → xs ≡ []
 nothing [] short = refl
 nothing (x ∷ xs) short = absurd (omega arith)
+
+pub push_clashes-requires-clause-order : goal.push_clashes-requires-clause-order
+push_clashes-requires-clause-order g c =
+    subst (AreInTime g.T.Moment.rank) (sym (first-others c.as_slice.result.now c.first-item.result (omega arith) c.first-item.is))
+    (subst (AreInTime g.T.Moment.rank) (sym c.as_slice.ensures.value) c.sort_by_time.ensures.order)
 
 pub push_clashes-requires-clause-counted : goal.push_clashes-requires-clause-counted
 push_clashes-requires-clause-counted g c =
@@ -48,6 +53,9 @@ returns-clause-gathered g c =
     AreGathered-permuted g.T.Moment.rank (marks_under c.args.initiations.now c.args.list.now) c.as_slice.result.now (marks_at c.args.p.0 c.reserve.new.self)
     (sorted (marks_under c.args.initiations.now c.args.list.now) c.in_ok-marks.marks.items c.sort_by_time.new.marks.items c.as_slice.result.now c.in_ok-marks.ensures c.sort_by_time.ensures.same c.as_slice.ensures.value)
     (AreGathered-none g.T.Moment.rank c.as_slice.result.now (marks_at c.args.p.0 c.reserve.new.self) (nothing c.as_slice.result.now c.in-empty.len_below) (c.in_ok-reserve.ensures.grown.marks ∙ c.requires.none))
+
+pub returns-in-len1-up-clause-others : goal.returns-in-len1-up-clause-others
+returns-in-len1-up-clause-others g c n other = c.push_clashes.ensures.others n other ∙ c.reserve.ensures.others n other
 
 pub scale_in_slice-rest : goal.scale_in_slice-rest
 scale_in_slice-rest c = grind (arith, common_steps)

@@ -83,5 +83,8 @@ returns-clause-gathered g c =
     (AreGathered-open g.T.Moment.rank (c.args.first ∷ take c.loop-mark.mark-index c.args.rest.now) (marks_at c.args.p.0 c.loop-mark.points) (marks_at c.args.p.0 c.push-2.new.self) c.loop-mark.open pushed
     c.loop-mark.invariant.so_far)) c.push-2.ensures.ok
 
+pub returns-clause-others : goal.returns-clause-others
+returns-clause-others g c n other = c.push-2.ensures.others n other ∙ c.loop-mark.invariant.others n other
+
 pub returns-in_err-push-clause-initials : goal.returns-in_err-push-clause-initials
 returns-in_err-push-clause-initials c = grind (arith, common_steps)
