@@ -39,6 +39,7 @@ pub mod HitEffects
 pub mod HitEntries
 pub mod HitLemmas
 pub mod NoHits
+pub mod MoreHits
 pub mod HitTurns
 pub mod NotedHits
 pub mod Oks

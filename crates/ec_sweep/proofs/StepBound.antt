@@ -1,5 +1,5 @@
 -- The steps of a sweep that is through.
-use Rattle.std.proofs.Common.{zero, suc, ◌≤◌, ℕ, ℤ, List, [], ◌∷◌, length, take, arith}
+use Rattle.std.proofs.Common.{zero, suc, ◌≤◌, ◌+◌, ℕ, ℤ, List, [], ◌∷◌, length, take, arith}
 use Rattle.std.specs.Prelude.{flat_map, int_le}
 use Rattle.std.proofs.lemmas.List.{length-append}
 use Rattle.ec_lists.proofs.Filters.{length-filter_le}
@@ -24,3 +24,29 @@ removed-few rank change r progress is =
     let few = length-filter_le (λ (removal : Removal _). int_le (rank removal.at) r) change.remove in
     let is_so = is.removed_by in
     omega (arith, few, is_so)
+
+-- ---- sums of steps
+
+-- what is within a sum is so however it is put together
+pub steps-apart : (start seen entries removed : ℕ) {last : ℕ} → last ≤ start + (seen + entries + removed) → last ≤ start + seen + entries + removed
+steps-apart start seen entries removed most = omega arith
+
+-- a sweep that visits another instant
+pub steps-visited : (mid before start after : ℕ) {last : ℕ} → last + before ≤ mid + after → mid ≤ start + before → last ≤ start + after
+steps-visited mid before start after more taken = omega arith
+
+-- one that is through
+pub steps-through : (start : ℕ) {last taken most : ℕ} → taken ≤ most → last ≤ start + taken → last ≤ start + most
+steps-through start few taken = omega arith
+
+-- a look at hits alone
+pub steps-hits : (start hits removed added : ℕ) {last : ℕ} → last ≤ start + hits → last ≤ start + hits + removed + added
+steps-hits start hits removed added looked = omega arith
+
+-- at removed events too
+pub steps-removed : (start hits removed added : ℕ) {mid last : ℕ} → mid ≤ start + hits → last ≤ mid + removed → last ≤ start + hits + removed + added
+steps-removed start hits removed added looked gone = omega arith
+
+-- and at added events
+pub steps-added : (start hits removed added : ℕ) {mid late last : ℕ} → mid ≤ start + hits → late ≤ mid + removed → last ≤ late + added → last ≤ start + hits + removed + added
+steps-added start hits removed added looked gone come = omega arith

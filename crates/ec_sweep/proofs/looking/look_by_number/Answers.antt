@@ -2,6 +2,7 @@
 use Rattle.std.proofs.Common.{refl, inl, inr, arith}
 use Rattle.std.proofs.lemmas.Grind.{common_steps}
 use Rattle.ec_sweep.proofs.HitEntries.{hits-have_entries}
+use Rattle.ec_sweep.proofs.StepBound.{steps-added, steps-hits, steps-removed}
 use Rattle.ec_sweep.proofs.looking.look_by_number.Goals as goal
 
 pub look_at_hits-requires : goal.look_at_hits-requires
@@ -12,24 +13,16 @@ pub returns-in_err-hits-clause-most : goal.returns-in_err-hits-clause-most
 returns-in_err-hits-clause-most g c = inl refl
 
 pub returns-in_err-turns-clause-most : goal.returns-in_err-turns-clause-most
-returns-in_err-turns-clause-most g c = let looked = c.look_at_hits.ensures.most in inr (c.in_ok-hits.hits, c.in_ok-hits.ensures, omega (arith, looked))
+returns-in_err-turns-clause-most g c = inr (c.in_ok-hits.hits, c.in_ok-hits.ensures, steps-hits _ _ _ _ c.look_at_hits.ensures.most)
 
 pub returns-in_err-turn_down_removed-clause-most : goal.returns-in_err-turn_down_removed-clause-most
-returns-in_err-turn_down_removed-clause-most g c =
-    let looked = c.look_at_hits.ensures.most in
-    let removed = c.turn_down_removed.ensures.most in inr (c.in_ok-hits.hits, c.in_ok-hits.ensures, omega (arith, looked, removed))
+returns-in_err-turn_down_removed-clause-most g c = inr (c.in_ok-hits.hits, c.in_ok-hits.ensures, steps-removed _ _ _ _ c.look_at_hits.ensures.most c.turn_down_removed.ensures.most)
 
 pub returns-in_err-turn_up_added-clause-most : goal.returns-in_err-turn_up_added-clause-most
-returns-in_err-turn_up_added-clause-most g c =
-    let looked = c.look_at_hits.ensures.most in
-    let removed = c.turn_down_removed.ensures.most in
-    let added = c.turn_up_added.ensures.most in inr (c.in_ok-hits.hits, c.in_ok-hits.ensures, omega (arith, looked, removed, added))
+returns-in_err-turn_up_added-clause-most g c = inr (c.in_ok-hits.hits, c.in_ok-hits.ensures, steps-added _ _ _ _ c.look_at_hits.ensures.most c.turn_down_removed.ensures.most c.turn_up_added.ensures.most)
 
 pub returns-clause-most : goal.returns-clause-most
-returns-clause-most g c =
-    let looked = c.look_at_hits.ensures.most in
-    let removed = c.turn_down_removed.ensures.most in
-    let added = c.turn_up_added.ensures.most in inr (c.in_ok-hits.hits, c.in_ok-hits.ensures, omega (arith, looked, removed, added))
+returns-clause-most g c = inr (c.in_ok-hits.hits, c.in_ok-hits.ensures, steps-added _ _ _ _ c.look_at_hits.ensures.most c.turn_down_removed.ensures.most c.turn_up_added.ensures.most)
 
 pub same-hits : goal.same-hits
 same-hits c = grind (arith, common_steps)

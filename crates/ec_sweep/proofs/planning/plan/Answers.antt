@@ -3,6 +3,7 @@ use Rattle.std.proofs.Common.{sym, subst, arith}
 use Rattle.std.proofs.lemmas.Grind.{common_steps}
 use Rattle.ec_parts.specs.StandFor.{StandForBoth, view_of}
 use Rattle.ec_sweep.proofs.SameButRoom.{IsPlanned-same, IsReady-planned, StandForBoth-same}
+use Rattle.ec_sweep.proofs.StepBound.{steps-apart}
 use Rattle.ec_sweep.proofs.Through.{IsPlanned-through}
 use Rattle.ec_sweep.proofs.planning.plan.Goals as goal
 
@@ -17,13 +18,13 @@ returns-clause-ready g c = λ new tally underway.
     c.in-Ok-make_room.ensures.events c.in-Ok-make_room.ensures.marks c.in-Ok-make_room.ensures.intervals
 
 pub returns-clause-steps : goal.returns-clause-steps
-returns-clause-steps g c = λ new tally underway. let most = c.sweep_over.ensures.steps new tally underway in omega (arith, most)
+returns-clause-steps g c = λ new tally underway. steps-apart _ _ _ _ (c.sweep_over.ensures.steps new tally underway)
 
 pub returns-in_default-clause-steps : goal.returns-in_default-clause-steps
-returns-in_default-clause-steps g c = λ new tally underway. let most = c.sweep_over.ensures.steps new tally underway in omega (arith, most)
+returns-in_default-clause-steps g c = λ new tally underway. steps-apart _ _ _ _ (c.sweep_over.ensures.steps new tally underway)
 
 pub returns-in_default-make_room-clause-steps : goal.returns-in_default-make_room-clause-steps
-returns-in_default-make_room-clause-steps g c = λ new tally underway. let most = c.sweep_over.ensures.steps new tally underway in omega (arith, most)
+returns-in_default-make_room-clause-steps g c = λ new tally underway. steps-apart _ _ _ _ (c.sweep_over.ensures.steps new tally underway)
 
 pub make_room-requires : goal.make_room-requires
 make_room-requires g c = record { windows = (c.in-Ok.ensures.swept c.requires.new c.requires.tally c.requires.underway).found.planned_up_to.windows }

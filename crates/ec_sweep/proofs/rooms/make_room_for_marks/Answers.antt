@@ -1,5 +1,5 @@
 -- Each row that is passed gets its room, and those that were passed keep theirs.
-use Rattle.std.proofs.Common.{◌∙◌, arith}
+use Rattle.std.proofs.Common.{◌≤◌, subst, ◌∙◌, lt_of_lt_of_le, arith}
 use Rattle.std.proofs.lemmas.Grind.{common_steps}
 use Rattle.ec_sweep.specs.Rooms.{HasRoomIn}
 use Rattle.ec_sweep.proofs.GrownRooms.{AreMarksGrown-chain, AreMarksGrown-one, HasRoomIn-grown, each_up_to-all, each_up_to-more}
@@ -18,7 +18,7 @@ loop-i-preserved g c =
 
 pub returns-clause-room : goal.returns-clause-room
 returns-clause-room g c n touched is =
-    each_up_to-all c.args.touched.now (λ m t. HasRoomIn m t.grows c.loop-i.points) n touched (λ k m t lt at. c.loop-i.invariant.room k m t (omega (arith, c.len-i-end.ensures.len)) at) is
+    each_up_to-all c.args.touched.now (λ m t. HasRoomIn m t.grows c.loop-i.points) n touched (λ k m t lt at. c.loop-i.invariant.room k m t (lt_of_lt_of_le lt (subst (λ m. m ≤ c.loop-i.i) c.len-i-end.ensures.len c.loop-i-test.false)) at) is
 
 pub loop-i-init : goal.loop-i-init
 loop-i-init c = grind (arith, common_steps)

@@ -1,6 +1,5 @@
 -- The parts of the settling of a property, put together.
-use Rattle.std.proofs.Common.{sym, ◌∙◌, arith}
-use Rattle.std.proofs.lemmas.Grind.{common_steps}
+use Rattle.std.proofs.Common.{sym, ◌∙◌, inl}
 use Rattle.std.proofs.lemmas.Bool.{false≢true}
 use Rattle.ec_sweep.proofs.SettledNumbers.{LeavesNumber-from, SettlesNumber-from}
 use Rattle.ec_sweep.proofs.settle_one.settle_one.Goals as goal
@@ -40,8 +39,11 @@ returns-else-is_some-clause-leaves g c =
     (record { dirty = c.set.new.self; agenda = c.args.agenda.now; planned = c.plan_mark.new.planned })
     c.in_ok-plan_mark.ensures c.in_ok-set.ensures.ok
 
+pub make_due-requires : goal.make_due-requires
+make_due-requires g c = c.read_old-old.ensures.next
+
 pub returns-else-is_some-clause-dues : goal.returns-else-is_some-clause-dues
-returns-else-is_some-clause-dues c = grind (arith, common_steps)
+returns-else-is_some-clause-dues g c = record { still = λ n u due. due; only = λ n u due. inl due }
 
 pub returns-in_ok-make_due-clause-dues : goal.returns-in_ok-make_due-clause-dues
-returns-in_ok-make_due-clause-dues c = grind (arith, common_steps)
+returns-in_ok-make_due-clause-dues g c = c.in_ok-make_due.ensures.adds

@@ -9,6 +9,7 @@ use Rattle.ec_sweep.proofs.Lessening.{left_behind-less}
 use Rattle.ec_sweep.proofs.MostSteps.{sweep-few}
 use Rattle.ec_sweep.proofs.NextInstant.{behind}
 use Rattle.ec_sweep.proofs.Singles.{added-order}
+use Rattle.ec_sweep.proofs.StepBound.{steps-through, steps-visited}
 use Rattle.ec_sweep.proofs.sweep.sweep_over.Goals as goal
 
 pub loop-at-init : goal.loop-at-init
@@ -39,28 +40,30 @@ loop-at-smaller g c =
 
 pub returns-in_err-visit-clause-steps : goal.returns-in_err-visit-clause-steps
 returns-in_err-visit-clause-steps g c = λ new tally underway.
-    let most = c.visit.ensures.most new tally underway in
-    let before = c.loop-at.invariant.steps in omega (arith, most, before)
+    steps-visited _ _ _ _ (c.visit.ensures.most new tally underway) c.loop-at.invariant.steps
 
 pub returns-clause-steps : goal.returns-clause-steps
 returns-clause-steps g c = λ new tally underway.
-    let few = sweep-few g.T.Moment.rank c.args.parts.now.checked new (view_of c.args.parts.now) c.args.change.now c.loop-at.sweep (c.loop-at.invariant.sweeping new tally underway) in
-    let before = c.loop-at.invariant.steps in omega (arith, few, before)
+    steps-through _
+    (sweep-few g.T.Moment.rank c.args.parts.now.checked new (view_of c.args.parts.now) c.args.change.now c.loop-at.sweep (c.loop-at.invariant.sweeping new tally underway)) c.loop-at.invariant.steps
 
 pub returns-clause-swept : goal.returns-clause-swept
-returns-clause-swept c = grind (arith, common_steps)
+returns-clause-swept g c = c.loop-at.invariant.sweeping
 
-pub visit-requires-clause-sweeping : goal.visit-requires-clause-sweeping
-visit-requires-clause-sweeping c = grind (arith, common_steps)
-
-pub loop-at-preserved : goal.loop-at-preserved
-loop-at-preserved c = grind (arith, common_steps)
+pub visit-requires-clause-leads : goal.visit-requires-clause-leads
+visit-requires-clause-leads g c = c.requires
 
 pub visit-requires-clause-first : goal.visit-requires-clause-first
-visit-requires-clause-first c = grind (arith, common_steps)
+visit-requires-clause-first g c = c.in-Some.ensures.first
+
+pub visit-requires-clause-there : goal.visit-requires-clause-there
+visit-requires-clause-there g c = c.in-Some.ensures.there
+
+pub visit-requires-clause-sweeping : goal.visit-requires-clause-sweeping
+visit-requires-clause-sweeping g c = c.loop-at.invariant.sweeping
+
+pub loop-at-preserved : goal.loop-at-preserved
+loop-at-preserved g c = record { sweeping = c.in_ok-visit.ensures.sweeping; steps = steps-visited _ _ _ _ c.in_ok-visit.ensures.steps c.loop-at.invariant.steps }
 
 pub returns-clause-done : goal.returns-clause-done
 returns-clause-done c = grind (arith, common_steps)
-
-pub visit-requires-clause-leads : goal.visit-requires-clause-leads
-visit-requires-clause-leads c = grind (arith, common_steps)

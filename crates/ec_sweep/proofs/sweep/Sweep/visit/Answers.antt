@@ -1,5 +1,5 @@
 -- A visit: nothing that is due is due before it; the sweep has come up to just before it, and the look and the settling take it up to it.
-use Rattle.std.proofs.Common.{refl, ap, ◌∙◌, arith}
+use Rattle.std.proofs.Common.{refl, ap, ◌∙◌, add-le-add, le_refl, arith}
 use Rattle.std.proofs.lemmas.Grind.{common_steps}
 use Rattle.ec_numbered.specs.PropSet.{has_number}
 use Rattle.ec_parts.specs.StandFor.{view_of}
@@ -38,8 +38,8 @@ returns-clause-sweeping g c = λ new tally underway.
 
 pub returns-in_err-due-clause-most : goal.returns-in_err-due-clause-most
 returns-in_err-due-clause-most g c = λ new tally underway.
-    let few = sweep-few g.T.Moment.rank c.args.parts.now.checked new (view_of c.args.parts.now) c.args.change.now c.args.self.now (c.requires.sweeping new tally underway) in
-    omega (arith, few)
+    add-le-add (le_refl c.args.steps.now)
+    (sweep-few g.T.Moment.rank c.args.parts.now.checked new (view_of c.args.parts.now) c.args.change.now c.args.self.now (c.requires.sweeping new tally underway))
 
 pub returns-in_err-turns-clause-most : goal.returns-in_err-turns-clause-most
 returns-in_err-turns-clause-most g c =
