@@ -16,7 +16,7 @@ begin_intervals-requires-clause-marks g c n =
     ap (marks_at n) same ∙ c.in_ok-with_initials.ensures.marks n
 
 pub returns-clause-initials : goal.returns-clause-initials
-returns-clause-initials g c = cc (c.in_ok-points.ensures, c.in_ok-with_initials.ensures.initials)
+returns-clause-initials g c = ap (λ points. points.initials) c.in_ok-points.ensures ∙ c.in_ok-with_initials.ensures.initials ∙ c.as_slice.ensures.items
 
 pub returns-clause-marks : goal.returns-clause-marks
 returns-clause-marks g c n = ap (marks_at n) c.in_ok-points.ensures ∙ c.in_ok-with_initials.ensures.marks n

@@ -1,5 +1,6 @@
-use Rattle.std.proofs.Common.{subst, arith}
+use Rattle.std.proofs.Common.{All, sym, subst, arith}
 use Rattle.std.proofs.lemmas.Grind.{common_steps}
+use Rattle.ec_context.specs.Entries.{IsKeptEntry}
 use Rattle.ec_parts.specs.Mentions.{HasMentioned, list_props}
 use Rattle.ec_parts.specs.StandFor.{view_of}
 use Rattle.ec_parts.proofs.CachesKept.{StandForBoth-counted}
@@ -33,3 +34,6 @@ mention_entries-requires-clause-few c = grind (arith, common_steps)
 
 pub returns-clause-mentioned : goal.returns-clause-mentioned
 returns-clause-mentioned c = grind (arith, common_steps)
+
+pub mention_entries-requires-clause-kept : goal.mention_entries-requires-clause-kept
+mention_entries-requires-clause-kept g c = subst (All (IsKeptEntry c.args.parts.now.props)) (sym c.as_slice.ensures.items) c.requires.kept

@@ -1,5 +1,6 @@
-use Rattle.std.proofs.Common.{subst, sym, arith}
+use Rattle.std.proofs.Common.{All, subst, sym, arith}
 use Rattle.std.proofs.lemmas.Grind.{common_steps}
+use Rattle.ec_context.specs.Entries.{IsKeptEntry}
 use Rattle.ec_parts.specs.Mentions.{HasReleased, AreSomeTables, list_props}
 use Rattle.ec_parts.specs.StandFor.{view_of}
 use Rattle.ec_parts.proofs.CachesKept.{StandForBoth-counted}
@@ -33,3 +34,6 @@ returns-clause-both g c now soon event shown history there stand =
 
 pub returns-clause-released : goal.returns-clause-released
 returns-clause-released c = grind (arith, common_steps)
+
+pub release_entries-requires-clause-kept : goal.release_entries-requires-clause-kept
+release_entries-requires-clause-kept g c = subst (All (IsKeptEntry c.args.parts.now.props)) (sym c.as_slice.ensures.items) c.requires.kept
