@@ -1,5 +1,5 @@
 -- The effects of an event, place by place with the entries that are kept of it.
-use Rattle.std.proofs.Common.{◌≡◌, ℕ, ◌+◌, ◌<◌, ◌≤◌, Bool, true, false, ◌&&◌, List, [], ◌∷◌, length, map, find, take, Option, Some, None, option_map, refl, sym, ap, subst, ◌∙◌, arith}
+use Rattle.std.proofs.Common.{◌≡◌, ℕ, ◌+◌, ◌<◌, ◌≤◌, Bool, true, false, ◌&&◌, List, [], ◌∷◌, length, map, find, take, Option, Some, None, option_map, IsSome, refl, sym, ap, subst, ◌∙◌, arith}
 use Rattle.std.specs.Prelude.{ℤ, slice_get}
 use Rattle.std.specs.List.{list_any}
 use Rattle.std.specs.Option.{option_map_or}
@@ -116,6 +116,10 @@ module _ {T : Type 0} (rank : T → ℤ) (theory : Theory) (events : List PlainE
       of (Some kept) here is = record { kept = kept; there = here; entered_as = subst (IsEnteredIn rank theory events table (Some event)) here is }
 
   module _ (store : Store T) (entered : Entered T) (are : AreEntriesOf rank theory events table store entered) (slot : Slot) (event : Event T) (there : event_at slot store.events ≡ Some event) where
+    -- something is kept of it
+    pub is_kept : IsSome (kept_at slot.0 entered.slots)
+    is_kept = let own = kept-of store entered are slot event there in subst (λ (o : Option (EventEntries T)). IsSome o) (sym own.there) refl
+
     -- its time
     pub time-of : (at : T) → option_map (λ (kept : EventEntries T). kept.at) (kept_at slot.0 entered.slots) ≡ Some at → at ≡ event.at
     time-of at is =

@@ -1,5 +1,5 @@
 -- A reason with its causes: what it is made of, what it may cost, and how it is told.
-use Rattle.std.proofs.Common.{◌≡◌, ℕ, ◌*◌, ℤ, Bool, true, false, List, ◌++◌, Option, Some, None, option_map, refl, sym, ap, ap₂, ◌∙◌, arith}
+use Rattle.std.proofs.Common.{◌≡◌, ◌≤◌, ℕ, ◌+◌, ◌*◌, ℤ, Bool, true, false, List, ◌++◌, Option, Some, None, option_map, refl, sym, ap, ap₂, ◌∙◌, arith}
 use Rattle.std.specs.Prelude.{codes, nat_lt}
 use Rattle.std.proofs.lemmas.Bool.{or_parts}
 use Rattle.std.proofs.lemmas.Bool.Decides.{nat_tests}
@@ -41,6 +41,10 @@ module _ (theory : Theory) (events : List PlainEvent) (p : Ground) (t : ℤ) whe
   pub why_steps-of : (reason : PlainReason) → reason ≡ reason_of theory events p t → 2 * reason_count events reason ≡ why_steps theory events p t
   unfolding why_steps
   why_steps-of reason is = ap (λ r. 2 * reason_count events r) is
+
+-- what takes no step takes none too many
+pub no_more_steps : (steps count : ℕ) → steps ≤ steps + 2 * count
+no_more_steps steps count = omega arith
 
 module _ {T : Type 0} (rank : T → ℤ) (theory : Theory) (events : List PlainEvent) (p : Ground) where
   -- the mark at the next break

@@ -110,6 +110,7 @@ fn first_cause<T: Moment, M: MarkRow<T>, I: SpanRow<T>, X: TimeRow<T>, L: Ledger
 {
     let _ = parts.store.len();
     let mut cursor = parts.store.first_at(at);
+    #[tactic(none)]
     while let Some(found) = parts.store.next(cursor) {
         let here = is_at(parts.entries.at(found.0), at);
         if !here {

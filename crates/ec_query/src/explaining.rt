@@ -31,6 +31,7 @@ fn is_up_to<T: Moment>(at: T, end: T) -> bool
 }
 
 /// What a begin of a property came by. It takes two steps at the most for each event at the begin.
+#[tactic(none)]
 fn origin_of<T: Moment, M: MarkRow<T>, I: SpanRow<T>, X: TimeRow<T>, L: Ledger>(
     parts: &Parts<T, M, I, X>,
     id: PropId,

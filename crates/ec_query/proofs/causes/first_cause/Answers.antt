@@ -14,7 +14,7 @@ use Rattle.ec_query.specs.Sought.{is_sought}
 use Rattle.ec_query.proofs.EventWalks.{is_from}
 use Rattle.ec_query.proofs.FirstCauses.{first_among, first_among-at, first_among-first, first_among-none}
 use Rattle.ec_query.proofs.KeptWalks.{IsNext, next-found, next-none, walk-behind, walk-end, walk-first, walk-from, walk-here, walk-on, walk-within}
-use Rattle.ec_query.proofs.ShownEffects.{time-of}
+use Rattle.ec_query.proofs.ShownEffects.{is_kept, time-of}
 use Rattle.ec_query.proofs.causes.first_cause.Goals as goal
 
 pub loop-found-init : goal.loop-found-init
@@ -137,6 +137,20 @@ returns-clause-cause g c = λ events p on.
     ∙ ap (first_among theory events wanted)
     (sym (walk-end rank (rank c.args.at) kept c.loop-found.cursor (next-none kept c.loop-found.cursor c.next.result c.in_default.is c.next.ensures.next)))
     ∙ c.loop-found.invariant.cause events p on
+
+pub at-requires : goal.at-requires
+at-requires g c =
+    let parts = c.args.parts.now in
+    let kept = parts.store.events in
+    let next : IsNext kept c.loop-found.cursor c.in-Some.found.0 c.in-Some.found.1 =
+    next-found kept c.loop-found.cursor c.in-Some.found.0 c.in-Some.found.1 c.in-Some.ensures.next c.in-Some.ensures.event in
+    is_kept g.T.Moment.rank parts.checked c.requires.events parts.props parts.store parts.entries c.requires.on.stand.both.caches.entries_of c.in-Some.found.0 next.event next.named
+
+pub event-event-requires : goal.event-event-requires
+event-event-requires g c = record { live = c.in-Some.ensures.live }
+
+pub first_rule_in-requires-clause-live : goal.first_rule_in-requires-clause-live
+first_rule_in-requires-clause-live g c = c.in-Some.ensures.live
 
 pub first_rule_in-requires-clause-on : goal.first_rule_in-requires-clause-on
 first_rule_in-requires-clause-on c = grind (arith, common_steps)

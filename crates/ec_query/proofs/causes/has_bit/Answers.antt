@@ -1,7 +1,7 @@
--- One bit is asked for as the contract asks for it.
-use Rattle.std.proofs.Common.{arith}
-use Rattle.std.proofs.lemmas.Grind.{common_steps}
+-- The lowest bit behind the shift is the bit that is asked for.
+use Rattle.std.proofs.Common.{◌==◌, ap}
+use Rattle.std.proofs.lemmas.Nat.Bits.{shr_and_one}
 use Rattle.ec_query.proofs.causes.has_bit.Goals as goal
 
 pub returns : goal.returns
-returns c = grind (arith, common_steps)
+returns c = ap (λ bit. bit == 1) (shr_and_one c.args.word c.args.k)

@@ -1,5 +1,5 @@
 -- The count, the front and the spans follow one another.
-use Rattle.std.proofs.Common.{◌++◌, map, refl, sym, ap₂, ◌∙◌, arith}
+use Rattle.std.proofs.Common.{◌++◌, map, refl, sym, ap, ap₂, ◌∙◌, arith}
 use Rattle.std.proofs.lemmas.Grind.{common_steps}
 use Rattle.std.specs.Prelude.{decimal}
 use Rattle.ec_axioms.specs.QueryTexts.{counted_text, interval_text}
@@ -71,4 +71,15 @@ pub returns-clause-counted : goal.returns-clause-counted
 returns-clause-counted c = grind (arith, common_steps)
 
 pub returns-in_err-write_count-clause-part : goal.returns-in_err-write_count-clause-part
-returns-in_err-write_count-clause-part c = grind (arith, common_steps)
+returns-in_err-write_count-clause-part g c =
+    let rank = g.T.Moment.rank in
+    let canon = g.T.Moment.canon in
+    let front = front_at c.args.id.0 c.args.intervals.now in
+    let spans = spans_at c.args.id.0 c.args.intervals.now in
+    let rest = members_text (span_text rank canon) spans in
+    let first = members_text (λ interval. interval_text canon (plain_interval rank interval)) (front_members front) in
+    OnErr-anyway c.from_residual.result
+    (IsLeft-part (decimal c.len.result) (first ++ rest)
+    (IsLeft-start {faults = g.K.Sink.faults} c.args.out.now (counted_text (map (interval_text canon) (plain_intervals rank (members_at c.args.id.0 c.args.intervals.now)))) (decimal c.len.result ++ (first ++ rest))
+    (counted_text-intervals rank canon front spans ∙ ap (λ n. decimal n ++ (first ++ rest)) (sym c.len.ensures)))
+    refl c.in_err-write_count.ensures.part)

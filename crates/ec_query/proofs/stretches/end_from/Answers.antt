@@ -50,3 +50,6 @@ returns-in_err-spans-clause-some c = grind (arith, common_steps)
 
 pub returns-in_err-spans-clause-none : goal.returns-in_err-spans-clause-none
 returns-in_err-spans-clause-none c = grind (arith, common_steps)
+
+pub returns-then-is_eq-clause-none : goal.returns-then-is_eq-clause-none
+returns-then-is_eq-clause-none g c = tt
