@@ -1,5 +1,5 @@
 -- The identity is present, there are too many events, or the event is new.
-use Rattle.std.proofs.Common.{◌≡◌, ◌≤◌, ◌+◌, false, length, is_some, refl, sym, ap, subst, ◌∙◌, arith}
+use Rattle.std.proofs.Common.{◌≡◌, ◌≤◌, ◌<◌, ◌+◌, false, length, is_some, refl, sym, ap, subst, ◌∙◌, add-one-le}
 use Rattle.std.proofs.lemmas.List.{length-map}
 use Rattle.ec_terms.specs.Term.{ground_of}
 use Rattle.ec_axioms.specs.declared.event.Cut.TheVariants.{Duplicate, FullEvents}
@@ -27,7 +27,7 @@ returns-then-len-ge-MOST_EVENTS-clause-arrived g c =
     let e : PlainEvent = record { id = c.args.id; rank = rank c.args.at; term = ground_of c.args.event.now } in
     let absent = has_id-slot_of rank c.args.id c.args.parts.now.store.events ∙ sym (ap is_some c.find.ensures.slot) ∙ sym c.is_some.ensures ∙ c.if-is_some.false in
     let count = c.len.ensures.len ∙ sym (length-map c.args.parts.now.store.events (plain_of rank)) in
-    let full : most_events ≤ length hist = omega arith in
+    let full : most_events ≤ length hist = subst (λ n. most_events ≤ n) count c.if-len-ge-MOST_EVENTS.true in
     (refused_alone c.args.parts.now.checked hist FullEvents e (refused_full c.args.parts.now.checked hist e absent full), c.requires.stand)
 
 pub returns-in_default-clause-arrived : goal.returns-in_default-clause-arrived
@@ -37,7 +37,7 @@ returns-in_default-clause-arrived g c =
     let e : PlainEvent = record { id = c.args.id; rank = rank c.args.at; term = ground_of c.args.event.now } in
     let absent = has_id-slot_of rank c.args.id c.args.parts.now.store.events ∙ sym (ap is_some c.find.ensures.slot) ∙ sym c.is_some.ensures ∙ c.if-is_some.false in
     let count = c.len.ensures.len ∙ sym (length-map c.args.parts.now.store.events (plain_of rank)) in
-    let room : length hist + 1 ≤ most_events = omega arith in
+    let room : length hist + 1 ≤ most_events = add-one-le (subst (λ n. n < most_events) count c.if-len-ge-MOST_EVENTS.false) in
     (may_want_alone c.args.parts.now.checked hist e (may_want-asserted c.args.parts.now.checked hist e absent room), c.requires.stand)
 
 pub arrive_new-requires-clause-absent : goal.arrive_new-requires-clause-absent

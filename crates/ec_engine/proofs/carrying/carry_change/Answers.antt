@@ -1,5 +1,5 @@
 -- The change is made, and what nothing mentions is forgotten; or the tables go back.
-use Rattle.std.proofs.Common.{length, sym, ap, subst, arith}
+use Rattle.std.proofs.Common.{length, sym, ap, subst}
 use Rattle.ec_store.specs.Store.{history_of}
 use Rattle.ec_numbered.specs.PropSet.{has_number}
 use Rattle.ec_parts.specs.StandFor.{StandFor, StandForBoth, view_of}
@@ -8,6 +8,7 @@ use Rattle.ec_batch.specs.Limits.{IsWithinLimits}
 use Rattle.ec_batch.specs.Walk.{AreLiveOrListed}
 use Rattle.ec_batch.proofs.Moved.{AreLiveOrListed-moved}
 use Rattle.ec_engine.proofs.Carried.{IsChange-moved}
+use Rattle.ec_engine.proofs.StepSums.{sums-undone}
 use Rattle.ec_engine.proofs.carrying.carry_change.Goals as goal
 
 pub make_change-requires : goal.make_change-requires
@@ -79,7 +80,4 @@ returns-in-Err-clause-carried g c soon leads =
 
 pub returns-in-Err-clause-steps : goal.returns-in-Err-clause-steps
 returns-in-Err-clause-steps g c soon leads =
-    let planned = c.in-Err.ensures.planned soon c.args.tally.now leads.underway in
-    let same = ap (λ (change : Change _). length change.remove) c.in-Err.ensures.back in
-    let back = c.undo_change.ensures.steps in
-    omega arith
+    sums-undone _ _ _ _ (c.in-Err.ensures.planned soon c.args.tally.now leads.underway) (ap (λ (change : Change _). length change.remove) c.in-Err.ensures.back) c.undo_change.ensures.steps

@@ -1,10 +1,11 @@
 -- The change is taken out of the walk and carried out, or the walk is undone.
-use Rattle.std.proofs.Common.{sym, ap, subst, ◌∙◌, arith}
+use Rattle.std.proofs.Common.{sym, ap, subst, ◌∙◌}
 use Rattle.indexmap.specs.IndexMap.{index_map_len}
 use Rattle.ec_parts.specs.StandFor.{view_of}
 use Rattle.ec_batch.specs.declared.walk.Walk.{Walk}
 use Rattle.ec_batch.specs.Walk.{HasWalked}
 use Rattle.ec_engine.proofs.Carried.{LeadsTo-walked}
+use Rattle.ec_engine.proofs.StepSums.{sums-walked, sums-walked_back}
 use Rattle.ec_engine.proofs.carrying.carry_out.Goals as goal
 
 pub net_change-requires : goal.net_change-requires
@@ -19,10 +20,7 @@ returns-in_default-clause-carried g c soon walked = c.undo.ensures.stand
 
 pub returns-in_default-clause-steps : goal.returns-in_default-clause-steps
 returns-in_default-clause-steps g c soon walked =
-    let same = ap (λ (walk : Walk _). index_map_len walk.nets) c.in_default.ensures.err in
-    let none = c.in_default.ensures.err_steps in
-    let back = c.undo.ensures.steps in
-    omega arith
+    sums-walked_back _ _ _ c.in_default.ensures.err_steps (ap (λ (walk : Walk _). index_map_len walk.nets) c.in_default.ensures.err) c.undo.ensures.steps
 
 pub carry_change-requires-clause-leads : goal.carry_change-requires-clause-leads
 carry_change-requires-clause-leads g c =
@@ -44,9 +42,8 @@ returns-clause-carried g c soon walked =
 
 pub returns-clause-steps : goal.returns-clause-steps
 returns-clause-steps g c soon walked =
-    let carried = c.carry_change.ensures.steps soon
+    sums-walked _ _ _ c.net_change.ensures.steps
+    (c.carry_change.ensures.steps soon
     (LeadsTo-walked g.T.Moment.rank c.args.parts.now.checked (view_of c.args.parts.now) c.args.tally.now c.args.walk soon c.in-Ok.change _ _ walked c.requires.within
     (c.in-Ok.ensures.change soon c.args.tally.now walked)
-    (c.as_slice.ensures.value ∙ ap (λ v. v.items) c.net_change.ensures.fresh) (c.as_slice-2.ensures.value ∙ ap (λ v. v.items) c.net_change.ensures.dying)) in
-    let read = c.net_change.ensures.steps in
-    omega arith
+    (c.as_slice.ensures.value ∙ ap (λ v. v.items) c.net_change.ensures.fresh) (c.as_slice-2.ensures.value ∙ ap (λ v. v.items) c.net_change.ensures.dying)))

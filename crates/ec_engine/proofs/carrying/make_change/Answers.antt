@@ -1,10 +1,11 @@
 -- The plan is made.
-use Rattle.std.proofs.Common.{length, ap, subst, ◌∙◌, arith}
+use Rattle.std.proofs.Common.{length, ap, subst, ◌∙◌}
 use Rattle.ec_axioms.specs.Changes.{change_counts}
 use Rattle.ec_store.specs.Store.{history_of}
 use Rattle.ec_parts.specs.StandFor.{StandForBoth, view_of}
 use Rattle.ec_revise.specs.declared.change.Change.{Change}
 use Rattle.ec_engine.proofs.Carried.{planned-ready, planned-stands}
+use Rattle.ec_engine.proofs.StepSums.{sums-made, sums-planned}
 use Rattle.ec_engine.proofs.WorkDone.{change-steps}
 use Rattle.ec_engine.proofs.carrying.make_change.Goals as goal
 
@@ -36,17 +37,13 @@ returns-in-Ok-clause-made g c new tally underway =
 
 pub returns-in-Ok-clause-steps : goal.returns-in-Ok-clause-steps
 returns-in-Ok-clause-steps g c new tally underway =
-    let planned = c.plan.ensures.steps new tally underway in
-    let made = c.apply.ensures.steps in
-    let same = ap (λ (change : Change _). length change.remove) c.in-Ok.ensures.change in
-    let within = change-steps g.T.Moment.rank c.args.parts.now.checked c.args.parts.now.props c.args.parts.now.store.events new c.args.change underway.change_is in
-    omega arith
+    sums-made _ _ _ _ _ (c.plan.ensures.steps new tally underway) c.apply.ensures.steps (ap (λ (change : Change _). length change.remove) c.in-Ok.ensures.change)
+    (change-steps g.T.Moment.rank c.args.parts.now.checked c.args.parts.now.props c.args.parts.now.store.events new c.args.change underway.change_is)
 
 pub returns-in-Err-clause-planned : goal.returns-in-Err-clause-planned
 returns-in-Err-clause-planned g c new tally underway =
-    let planned = c.plan.ensures.steps new tally underway in
-    let within = change-steps g.T.Moment.rank c.args.parts.now.checked c.args.parts.now.props c.args.parts.now.store.events new c.args.change underway.change_is in
-    omega arith
+    sums-planned _ _ _ _ _ (c.plan.ensures.steps new tally underway)
+    (change-steps g.T.Moment.rank c.args.parts.now.checked c.args.parts.now.props c.args.parts.now.store.events new c.args.change underway.change_is)
 
 pub returns-in-Err-clause-stands : goal.returns-in-Err-clause-stands
 returns-in-Err-clause-stands g c now soon tally stand =

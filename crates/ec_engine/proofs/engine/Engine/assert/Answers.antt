@@ -1,5 +1,5 @@
 -- The event arrives, and its change is carried out.
-use Rattle.std.proofs.Common.{◌≡◌, [], ◌∷◌, sym, ap, subst, ◌∙◌, arith}
+use Rattle.std.proofs.Common.{◌≡◌, [], ◌∷◌, sym, ap, subst, ◌∙◌}
 use Rattle.std.specs.Prelude.{Ok, Err}
 use Rattle.ec_terms.specs.Term.{ground_of}
 use Rattle.ec_axioms.specs.Calculus.{PlainEvent}
@@ -14,6 +14,7 @@ use Rattle.ec_engine.proofs.Arrivals.{IsRevised-turned_away, LeadsTo-moved, stan
 use Rattle.ec_engine.proofs.Carried.{IsCarriedOut-moved}
 use Rattle.ec_engine.proofs.Revising.{IsRevised-carried, IsRevised-no_memory, most_steps-carried}
 use Rattle.ec_engine.proofs.Standings.{IsEngine-standing, seen-same, within-same}
+use Rattle.ec_engine.proofs.StepSums.{sums-arrived}
 use Rattle.ec_engine.proofs.engine.Engine.assert.Goals as goal
 
 pub invariant_of-self : goal.invariant_of-self
@@ -105,7 +106,7 @@ returns-in_default-clause-steps g c =
     ap (λ t. steps_between t (history_of rank later.store.events) soon) c.arrive-arrived.ensures.theory ∙ ap (λ es. steps_between inside.checked (history_of rank es) soon) stored in
     let most = most_steps-carried rank inside.checked hist soon (asserting e ∷ []) (view_of last) counted came.0 in
     let seen = ap (λ (s : Standing). most_steps s.theory s.events (asserting e ∷ [])) (seen-same rank c.deref_mut-parts.result.now c.self.inside.parts.value c.args.self.now c.deref_mut-parts.ensures.value c.self.view_is) in
-    omega arith
+    sums-arrived _ _ _ carried moved most seen
 
 pub invariant_of-self-2 : goal.invariant_of-self-2
 invariant_of-self-2 g c =
@@ -162,4 +163,4 @@ returns-clause-steps g c =
     ap (λ t. steps_between t (history_of rank later.store.events) soon) c.arrive-arrived.ensures.theory ∙ ap (λ es. steps_between inside.checked (history_of rank es) soon) stored in
     let most = most_steps-carried rank inside.checked hist soon (asserting e ∷ []) (view_of last) counted came.0 in
     let seen = ap (λ (s : Standing). most_steps s.theory s.events (asserting e ∷ [])) (seen-same rank c.deref_mut-parts.result.now c.self.inside.parts.value c.args.self.now c.deref_mut-parts.ensures.value c.self.view_is) in
-    omega arith
+    sums-arrived _ _ _ carried moved most seen

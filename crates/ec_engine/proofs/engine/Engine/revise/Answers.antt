@@ -1,5 +1,5 @@
 -- A batch is tried, and its walk is carried out.
-use Rattle.std.proofs.Common.{◌≡◌, map, sym, ap, subst, ◌∙◌, arith}
+use Rattle.std.proofs.Common.{◌≡◌, map, sym, ap, subst, ◌∙◌}
 use Rattle.std.specs.Prelude.{Ok, Err}
 use Rattle.std.proofs.lemmas.List.{length-map}
 use Rattle.ec_axioms.specs.Events.{plain_update}
@@ -14,8 +14,9 @@ use Rattle.ec_batch.proofs.Moved.{HasWalkedTo-moved}
 use Rattle.ec_engine.specs.Revise.{IsRevised, most_steps, steps_between}
 use Rattle.ec_engine.specs.Standing.{Standing}
 use Rattle.ec_engine.proofs.Carried.{IsCarriedOut-moved}
-use Rattle.ec_engine.proofs.Revising.{IsRevised-carried, IsRevised-no_memory, most_steps-carried, most_steps-least, stands_refused}
+use Rattle.ec_engine.proofs.Revising.{IsRevised-carried, IsRevised-no_memory, IsRevised-refused, most_steps-carried, most_steps-least, stands_refused}
 use Rattle.ec_engine.proofs.Standings.{IsEngine-standing, seen-same, within-same}
+use Rattle.ec_engine.proofs.StepSums.{sums-refused, sums-revised}
 use Rattle.ec_engine.proofs.engine.Engine.revise.Goals as goal
 
 pub invariant_of-self : goal.invariant_of-self
@@ -29,13 +30,19 @@ invariant_of-self g c =
     (subst (λ t. StandFor rank t hist (view_of later) c.attempt.new.tally) (sym c.in-Err.ensures.theory) stand)
     (subst (λ t. IsWithinLimits t hist) (sym c.in-Err.ensures.theory) (within-same rank c.deref_mut-parts.result.now c.self.inside.parts.value c.deref_mut-parts.ensures.value c.self.invariant.within))
 
+pub returns-in-Err-clause-revised : goal.returns-in-Err-clause-revised
+returns-in-Err-clause-revised g c =
+    let rank = g.T.Moment.rank in
+    let inside = c.deref_mut-parts.result.now in
+    let later = c.attempt.new.parts in
+    let updates = map (plain_update rank) c.args.batch.now in
+    subst (λ (s : Standing). IsRevised s.theory s.events updates (Err c.in-Err.refusal) (history_of rank later.store.events)) (seen-same rank c.deref_mut-parts.result.now c.self.inside.parts.value c.args.self.now c.deref_mut-parts.ensures.value c.self.view_is)
+    (IsRevised-refused rank inside.checked inside.store.events updates (view_of later) c.attempt.new.tally c.in-Err.refusal c.in-Err.ensures.goes)
+
 pub returns-in-Err-clause-steps : goal.returns-in-Err-clause-steps
 returns-in-Err-clause-steps g c =
     let updates = map (plain_update g.T.Moment.rank) c.args.batch.now in
-    let least = most_steps-least c.args.self.now.theory c.args.self.now.events updates in
-    let count = length-map c.args.batch.now (plain_update g.T.Moment.rank) in
-    let tried = c.attempt.ensures.all_steps in
-    omega arith
+    sums-refused _ _ c.attempt.ensures.all_steps (length-map c.args.batch.now (plain_update g.T.Moment.rank)) (most_steps-least c.args.self.now.theory c.args.self.now.events updates)
 
 pub carry_out-requires-clause-walked : goal.carry_out-requires-clause-walked
 carry_out-requires-clause-walked g c =
@@ -101,10 +108,7 @@ returns-in_default-clause-steps g c =
     ap (λ t. steps_between t (history_of rank later.store.events) went.0) c.in-Ok.ensures.theory ∙ ap (λ es. steps_between inside.checked (history_of rank es) went.0) stored in
     let most = most_steps-carried rank inside.checked hist went.0 updates (view_of last) counted went.1 in
     let seen = ap (λ (s : Standing). most_steps s.theory s.events updates) (seen-same rank c.deref_mut-parts.result.now c.self.inside.parts.value c.args.self.now c.deref_mut-parts.ensures.value c.self.view_is) in
-    let count = length-map c.args.batch.now (plain_update rank) in
-    let tried = c.in-Ok.ensures.steps in
-    let touched = c.in-Ok.ensures.len in
-    omega arith
+    sums-revised _ _ _ c.in-Ok.ensures.steps c.in-Ok.ensures.len carried moved (length-map c.args.batch.now (plain_update rank)) most seen
 
 pub invariant_of-self-2 : goal.invariant_of-self-2
 invariant_of-self-2 g c =
@@ -158,7 +162,4 @@ returns-clause-steps g c =
     ap (λ t. steps_between t (history_of rank later.store.events) went.0) c.in-Ok.ensures.theory ∙ ap (λ es. steps_between inside.checked (history_of rank es) went.0) stored in
     let most = most_steps-carried rank inside.checked hist went.0 updates (view_of last) counted went.1 in
     let seen = ap (λ (s : Standing). most_steps s.theory s.events updates) (seen-same rank c.deref_mut-parts.result.now c.self.inside.parts.value c.args.self.now c.deref_mut-parts.ensures.value c.self.view_is) in
-    let count = length-map c.args.batch.now (plain_update rank) in
-    let tried = c.in-Ok.ensures.steps in
-    let touched = c.in-Ok.ensures.len in
-    omega arith
+    sums-revised _ _ _ c.in-Ok.ensures.steps c.in-Ok.ensures.len carried moved (length-map c.args.batch.now (plain_update rank)) most seen
