@@ -17,7 +17,3 @@ few-mentions most = omega arith
 -- what is counted of mentions that come in again is within the limit
 pub mentions-back : (counted own : ℕ) {all were shown : ℕ} → all ≤ most_mentions → all ≡ own + were → shown ≡ own → counted ≡ were → counted + shown ≤ 2 ^ 21
 mentions-back counted own few sum made count = omega arith
-
--- as many are gathered as there is room for
-pub gathered-room : {gathered sorted all room count : ℕ} → gathered ≤ all → sorted ≡ gathered → all ≤ count → count ≤ room → sorted ≤ room
-gathered-room few same many room = omega arith

@@ -47,7 +47,7 @@ pub room-next : (q : ℕ) (list : List Entry) (i : ℕ) (entry : Entry) → i < 
     count_on q list ≤ all → all ≤ left + count_on q (take i list) → cond (any_on q entry.literals) 1 0 ≤ left
 room-next q list i entry within here all left enough so_far =
     let next = subst (λ (e : Entry). count_on q (take i list) + cond (any_on q e.literals) 1 0 ≤ count_on q list) (sym here)
-        (sum_by_more_le (λ (e : Entry). cond (any_on q e.literals) 1 0) list i entry within) in
+    (sum_by_more_le (λ (e : Entry). cond (any_on q e.literals) 1 0) list i entry within) in
     omega (arith, next, enough, so_far)
 
 -- what the entry found at a place makes

@@ -25,12 +25,12 @@ loop-p-preserved g c =
     let rank = g.T.Moment.rank in
     elim c.if-is_some.branch [
       | then-is_some+in_ok-gather w ↦
-        AreHits-dirty rank c.args.entries.now.slots (rank c.args.at) c.args.dirty.now c.args.due.now c.args.removals.now c.loop-p.p-index p none c.loop-p-test.true refl c.loop-p.hits c.loop-p.invariant
-        (ap is_some (sym c.get.ensures) ∙ sym c.is_some.ensures ∙ w.if-is_some.true) c.if-is_some.hits
-        (λ slot place. ap (has_hit slot place) w.hits-is ∙ w.in_ok-gather.ensures.hits slot place)
-        (λ once. subst (IsDistinct same_hit) (sym w.hits-is) (w.in_ok-gather.ensures.once once))
+          AreHits-dirty rank c.args.entries.now.slots (rank c.args.at) c.args.dirty.now c.args.due.now c.args.removals.now c.loop-p.p-index p none c.loop-p-test.true refl c.loop-p.hits c.loop-p.invariant
+          (ap is_some (sym c.get.ensures) ∙ sym c.is_some.ensures ∙ w.if-is_some.true) c.if-is_some.hits
+          (λ slot place. ap (has_hit slot place) w.hits-is ∙ w.in_ok-gather.ensures.hits slot place)
+          (λ once. subst (IsDistinct same_hit) (sym w.hits-is) (w.in_ok-gather.ensures.once once))
       | else-is_some w ↦
-        subst (AreHits rank c.args.entries.now.slots (rank c.args.at) c.args.dirty.now (take (c.loop-p.p-index + 1) c.args.due.now) c.args.removals.now) (sym w.hits-is)
-        (AreHits-clean rank c.args.entries.now.slots (rank c.args.at) c.args.dirty.now c.args.due.now c.args.removals.now c.loop-p.p-index p none c.loop-p-test.true refl c.loop-p.hits c.loop-p.invariant
-        (ap is_some (sym c.get.ensures) ∙ sym c.is_some.ensures ∙ w.if-is_some.false))
+          subst (AreHits rank c.args.entries.now.slots (rank c.args.at) c.args.dirty.now (take (c.loop-p.p-index + 1) c.args.due.now) c.args.removals.now) (sym w.hits-is)
+          (AreHits-clean rank c.args.entries.now.slots (rank c.args.at) c.args.dirty.now c.args.due.now c.args.removals.now c.loop-p.p-index p none c.loop-p-test.true refl c.loop-p.hits c.loop-p.invariant
+          (ap is_some (sym c.get.ensures) ∙ sym c.is_some.ensures ∙ w.if-is_some.false))
     ]
