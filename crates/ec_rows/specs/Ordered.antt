@@ -1,5 +1,5 @@
 -- Lists in order: what it is for a list to be in order, and the parts that a time or a member cuts out of it.
-use Rattle.std.specs.Prelude.{Bool, true, ◌&&◌, List, [], ◌∷◌, ◌++◌, filter, ℤ, int_lt, int_le, ℕ}
+use Rattle.std.specs.Prelude.{Bool, true, ◌&&◌, List, [], ◌∷◌, ◌++◌, filter, ℤ, int_lt, int_le}
 use Rattle.std.specs.List.{list_all, list_any}
 use Rattle.std.specs.Ordering.{int_eq}
 

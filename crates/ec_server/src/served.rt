@@ -12,6 +12,7 @@ use ec_check::Checked;
 use ec_lines::Feed;
 use ec_moment::Tick;
 use ec_outside::{Sink, Source};
+use ec_rows::{MarkRow, SpanRow, TimeRow};
 use ec_sessions::Sessions;
 use std::alloc::Global;
 use std::marker::Brand;
@@ -20,9 +21,16 @@ use std::sync::ledger::{Blank, Ledger};
 /// The most bytes of input that are taken.
 pub const MOST_INPUT: u64 = 1_099_511_627_776;
 
-/// Serves the lines of an input, with steps that are counted on the ledger of the blank.
+/// Serves the lines of an input, with rows of any kind, and steps that are counted on the ledger of the blank.
 #[tactic(auto, unfolding(crate::specs::ExitStatus::hands_on))]
-fn serve_counted<S: Source, K: Sink, L: Ledger>(
+fn serve_counted<
+    S: Source,
+    K: Sink,
+    L: Ledger,
+    M: MarkRow<Tick>,
+    I: SpanRow<Tick>,
+    X: TimeRow<Tick>,
+>(
     alloc: Global,
     checked: Checked,
     input: &mut S,
@@ -40,9 +48,7 @@ fn serve_counted<S: Source, K: Sink, L: Ledger>(
     let Ok(mut feed) = Feed::new(alloc) else {
         return Status::NoMemory;
     };
-    let made = Sessions::<Tick, BlockMarks<Tick>, BlockSpans<Tick>, BlockTimes<Tick>>::new(
-        alloc, checked,
-    );
+    let made = Sessions::<Tick, M, I, X>::new(alloc, checked);
     let Ok(mut sessions) = made else {
         return Status::NoMemory;
     };
@@ -64,5 +70,12 @@ pub fn serve<S: Source, K: Sink>(
     ensures served { SaysServed S.left S.faults K.stands K.faults (in_ticks checked) limit input.old input.new output.old output.new result }
     ensures handed_on { IsTrue (hands_on result) → K.waiting output.new ≡ 0 }
 {
-    serve_counted::<S, K, Brand>(alloc, checked, input, output, limit, Blank::new(1))
+    serve_counted::<S, K, Brand, BlockMarks<Tick>, BlockSpans<Tick>, BlockTimes<Tick>>(
+        alloc,
+        checked,
+        input,
+        output,
+        limit,
+        Blank::new(1),
+    )
 }
