@@ -1,5 +1,5 @@
 -- A batch that is tried: where the walk begins, and what a refusal leaves.
-use Rattle.std.proofs.Common.{◌≡◌, ℤ, true, List, length, None, is_some, refl, sym, ap, ◌∙◌, arith}
+use Rattle.std.proofs.Common.{◌≡◌, ℤ, List, length, None, is_some, refl, sym, ap, ◌∙◌, arith}
 use Rattle.std.specs.Prelude.{Err}
 use Rattle.std.proofs.lemmas.Bool.{false≢true, or_left}
 use Rattle.ec_terms.specs.declared.theory.Theory.{Theory}

@@ -1,5 +1,5 @@
 -- The list that a batch leaves, update by update.
-use Rattle.std.proofs.Common.{◌≡◌, ◌+◌, ℕ, true, List, [], ◌∷◌, ◌++◌, length, suc, refl, ap, ap₂, ◌∙◌, arith}
+use Rattle.std.proofs.Common.{◌≡◌, ◌+◌, ℕ, true, List, [], ◌∷◌, ◌++◌, length, suc, refl, sym, ap, ap₂, subst, ◌∙◌, arith}
 use Rattle.std.specs.Prelude.{Result, Ok, Err, MatchResult}
 use Rattle.ec_terms.specs.declared.theory.Theory.{Theory}
 use Rattle.ec_axioms.specs.declared.event.Cut.{Cut}
@@ -44,6 +44,10 @@ updated_from-refused theory place soon mid cut front rest update is next =
 pub goes_ok : {A E : Type 0} (r : Result A E) (P : A → Type 0) → MatchResult r P (λ e. ⊥) → (a : A) × (r ≡ Ok a) × P a
 goes_ok (Ok a) P so = (a, refl, so)
 goes_ok (Err e) P so = absurd so
+
+-- what holds of it holds of the answer
+pub goes_on : {A E : Type 0} (r : Result A E) (a : A) (P : A → Type 0) → r ≡ Ok a → P a → MatchResult r P (λ e. ⊥)
+goes_on r a P is so = subst (λ s. MatchResult s P (λ e. ⊥)) (sym is) so
 
 -- ---- where memory may run out for a batch
 

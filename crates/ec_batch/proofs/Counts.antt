@@ -6,6 +6,10 @@ use Rattle.ec_axioms.specs.Links.{most_mentions}
 pub count-more : (mid start i : ℕ) {last : ℕ} → last ≤ mid + 1 → mid ≤ start + i → last ≤ start + (i + 1)
 count-more mid start i more were = omega arith
 
+-- one more in the last of the rounds
+pub count-within : (mid start i rounds : ℕ) {last : ℕ} → last ≤ mid + 1 → mid ≤ start + i → i < rounds → last ≤ start + rounds
+count-within mid start i rounds more were round = omega arith
+
 -- one less is left in each round
 pub count-less : (mid left most : ℕ) {last whole : ℕ} → last ≤ mid + 1 → mid + whole ≤ most → whole ≡ left + 1 → last + left ≤ most
 count-less mid left most more were one_less = omega arith

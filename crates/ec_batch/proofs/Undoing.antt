@@ -15,10 +15,11 @@ use Rattle.ec_lists.proofs.Finds.{find-map}
 use Rattle.ec_lists.proofs.Fronts.{drop-slice_get}
 use Rattle.ec_lists.proofs.Options.{None-from_is_some, None-from_option_map}
 use Rattle.ec_lists.proofs.Numbers.{bytes_eq-turned}
+use Rattle.ec_terms.specs.declared.ids.Slot.{Slot}
 use Rattle.ec_terms.specs.declared.theory.Theory.{Theory}
 use Rattle.ec_axioms.specs.Calculus.{PlainEvent}
 use Rattle.ec_axioms.specs.Changes.{has_id, is_history, with_event, without_event}
-use Rattle.ec_axioms.specs.Links.{event_mentions, mentions_of}
+use Rattle.ec_axioms.specs.Links.{event_mentions, mentions_of, most_mentions}
 use Rattle.ec_axioms.proofs.Histories.{is_history-with_event, is_history-without_event}
 use Rattle.ec_axioms.proofs.OrderedEvents.{is_history-filter}
 use Rattle.ec_store.specs.Store.{Kept, Store, history_of, plain_of, slot_of}
@@ -26,7 +27,7 @@ use Rattle.ec_parts.specs.declared.tally.Tally.{Tally}
 use Rattle.ec_parts.specs.StandFor.{StandForBoth, View}
 use Rattle.ec_store.specs.Table.{term_at}
 use Rattle.ec_batch.specs.declared.net.Net.{Net}
-use Rattle.ec_batch.specs.Undo.{IsHalfway, IsReleasable, LeadTo, is_touched, put_back, untouched}
+use Rattle.ec_batch.specs.Undo.{IsHalfway, IsReleasable, LeadTo, MayRestore, is_touched, put_back, untouched}
 use Rattle.ec_batch.specs.Walk.{event_with}
 use Rattle.ec_batch.proofs.FoundEvents.{event_with-put, event_with-taken, found-id, has_id-found, same_found, without_event-absent}
 use Rattle.ec_batch.proofs.WalkSteps.{IsNet-moved}
@@ -200,6 +201,27 @@ pub few_back : {N : Type 0} (theory : Theory) (xs : List (List ℕ × N)) (i lim
 few_back theory xs i limit events next is few =
     let fewer = length-mentions_untouched theory (drop (i + 1) xs) events in
     subst (λ es. length (mentions_of theory es) ≤ limit) (sym is) (omega arith)
+
+-- what stood under the identity at a place may come back there, in parts of the same theory and store
+pub may_restore_at : {T N : Type 0} (rank : T → ℤ) (theory later : Theory) (view : View T) (tally : Tally) (stored : Store T) (entries : List (List ℕ × N)) (i : ℕ) (k : List ℕ) (n : N) (slot : Option Slot)
+    → later ≡ theory → view.store ≡ stored → IsTrue (is_history (history_of rank stored.events)) → IsDistinct bytes_eq (keys_of entries) → slice_get entries i ≡ Some (k, n) → slot ≡ slot_of k stored.events
+    → length (mentions_of theory (history_of rank stored.events)) ≤ most_mentions
+    → StandForBoth rank theory (history_of rank stored.events) (untouched (drop i entries) (history_of rank stored.events)) view tally → MayRestore rank later view tally slot
+may_restore_at {T} rank theory later view tally stored entries i k n slot theories stores history apart there old few both =
+    let hist = history_of rank stored.events in
+    let before = untouched (drop i entries) hist in
+    let back : length (mentions_of theory (put_back (event_with k hist) before)) ≤ most_mentions =
+    few_back theory entries i most_mentions hist _ (put_back_next entries i k n hist history apart there) few in
+    subst (λ t. MayRestore rank t view tally slot) (sym theories)
+    (record {
+      soon = before;
+      id = k;
+      restorable = record {
+        both = subst (λ (s : Store T). StandForBoth rank theory (history_of rank s.events) before view tally) (sym stores) both;
+        old = old ∙ ap (λ (s : Store T). slot_of k s.events) (sym stores);
+        few = subst (λ (s : Store T). length (mentions_of theory (put_back (event_with k (history_of rank s.events)) before)) ≤ most_mentions) (sym stores) back;
+      };
+    })
 
 -- ---- from end to end
 

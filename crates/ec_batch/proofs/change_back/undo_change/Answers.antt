@@ -9,7 +9,7 @@ use Rattle.ec_parts.specs.StandFor.{StandForBoth, view_of}
 use Rattle.ec_revise.specs.declared.change.Removal.{Removal}
 use Rattle.ec_revise.specs.Change.{removal_before}
 use Rattle.ec_rows.specs.Ordered.{is_ascending}
-use Rattle.ec_batch.specs.Idle.{ForgetsListed, StandForSome}
+use Rattle.ec_batch.specs.Idle.{ForgetsListed}
 use Rattle.ec_batch.specs.Limits.{IsWithinLimits}
 use Rattle.ec_batch.specs.Undo.{untouched}
 use Rattle.ec_batch.specs.UndoChange.{removals_by_id}
@@ -37,12 +37,6 @@ restore_removed-requires-clause-order g c =
 pub restore_removed-requires-clause-within : goal.restore_removed-requires-clause-within
 restore_removed-requires-clause-within g c =
     subst (λ (p : Parts _ _ _ _). IsWithinLimits p.checked (history_of g.T.Moment.rank p.store.events)) (sym c.release_added.ensures.rest) c.requires.within
-
-pub forget_idle-requires : goal.forget_idle-requires
-forget_idle-requires g c =
-    let hist = history_of g.T.Moment.rank c.release_added.new.parts.store.events in
-    subst (λ theory. StandForSome g.T.Moment.rank theory (view_of c.restore_removed.new.parts)) (sym (ap (λ (p : Parts _ _ _ _). p.checked) c.restore_removed.ensures.rest))
-    (record { events = hist; tally = c.restore_removed.new.tally; both = c.restore_removed.ensures.back })
 
 pub returns-clause-stand : goal.returns-clause-stand
 returns-clause-stand g c =

@@ -19,11 +19,6 @@ use Rattle.ec_batch.proofs.LetIn.{shown_after}
 use Rattle.ec_batch.proofs.WalkSteps.{asked_limits, may_want-asserted}
 use Rattle.ec_batch.proofs.coming_in.let_in.Goals as goal
 
-pub enter-requires : goal.enter-requires
-enter-requires g c =
-    let hist = history_of g.T.Moment.rank c.args.parts.now.store.events in
-    record { stand = record { now = hist; soon = hist; tally = c.args.tally.now; few = few-mentions c.requires.within.few_mentions; stand = c.requires.stand.both } }
-
 pub forget_idle-requires : goal.forget_idle-requires
 forget_idle-requires g c =
     let hist = history_of g.T.Moment.rank c.args.parts.now.store.events in
@@ -160,3 +155,15 @@ returns-clause-let_in g c =
       shown = shown_after comes last.props c.take_in.ensures.terms ∙ ap (λ t. Some (entries_of t c.args.event.now.term)) c.enter.ensures.theory;
       listed = listed;
     }
+
+pub returns-in-Err-clause-theory : goal.returns-in-Err-clause-theory
+returns-in-Err-clause-theory g c = c.forget_idle-in-Err.ensures.theory ∙ ap (λ (p : Parts _ _ _ _). p.checked) c.take_in.ensures.rest ∙ c.enter.ensures.theory
+
+pub returns-clause-theory : goal.returns-clause-theory
+returns-clause-theory g c = ap (λ (p : Parts _ _ _ _). p.checked) c.take_in.ensures.rest ∙ c.enter.ensures.theory
+
+pub returns-clause-store : goal.returns-clause-store
+returns-clause-store g c = ap (λ (p : Parts _ _ _ _). p.store) c.take_in.ensures.rest ∙ c.enter.ensures.events
+
+pub returns-in_default-clause-theory : goal.returns-in_default-clause-theory
+returns-in_default-clause-theory g c = c.forget_idle.ensures.theory ∙ c.enter.ensures.theory

@@ -9,18 +9,15 @@ use Rattle.ec_batch.proofs.Forgetting.{mentions_were, passed_more, keeps_live, k
 use Rattle.ec_batch.proofs.idle.forget_idle.Goals as goal
 use Rattle.ec_batch.proofs.WalkSteps.{keeps_terms}
 
-pub forget_one-requires : goal.forget_one-requires
-forget_one-requires g c =
-    let inv = c.loop-p.invariant in
-    subst (λ theory. StandForSome g.T.Moment.rank theory (view_of c.loop-p.parts)) (sym inv.theory)
-    (record { events = c.requires.events; tally = c.requires.tally; both = inv.both c.requires.events c.requires.tally c.requires.both })
-
 pub loop-p-preserved : goal.loop-p-preserved
 loop-p-preserved g c =
     let inv = c.loop-p.invariant in
     let after = c.forget_one.new.parts.props in
     let none : PropId = record { 0 = 0 } in
+    let was = inv.some in
     record {
+      some = subst (λ theory. StandForSome g.T.Moment.rank theory (view_of c.forget_one.new.parts)) (sym c.forget_one.ensures.theory)
+          (record { events = was.events; tally = was.tally; both = c.forget_one.ensures.both was.events was.tally was.both });
       both = λ events tally stand.
           subst (λ theory. StandForBoth g.T.Moment.rank theory events events (view_of c.forget_one.new.parts) tally) inv.theory
           (c.forget_one.ensures.both events tally (subst (λ theory. StandForBoth g.T.Moment.rank theory events events (view_of c.loop-p.parts) tally) (sym inv.theory) (inv.both events tally stand)));

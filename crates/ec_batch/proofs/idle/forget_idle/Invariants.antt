@@ -5,10 +5,12 @@ use Rattle.ec_numbered.specs.PropSet.{has_number}
 use Rattle.ec_parts.specs.declared.tally.Tally.{Tally}
 use Rattle.ec_parts.specs.StandFor.{StandForBoth, view_of}
 use Rattle.ec_store.specs.Table.{mentions_at, term_at}
+use Rattle.ec_batch.specs.Idle.{StandForSome}
 use Rattle.ec_batch.proofs.idle.forget_idle.Given as goal
 
 abbrev pub invariant-loop-p : goal.invariant-loop-p
 invariant-loop-p g l = record {
+  some : StandForSome g.T.Moment.rank l.parts.checked (view_of l.parts);
   both : (events : List PlainEvent) (tally : Tally) → StandForBoth g.T.Moment.rank l.fn.parts.checked events events (view_of l.fn.parts) tally
       → StandForBoth g.T.Moment.rank l.fn.parts.checked events events (view_of l.parts) tally;
   passed : (id : ℕ) → IsTrue (has_number id (take l.p-index l.list)) → mentions_at id l.parts.props ≡ Some 0 → ⊥;

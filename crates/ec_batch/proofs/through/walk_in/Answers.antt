@@ -11,24 +11,12 @@ use Rattle.ec_batch.specs.Build.{history_from}
 use Rattle.ec_batch.specs.Walk.{HasWalkedTo}
 use Rattle.ec_batch.proofs.Batches.{not_both}
 use Rattle.ec_batch.proofs.Built.{asserted-next, history_from-next}
-use Rattle.ec_batch.proofs.Counts.{count-more}
+use Rattle.ec_batch.proofs.Counts.{count-more, count-within}
 use Rattle.ec_batch.proofs.Moved.{HasWalkedTo-moved}
 use Rattle.ec_batch.proofs.through.walk_in.Goals as goal
 
 pub loop-event-init : goal.loop-event-init
-loop-event-init g c = record { so_far = c.requires.walked; theory = refl; store = refl; len = le-add_right _ 0 }
-
-pub assert_event-requires : goal.assert_event-requires
-assert_event-requires g c =
-    let inv = c.loop-event.invariant in
-    let built = history_from (map (event_of g.T.Moment.rank) (take c.loop-event.event-index c.args.list.now)) in
-    record {
-      walked = record {
-        soon = built;
-        to = subst (λ events. HasWalkedTo g.T.Moment.rank c.loop-event.parts.checked events built (view_of c.loop-event.parts) c.loop-event.tally c.loop-event.walk) (sym (ap (λ s. s.events) inv.store))
-            (subst (λ theory. HasWalkedTo g.T.Moment.rank theory c.args.parts.now.store.events built (view_of c.loop-event.parts) c.loop-event.tally c.loop-event.walk) (sym inv.theory) inv.so_far);
-      };
-    }
+loop-event-init g c = record { so_far = c.requires.walked; walked = record { soon = []; to = c.requires.walked }; theory = refl; store = refl; len = le-add_right _ 0 }
 
 pub unreachable-requires : goal.unreachable-requires
 unreachable-requires g c =
@@ -67,6 +55,11 @@ loop-event-preserved g c =
       so_far = subst (λ es. HasWalkedTo rank theory events es (view_of later) c.assert_event.new.tally c.assert_event.new.walk) (sym next)
           (HasWalkedTo-moved rank c.loop-event.parts.checked theory c.loop-event.parts.store.events events (with_event e built) (view_of later) c.assert_event.new.tally c.assert_event.new.walk
           (sym inv.theory) (sym (ap (λ s. s.events) inv.store)) gone);
+      walked = record {
+        soon = with_event e built;
+        to = HasWalkedTo-moved rank c.loop-event.parts.checked later.checked c.loop-event.parts.store.events later.store.events (with_event e built) (view_of later) c.assert_event.new.tally c.assert_event.new.walk
+            c.assert_event.ensures.theory (ap (λ s. s.events) c.assert_event.ensures.store) gone;
+      };
       theory = c.assert_event.ensures.theory ∙ inv.theory;
       store = c.assert_event.ensures.store ∙ inv.store;
       len = count-more _ _ _ c.assert_event.ensures.len inv.len;
@@ -76,3 +69,12 @@ pub returns-clause-goes : goal.returns-clause-goes
 returns-clause-goes g c =
     subst (λ xs. HasWalkedTo g.T.Moment.rank c.args.parts.now.checked c.args.parts.now.store.events (history_from (map (event_of g.T.Moment.rank) xs)) (view_of c.loop-event.parts) c.loop-event.tally c.loop-event.walk)
     (take_all c.loop-event.event-index c.args.list.now c.loop-event-test.false) c.loop-event.invariant.so_far
+
+pub returns-in-Err-Memory-clause-theory : goal.returns-in-Err-Memory-clause-theory
+returns-in-Err-Memory-clause-theory g c = c.assert_event.ensures.theory ∙ c.loop-event.invariant.theory
+
+pub returns-in-Err-Memory-clause-store : goal.returns-in-Err-Memory-clause-store
+returns-in-Err-Memory-clause-store g c = c.assert_event.ensures.store ∙ c.loop-event.invariant.store
+
+pub returns-in-Err-Memory-clause-len : goal.returns-in-Err-Memory-clause-len
+returns-in-Err-Memory-clause-len g c = count-within _ _ _ _ c.assert_event.ensures.len c.loop-event.invariant.len c.loop-event-test.true

@@ -14,6 +14,7 @@ use Rattle.ec_parts.specs.StandFor.{StandForBoth, view_of}
 use Rattle.ec_batch.specs.Limited.{ComesIn}
 use Rattle.ec_batch.specs.Net.{old_slot_by}
 use Rattle.ec_replies.specs.Updates.{with_few_mentions}
+use Rattle.ec_batch.proofs.Batches.{goes_on}
 use Rattle.ec_batch.proofs.LetIn.{shown_after}
 use Rattle.ec_batch.proofs.WalkSteps.{present, old_slots, stays, comes_in, keeps_terms, new_terms, put_as, net_of, refused_present, refused_full, asked_limits, may_want-asserted}
 use Rattle.ec_batch.proofs.walk.assert_event.Goals as goal
@@ -48,17 +49,6 @@ returns-in_default-copy_of-clause-goes g c soon walked =
       may_want-asserted c.args.parts.now.checked soon (event_of g.T.Moment.rank c.args.event.now) absent room,
       stays walked _ _ _ refl walked.both (λ id p is. is) (λ id p is. inl is) c.make_room.ensures.same refl (λ id is. is) (λ id is. is),
     )
-
-pub enter-requires : goal.enter-requires
-enter-requires g c = record {
-  stand = record {
-    now = history_of g.T.Moment.rank c.args.parts.now.store.events;
-    soon = c.requires.walked.soon;
-    tally = c.args.tally.now;
-    few = c.requires.walked.to.few_now;
-    stand = c.requires.walked.to.both;
-  };
-}
 
 pub returns-in_default-enter-clause-goes : goal.returns-in_default-enter-clause-goes
 returns-in_default-enter-clause-goes g c soon walked =
@@ -139,7 +129,7 @@ returns-clause-goes g c soon walked =
     let store = ap (λ (p : Parts _ _ _ _). p.store) c.take_in.ensures.rest ∙ c.enter.ensures.events in
     let room : length soon + 1 ≤ most_events = add-one-le (subst (λ n. n < most_events) walked.count c.if-walk-ge-MOST_EVENTS.false) in
     let free : c.args.walk.now.events + 1 ≤ most_events = add-one-le c.if-walk-ge-MOST_EVENTS.false in
-    rw (asked_limits theory soon e absent room ∙ few ∙ ap (λ (x : Event _). Ok (with_event (event_of rank x) soon)) (sym same))
+    goes_on _ _ _ (asked_limits theory soon e absent room ∙ few ∙ ap (λ (x : Event _). Ok (with_event (event_of rank x) soon)) (sym same))
     (comes_in walked (record { event = copy; entries = entries }) _ _ _ store
     (ap (λ (x : Event _). has_id x.id soon) same ∙ absent) free
     (subst (λ (x : Event _). with_few_mentions theory (with_event (event_of rank x) soon) ≡ Ok (with_event (event_of rank x) soon)) (sym same) few)
@@ -153,3 +143,18 @@ returns-clause-goes g c soon walked =
     ∙ old_slots walked c.args.event.now.id ∙ ap (λ (x : Event _). slot_of x.id events) (sym same)))
     (c.make_room.ensures.same other))
     refl c.enter.ensures.more (λ id is. is))
+
+pub returns-in-Err-clause-theory : goal.returns-in-Err-clause-theory
+returns-in-Err-clause-theory g c = ap (λ (p : Parts _ _ _ _). p.checked) c.take_in.ensures.rest ∙ c.enter.ensures.theory
+
+pub returns-in-Err-clause-store : goal.returns-in-Err-clause-store
+returns-in-Err-clause-store g c = ap (λ (p : Parts _ _ _ _). p.store) c.take_in.ensures.rest ∙ c.enter.ensures.events
+
+pub returns-clause-theory : goal.returns-clause-theory
+returns-clause-theory g c = ap (λ (p : Parts _ _ _ _). p.checked) c.take_in.ensures.rest ∙ c.enter.ensures.theory
+
+pub returns-clause-store : goal.returns-clause-store
+returns-clause-store g c = ap (λ (p : Parts _ _ _ _). p.store) c.take_in.ensures.rest ∙ c.enter.ensures.events
+
+pub put-requires : goal.put-requires
+put-requires g c = c.in-Ok.ensures.room

@@ -6,6 +6,7 @@ use Rattle.ec_axioms.specs.Events.{event_of}
 use Rattle.ec_context.proofs.Shown.{IsKeptEntry-shown}
 use Rattle.ec_store.specs.Store.{history_of}
 use Rattle.ec_parts.specs.declared.parts.Parts.{Parts}
+use Rattle.ec_batch.proofs.Batches.{goes_on}
 use Rattle.ec_batch.proofs.FoundEvents.{found-has_event, has_id-found}
 use Rattle.ec_batch.proofs.WalkSteps.{stays, goes_out_by, added_found, added_shown, present, AreOfEventsWith-found, some_events, put_as, net_of, refused_absent, retracted_present, may_want-retracted}
 use Rattle.ec_batch.proofs.walk.retract_added.Goals as goal
@@ -51,7 +52,7 @@ returns-clause-goes g c soon walked =
     let found = added_found walked id c.in-Some.net.now c.in-Some-new.added net_is c.in-Some-new.is in
     let shown = added_shown walked id c.in-Some.net.now c.in-Some-new.added net_is c.in-Some-new.is in
     let some : 1 ≤ c.args.walk.now.events = some_events walked id (event_of g.T.Moment.rank c.in-Some-new.added.event) found in
-    rw (retracted_present soon id (has_id-found id soon ∙ ap is_some found))
+    goes_on _ _ _ (retracted_present soon id (has_id-found id soon ∙ ap is_some found))
     (goes_out_by walked id (event_of g.T.Moment.rank c.in-Some-new.added.event) c.in-Some-new.added.entries _ _ _
     (ap (λ (p : Parts _ _ _ _). p.store) c.release_all.ensures.rest) found shown (record { in_order = c.len.ensures.order; numbers = c.len.ensures.numbers })
     (c.release_all.ensures.both (history_of g.T.Moment.rank c.args.parts.now.store.events) soon (event_of g.T.Moment.rank c.in-Some-new.added.event) shown walked.history
@@ -60,3 +61,9 @@ returns-clause-goes g c soon walked =
     (λ other. put_as c.copied-2.result id other _ _ _ _ _ (c.put.ensures.nets other) c.copied-2.ensures.same
     (ap (λ o. net_of o None) ((walked.nets.touched id c.in-Some.net.now net_is).old)) (c.make_room.ensures.same other))
     (sub-add_cancel some) refl c.in-Ok-note_props.ensures.ok)
+
+pub returns-clause-theory : goal.returns-clause-theory
+returns-clause-theory g c = ap (λ (p : Parts _ _ _ _). p.checked) c.release_all.ensures.rest
+
+pub returns-clause-store : goal.returns-clause-store
+returns-clause-store g c = ap (λ (p : Parts _ _ _ _). p.store) c.release_all.ensures.rest

@@ -7,6 +7,7 @@ use Rattle.ec_store.specs.Store.{history_of}
 use Rattle.ec_parts.specs.declared.parts.Parts.{Parts}
 use Rattle.ec_parts.specs.Mentions.{AreOfEventsWith, TakeEventOut, list_props}
 use Rattle.ec_parts.specs.StandFor.{StandForBoth, view_of}
+use Rattle.ec_batch.proofs.Batches.{goes_on}
 use Rattle.ec_batch.proofs.FoundEvents.{found-has_event, has_id-found}
 use Rattle.ec_batch.proofs.WalkSteps.{stays, goes_out_by, stored_under, AreOfEventsWith-found, some_events, put_as, net_of, retracted_present, may_want-retracted}
 use Rattle.ec_batch.proofs.walk.retract_stored.Goals as goal
@@ -58,7 +59,7 @@ returns-clause-goes g c soon walked =
     let Q : EventEntries _ → Type 0 = λ kept. c.release_slot.new.noted.items ≡ c.args.walk.now.dying.items ++ list_props kept.list in
     let out : P stored.kept = subst (λ o. IfSome o P) stored.kept_is c.in-Ok-release_slot.ensures.both in
     let noted : Q stored.kept = subst (λ o. IfSome o Q) stored.kept_is c.in-Ok-release_slot.ensures.noted in
-    rw (retracted_present soon id (has_id-found id soon ∙ ap is_some stored.found))
+    goes_on _ _ _ (retracted_present soon id (has_id-found id soon ∙ ap is_some stored.found))
     (goes_out_by walked id stored.event stored.kept.list _ _ _
     (ap (λ (p : Parts _ _ _ _). p.store) c.release_slot.ensures.rest) stored.found stored.shown (record { in_order = c.len.ensures.order; numbers = c.len.ensures.numbers })
     (out (history_of g.T.Moment.rank c.args.parts.now.store.events) soon stored.event stored.shown walked.history (found-has_event id stored.event soon stored.found) walked.both)
@@ -66,3 +67,15 @@ returns-clause-goes g c soon walked =
     (λ other. put_as c.copied.result id other _ _ _ _ _ (c.put.ensures.nets other) c.copied.ensures.same
     (ap (λ o. net_of o None) (sym c.requires.slot)) (c.make_room.ensures.same other))
     (sub-add_cancel some) refl noted)
+
+pub returns-clause-theory : goal.returns-clause-theory
+returns-clause-theory g c = ap (λ (p : Parts _ _ _ _). p.checked) c.release_slot.ensures.rest
+
+pub returns-in_default-release_slot-clause-theory : goal.returns-in_default-release_slot-clause-theory
+returns-in_default-release_slot-clause-theory g c = ap (λ (p : Parts _ _ _ _). p.checked) c.in_default-release_slot.ensures.err
+
+pub returns-clause-store : goal.returns-clause-store
+returns-clause-store g c = ap (λ (p : Parts _ _ _ _). p.store) c.release_slot.ensures.rest
+
+pub returns-in_default-release_slot-clause-store : goal.returns-in_default-release_slot-clause-store
+returns-in_default-release_slot-clause-store g c = ap (λ (p : Parts _ _ _ _). p.store) c.in_default-release_slot.ensures.err

@@ -5,16 +5,11 @@ use Rattle.ec_store.specs.Store.{history_of}
 use Rattle.ec_numbered.specs.PropSet.{has_number}
 use Rattle.ec_parts.specs.declared.parts.Parts.{Parts}
 use Rattle.ec_parts.specs.StandFor.{StandForBoth, view_of}
-use Rattle.ec_batch.specs.Idle.{ForgetsListed, StandForSome}
+use Rattle.ec_batch.specs.Idle.{ForgetsListed}
 use Rattle.ec_batch.specs.Limits.{IsWithinLimits}
 use Rattle.ec_batch.specs.Net.{net_in}
 use Rattle.ec_batch.specs.Undo.{IsHalfway}
 use Rattle.ec_batch.proofs.walk_back.undo.Goals as goal
-
-pub release_nets-requires : goal.release_nets-requires
-release_nets-requires g c =
-    let walked = c.requires.walked.to in
-    record { soon = c.requires.walked.soon; to = record { both = walked.both; history = walked.history; net_to = walked.nets } }
 
 pub restore_nets-requires-clause-halfway : goal.restore_nets-requires-clause-halfway
 restore_nets-requires-clause-halfway g c =
@@ -27,12 +22,6 @@ restore_nets-requires-clause-halfway g c =
 pub restore_nets-requires-clause-within : goal.restore_nets-requires-clause-within
 restore_nets-requires-clause-within g c =
     subst (λ (p : Parts _ _ _ _). IsWithinLimits p.checked (history_of g.T.Moment.rank p.store.events)) (sym c.release_nets.ensures.rest) c.requires.within
-
-pub forget_idle-requires : goal.forget_idle-requires
-forget_idle-requires g c =
-    let hist = history_of g.T.Moment.rank c.release_nets.new.parts.store.events in
-    subst (λ theory. StandForSome g.T.Moment.rank theory (view_of c.restore_nets.new.parts)) (sym (ap (λ (p : Parts _ _ _ _). p.checked) c.restore_nets.ensures.rest))
-    (record { events = hist; tally = c.restore_nets.new.tally; both = c.restore_nets.ensures.back })
 
 pub returns-clause-stand : goal.returns-clause-stand
 returns-clause-stand g c =
