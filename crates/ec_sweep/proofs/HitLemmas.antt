@@ -1,5 +1,5 @@
 -- What is noted of one hit, and of one hit more.
-use Rattle.std.proofs.Common.{◌≡◌, ◌≢◌, ℕ, ℤ, ◌+◌, Bool, true, false, cond, ◌&&◌, ◌||◌, List, [], ◌∷◌, ◌++◌, get_or, map, take, Option, Some, None, is_some, IsTrue, IsSome, refl, sym, ap, ap₂, subst, ◌∙◌, ◌⊎◌, inl, inr, ⊎_elim, append-nil, arith}
+use Rattle.std.proofs.Common.{◌≡◌, ◌≢◌, ℕ, ℤ, ◌+◌, ◌<◌, Bool, true, false, cond, ◌&&◌, ◌||◌, List, [], ◌∷◌, ◌++◌, get_or, length, map, take, Option, Some, None, is_some, IsTrue, IsSome, refl, sym, ap, ap₂, subst, ◌∙◌, ◌⊎◌, inl, inr, ⊎_elim, append-nil, arith}
 use Rattle.std.specs.Prelude.{◌==◌, option_map, option_and_then, slice_get, unwrap_or}
 use Rattle.std.specs.Bool.{beq}
 use Rattle.std.specs.Option.{option_map_or, option_to_list}
@@ -17,12 +17,27 @@ use Rattle.ec_revise.specs.declared.turn.Turn.{Turn}
 use Rattle.ec_delta.specs.declared.flips.Flip.{Flip}
 use Rattle.ec_delta.specs.Looked.{active_of, are_apart, flip_at}
 use Rattle.ec_sweep.specs.declared.hits.Hit.{Hit}
-use Rattle.ec_sweep.specs.Acting.{FlipsHits, WordsHit, acts, acts_at, entry_at, has_hit_in, turn_at, word_found}
+use Rattle.ec_sweep.specs.Acting.{FlipsHits, WordsHit, acts, acts_at, entry_at, has_hit_in, turn_at, turn_of, word_found}
 use Rattle.ec_sweep.specs.Hits.{Slots, has_hit, is_hit}
 use Rattle.ec_sweep.specs.Words.{flip_of, word_at}
 use Rattle.ec_sweep.proofs.WordRows.{flip_at-words}
 
 -- ---- one hit
+
+-- the entry of a hit is within its list
+pub entry_at-within : {T : Type 0} (slots : Slots T) (hit : Hit) (list xs : List Entry) (place : ℕ) → IsSome (entry_at slots hit)
+    → option_map (λ (kept : EventEntries T). kept.list) (kept_at hit.slot.0 slots) ≡ Some list → xs ≡ list → place ≡ hit.place → place < length xs
+entry_at-within {T} slots hit list xs place some is same here = subst (λ ys. place < length ys) (sym same) (subst (λ p. p < length list) (sym here) (of (kept_at hit.slot.0 slots) is some))
+  where
+    in_list : (o : Option Entry) → slice_get list hit.place ≡ o → is_some o ≡ true → hit.place < length list
+    in_list None none fails = absurd (false≢true fails)
+    in_list (Some e) found holds = slice_get_within list hit.place e found
+
+    of : (o : Option (EventEntries T)) → option_map (λ (kept : EventEntries T). kept.list) o ≡ Some list
+        → is_some (option_and_then (λ (kept : EventEntries T). slice_get kept.list hit.place) o) ≡ true → hit.place < length list
+    of None both fails = absurd (false≢true fails)
+    of (Some kept) both holds =
+        in_list (slice_get list hit.place) refl (ap (λ (o : Option (List Entry)). is_some (slice_get (unwrap_or o kept.list) hit.place)) (sym both) ∙ holds)
 
 module _ {T : Type 0} (slots : Slots T) (hit : Hit) (before : ℕ) where
   -- what is read of a hit is its entry
@@ -63,6 +78,15 @@ module _ {T : Type 0} (current : NumberCurrency) (t : ℤ) (slots : Slots T) whe
       → told ≡ told ++ option_to_list (turn_at current t slots hit)
   turn_at-same hit told same =
       sym (append-nil told) ∙ ap (λ (o : Option Turn). told ++ option_to_list o) (sym (cond-true (beq (is_bit_set (active_of (kept_at hit.slot.0 slots)) hit.place) (acts_at current t slots hit)) None _ same))
+
+  -- one that acts as it did not has the turn of its entry
+  pub turn_at-turned : (hit : Hit) (told now : List Turn) (up : Bool) (entry : Entry)
+      → beq (is_bit_set (active_of (kept_at hit.slot.0 slots)) hit.place) (acts_at current t slots hit) ≡ false
+      → acts_at current t slots hit ≡ up → entry_at slots hit ≡ Some entry → now ≡ told ++ turn_of up entry ∷ [] → now ≡ told ++ option_to_list (turn_at current t slots hit)
+  turn_at-turned hit told now up entry turned acts is more =
+      more
+      ∙ ap (λ (o : Option Turn). told ++ option_to_list o)
+      (sym (cond-false (beq (is_bit_set (active_of (kept_at hit.slot.0 slots)) hit.place) (acts_at current t slots hit)) None _ turned ∙ ap₂ (λ b o. option_map (turn_of b) o) acts is))
 
   -- the words say of one hit whether it acts
   pub WordsHit-one : (hit : Hit) (before : ℕ) (now : Bool) (old new : List (ℕ × ℕ)) → active_of (kept_at hit.slot.0 slots) ≡ before → acts_at current t slots hit ≡ now

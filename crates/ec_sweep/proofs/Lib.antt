@@ -55,3 +55,4 @@ pub mod SameMembers
 pub mod ShownActivity
 pub mod Turning
 pub mod WordRows
+pub mod Orders

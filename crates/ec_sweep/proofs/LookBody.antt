@@ -1,5 +1,5 @@
 -- What the body of the look needs of a change: its lists in order of time, and the parts of them at an instant.
-use Rattle.std.proofs.Common.{◌≡◌, ℕ, ℤ, ◌+◌, ◌-◌, ◌≤◌, Bool, true, not, ◌&&◌, ◌||◌, List, ◌++◌, filter, flat_map, length, map, drop, take, Option, Some, None, IsTrue, refl, sym, ap, subst, ◌∙◌, length-drop, arith}
+use Rattle.std.proofs.Common.{◌≡◌, ℕ, ℤ, ◌+◌, ◌-◌, ◌≤◌, Bool, true, not, ◌&&◌, ◌||◌, List, ◌++◌, filter, flat_map, length, map, drop, take, Option, Some, None, IsTrue, refl, sym, ap, ap₂, subst, ◌∙◌, length-drop, arith}
 use Rattle.std.specs.Prelude.{int_le, int_lt, nat_lt, option_map, IsSome, is_some}
 use Rattle.std.specs.List.{All}
 use Rattle.std.specs.Ordering.{int_eq}
@@ -40,6 +40,7 @@ use Rattle.ec_store.specs.Table.{KeptProp}
 use Rattle.ec_revise.specs.declared.change.Change.{Change}
 use Rattle.ec_revise.specs.declared.change.Removal.{Removal}
 use Rattle.ec_revise.specs.Change.{IsChange, entries_to_show, removal_before}
+use Rattle.ec_context.specs.declared.entry.Entry.{Entry}
 use Rattle.ec_context.specs.Entries.{shown_entries}
 use Rattle.ec_rows.specs.Ordered.{is_ascending}
 use Rattle.ec_rows.proofs.OrderedPairs.{IsPairwise-ascending, ascending-from_pairwise, IsPairwise-from_map}
@@ -62,6 +63,14 @@ length-flat_map-between f xs m n within =
 pub length-between : {X : Type 0} (xs : List X) (m n : ℕ) → m ≤ n → n ≤ length xs → m + length (drop m (take n xs)) ≡ n
 length-between xs m n within few =
     let taken = length-take-le n xs few in let dropped = length-drop m (take n xs) in omega arith
+
+-- a part of a list that is another list, up to a place that is another place
+pub part-same : {X : Type 0} (m : ℕ) {part xs ys : List X} {n k : ℕ} → part ≡ drop m (take n xs) → xs ≡ ys → n ≡ k → part ≡ drop m (take k ys)
+part-same m is lists places = is ∙ ap₂ (λ n xs. drop m (take n xs)) places lists
+
+-- what is counted of a list that is another list
+pub count-same : {X : Type 0} (p : X → Bool) {n : ℕ} {xs ys : List X} → n ≡ length (filter p xs) → xs ≡ ys → n ≡ length (filter p ys)
+count-same p is lists = is ∙ ap (λ xs. length (filter p xs)) lists
 
 -- what is shown of a part is a part of what is shown
 pub map-between : {X Y : Type 0} (f : X → Y) (xs : List X) (m n : ℕ) → map f (drop m (take n xs)) ≡ drop m (take n (map f xs))
@@ -156,14 +165,14 @@ module _ {T : Type 0} (rank : T → ℤ) (theory : Theory) (new : List PlainEven
           ap is_some (entered-event rank theory (history_of rank view.store.events) view.table view.store view.entries can.underway.both.caches.entries_of removal.slot event there).1
 
   -- What was done by slots and numbers with the parts of the lists at the instant is the look there.
-  pub HasLooked-between : IsOneToOne view.table → AreAtSlots view.store.events → (after : Looked) (turns : List Turn)
-      → HasLookedBy rank (is_current_over rank view.points dirty) view.entries.slots t dirty due (drop progress.removed (take (removed_by t) change.remove))
-      (drop progress.added (take (added_by t) change.entries)) looked after turns
+  pub HasLooked-between : IsOneToOne view.table → AreAtSlots view.store.events → (removals : List (Removal T)) (lists : List (List Entry))
+      → removals ≡ drop progress.removed (take (removed_by t) change.remove) → lists ≡ drop progress.added (take (added_by t) change.entries) → (after : Looked) (turns : List Turn)
+      → HasLookedBy rank (is_current_over rank view.points dirty) view.entries.slots t dirty due removals lists looked after turns
       → HasLooked rank theory new view change t dirty agenda planned looked after active turns
-  HasLooked-between one slots after turns by =
+  HasLooked-between one slots removals lists gone come after turns by =
       HasLooked-by_number rank theory new view tally change r t dirty agenda due looked planned active progress can one slots
       (added-ordered rank theory view.table view.store.events new change can.underway.change_is)
-      (drop progress.removed (take (removed_by t) change.remove)) removals-there (drop progress.added (take (added_by t) change.add)) (drop progress.added (take (added_by t) change.entries))
+      removals (gone ∙ removals-there) (drop progress.added (take (added_by t) change.add)) lists
       (ap (λ n. drop n (take (added_by t) change.add)) can.progress_is.added_by)
-      (entries-between rank theory view.table view.store.events new change can.underway.change_is progress.added (added_by t))
+      (ap (map (shown_entries view.table)) come ∙ entries-between rank theory view.table view.store.events new change can.underway.change_is progress.added (added_by t))
       after turns by

@@ -1,6 +1,6 @@
 -- What a sweep takes at most of steps, whether it ends or not.
-use Rattle.std.proofs.Common.{◌≡◌, ◌≤◌, ◌+◌, ℕ, ℤ, pos, ◌+ℤ◌, Bool, ◌&&◌, List, drop, filter, length, take, sym, ap, ◌∙◌, inl, inr, arith}
-use Rattle.std.specs.Prelude.{int_le, int_lt}
+use Rattle.std.proofs.Common.{◌≡◌, ◌≤◌, ◌+◌, ◌*◌, ℕ, ℤ, pos, ◌+ℤ◌, Bool, ◌&&◌, List, drop, filter, length, take, sym, ap, subst, ◌∙◌, inl, inr, arith}
+use Rattle.std.specs.Prelude.{flat_map, int_le, int_lt}
 use Rattle.std.proofs.lemmas.Bool.{and_parts}
 use Rattle.ec_lists.proofs.Filters.{length-filter_le, length-filter_wider}
 use Rattle.ec_terms.specs.declared.ids.PropId.{PropId}
@@ -32,7 +32,7 @@ use Rattle.ec_sweep.specs.Visiting.{CanLook, most_steps, steps_for}
 use Rattle.ec_sweep.proofs.HitEffects.{effects_of_hits, hit-effect, hits-seen, length-effects}
 use Rattle.ec_sweep.proofs.LookBody.{added-further, length-between, length-flat_map-between, removals-there, removed-further}
 use Rattle.ec_sweep.proofs.ReadingEntries.{AreAtSlots}
-use Rattle.ec_sweep.proofs.StepBound.{length-flat_map_take, removed-few}
+use Rattle.ec_sweep.proofs.StepBound.{length-flat_map_take, removed-few, steps-looked}
 
 -- entries that see a change up to an instant are no more than all that do
 kept_count-few : (theory : Theory) (old new : List PlainEvent) (t : ℤ) → kept_count theory old new (sees theory old new) t ≤ (change_counts theory old new).seen
@@ -54,6 +54,18 @@ pub sweep-few : {T : Type 0} (rank : T → ℤ) (theory : Theory) (new : List Pl
     → steps_for change sweep.looked sweep.progress ≤ most_steps theory (history_of rank view.store.events) new change
 sweep-few rank theory new view change sweep sweeping =
     steps_for-few rank theory (history_of rank view.store.events) new change sweeping.r sweep.looked sweep.progress sweeping.found.swept.seen sweeping.found.progress_is
+
+-- a look that is done takes of steps what a sweep may take for what was met there
+pub look-steps : {T : Type 0} (change : Change T) (looked after : Looked) (progress now : Progress) (removals : List (Removal T)) (lists : List (List Entry)) (start last : ℕ)
+    → removals ≡ drop progress.removed (take now.removed change.remove) → lists ≡ drop progress.added (take now.added change.entries)
+    → progress.removed ≤ now.removed → now.removed ≤ length change.remove → progress.added ≤ now.added
+    → last + 2 * looked.seen ≡ start + 2 * after.seen + length removals + length (flat_map (λ list. list) lists) → last + steps_for change looked progress ≤ start + steps_for change after now
+look-steps change looked after progress now removals lists start last gone come removed_on within added_on told =
+    steps-looked start last looked.seen after.seen progress.removed (length (flat_map (λ (entries : List Entry). entries) (take progress.added change.entries)))
+    (length removals) (length (flat_map (λ (entries : List Entry). entries) lists)) told
+    (ap (λ (rs : List (Removal _)). progress.removed + length rs) gone ∙ length-between change.remove progress.removed now.removed removed_on within)
+    (length-flat_map-between (λ (entries : List Entry). entries) change.entries progress.added now.added added_on
+    ∙ ap (λ ls. length (flat_map (λ (entries : List Entry). entries) (take progress.added change.entries)) + length (flat_map (λ (entries : List Entry). entries) ls)) (sym come))
 
 module _ {T : Type 0} (rank : T → ℤ) (theory : Theory) (new : List PlainEvent) (view : View T) (tally : Tally) (change : Change T) (r t : ℤ) (dirty : DirtyRows)
     (agenda : List (Due T)) (due : List PropId) (looked : Looked) (planned : Planned T) (active : Effect → Bool) (progress : Progress)
@@ -86,12 +98,12 @@ module _ {T : Type 0} (rank : T → ℤ) (theory : Theory) (new : List PlainEven
       let few = kept_count-few theory old new (t +ℤ pos 1) in omega (arith, seen_there, many, goes_on, before, few)
 
   -- so a look takes the sweep no further than the most
-  pub look-most : (before after : ℕ)
+  taken-most : (before after : ℕ)
       → TakesSteps rank view.entries.slots t dirty due (drop progress.removed (take removed_by change.remove)) (drop progress.added (take added_by change.entries)) before after
       → after + steps_for change looked progress ≤ before + most_steps theory old new change
-  look-most before after (inl same) =
+  taken-most before after (inl same) =
       let few = steps_for-few rank theory old new change r looked progress can.swept.seen can.progress_is in omega (arith, few, same)
-  look-most before after (inr taken) =
+  taken-most before after (inr taken) =
       let counted = hits-counted taken.0 taken.1 in
       let removed_on = removed-further rank theory new view tally change r t dirty agenda due looked planned active progress can in
       let removed_few = length-filter_le (λ (removal : Removal T). int_le (rank removal.at) t) change.remove in
@@ -100,3 +112,12 @@ module _ {T : Type 0} (rank : T → ℤ) (theory : Theory) (new : List PlainEven
       let shown = length-flat_map-between (λ (entries : List Entry). entries) change.entries progress.added added_by added_on in
       let added_few = length-flat_map_take added_by change.entries in
       let steps = taken.2 in omega (arith, counted, removed_few, met, shown, added_few, steps)
+
+  -- at the parts of the lists
+  pub look-most : (removals : List (Removal T)) (lists : List (List Entry)) → removals ≡ drop progress.removed (take removed_by change.remove)
+      → lists ≡ drop progress.added (take added_by change.entries) → (before after : ℕ) → TakesSteps rank view.entries.slots t dirty due removals lists before after
+      → after + steps_for change looked progress ≤ before + most_steps theory old new change
+  look-most removals lists gone come before after takes =
+      taken-most before after
+      (subst (λ rs. TakesSteps rank view.entries.slots t dirty due rs (drop progress.added (take added_by change.entries)) before after) gone
+      (subst (λ ls. TakesSteps rank view.entries.slots t dirty due removals ls before after) come takes))

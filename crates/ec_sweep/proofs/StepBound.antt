@@ -1,5 +1,5 @@
 -- The steps of a sweep that is through.
-use Rattle.std.proofs.Common.{zero, suc, ◌≤◌, ◌+◌, ℕ, ℤ, List, [], ◌∷◌, length, take, arith}
+use Rattle.std.proofs.Common.{zero, suc, ◌≡◌, ◌≤◌, ◌+◌, ◌*◌, ℕ, ℤ, List, [], ◌∷◌, length, take, arith}
 use Rattle.std.specs.Prelude.{flat_map, int_le}
 use Rattle.std.proofs.lemmas.List.{length-append}
 use Rattle.ec_lists.proofs.Filters.{length-filter_le}
@@ -50,3 +50,15 @@ steps-removed start hits removed added looked gone = omega arith
 -- and at added events
 pub steps-added : (start hits removed added : ℕ) {mid late last : ℕ} → mid ≤ start + hits → late ≤ mid + removed → last ≤ late + added → last ≤ start + hits + removed + added
 steps-added start hits removed added looked gone come = omega arith
+
+-- a look that met so many removed events, and so many entries of added ones
+pub steps-looked : (start last seen seen_then removed shown gone come : ℕ) {removed_then shown_then : ℕ} → last + 2 * seen ≡ start + 2 * seen_then + gone + come → removed + gone ≡ removed_then
+    → shown_then ≡ shown + come → last + (2 * seen + removed + shown) ≤ start + (2 * seen_then + removed_then + shown_then)
+steps-looked start last seen seen_then removed shown gone come told met more = omega arith
+
+-- one list more, of all those that are left
+pub steps-listed : (start whole mid item left : ℕ) {last shown rest : ℕ} → start + whole ≡ mid + rest → rest ≡ item + left → last ≡ mid + shown → shown ≡ item → start + whole ≡ last + left
+steps-listed start whole mid item left before next more same = omega arith
+
+pub steps-listed_most : (start whole mid item left : ℕ) {last shown rest : ℕ} → start + whole ≡ mid + rest → rest ≡ item + left → last ≤ mid + shown → shown ≡ item → last ≤ start + whole
+steps-listed_most start whole mid item left before next more same = omega arith

@@ -3,7 +3,7 @@ use Rattle.std.proofs.Common.{◌≡◌, ◌≢◌, ℕ, true, false, not, cond,
 use Rattle.std.specs.Prelude.{◌==◌, option_map}
 use Rattle.std.specs.List.{AllByRecursion, IsDistinct, list_all}
 use Rattle.std.specs.Map.{keys_of}
-use Rattle.std.proofs.lemmas.Bool.{and_from, cases_Bool, cond-true, cond-false, eqb-true, false_from_ne_true}
+use Rattle.std.proofs.lemmas.Bool.{and_from, cases_Bool, cond-true, cond-false, eq-eqb, eqb-true, false_from_ne_true}
 use Rattle.ec_lists.proofs.Numbers.{eqb_comm}
 use Rattle.ec_rows.specs.Ordered.{is_ascending}
 use Rattle.ec_terms.specs.declared.ids.Slot.{Slot}
@@ -15,6 +15,10 @@ use Rattle.ec_sweep.specs.Words.{flip_of, word_at}
 pub word_at-other : (p n word : ℕ) (before after : List (ℕ × ℕ)) → word_at n after ≡ cond (p == n) (Some word) (word_at n before) → p ≢ n → word_at n after ≡ word_at n before
 word_at-other p n word before after put apart =
     put ∙ cond-false (p == n) (Some word) (word_at n before) (false_from_ne_true (p == n) (λ same. apart (eqb-true p n same)))
+
+-- and its own is the one that was put
+pub word_at-own : (p word : ℕ) (before after : List (ℕ × ℕ)) → word_at p after ≡ cond (p == p) (Some word) (word_at p before) → word_at p after ≡ Some word
+word_at-own p word before after put = put ∙ cond-true (p == p) (Some word) (word_at p before) (eq-eqb p p refl)
 
 -- no slot has two words
 pub are_apart-words : (rows : List (ℕ × ℕ)) → IsDistinct (λ a b. a == b) (keys_of rows) → IsTrue (are_apart (map flip_of rows))

@@ -1,6 +1,5 @@
 -- A sweep that is through has planned the change, in no more steps than it may take.
-use Rattle.std.proofs.Common.{sym, subst, arith}
-use Rattle.std.proofs.lemmas.Grind.{common_steps}
+use Rattle.std.proofs.Common.{sym, subst}
 use Rattle.ec_parts.specs.StandFor.{StandForBoth, view_of}
 use Rattle.ec_sweep.proofs.SameButRoom.{IsPlanned-same, IsReady-planned, StandForBoth-same}
 use Rattle.ec_sweep.proofs.StepBound.{steps-apart}
@@ -40,13 +39,25 @@ returns-clause-stands g c = λ now soon tally both.
     (StandForBoth-same g.T.Moment.rank c.args.parts.now.checked (view_of c.args.parts.now) (view_of c.make_room.new.parts) c.make_room.ensures.same now soon tally both)
 
 pub returns-clause-neighbours : goal.returns-clause-neighbours
-returns-clause-neighbours c = grind (arith, common_steps)
+returns-clause-neighbours g c = c.make_room.ensures.same.neighbours
 
 pub returns-clause-events : goal.returns-clause-events
-returns-clause-events c = grind (arith, common_steps)
+returns-clause-events g c = c.make_room.ensures.same.events
 
 pub returns-clause-checked : goal.returns-clause-checked
-returns-clause-checked c = grind (arith, common_steps)
+returns-clause-checked g c = c.make_room.ensures.checked
 
 pub returns-clause-table : goal.returns-clause-table
-returns-clause-table c = grind (arith, common_steps)
+returns-clause-table g c = c.make_room.ensures.same.table
+
+pub returns-in_default-make_room-clause-events : goal.returns-in_default-make_room-clause-events
+returns-in_default-make_room-clause-events g c = c.make_room.ensures.same.events
+
+pub returns-in_default-make_room-clause-table : goal.returns-in_default-make_room-clause-table
+returns-in_default-make_room-clause-table g c = c.make_room.ensures.same.table
+
+pub returns-in_default-make_room-clause-neighbours : goal.returns-in_default-make_room-clause-neighbours
+returns-in_default-make_room-clause-neighbours g c = c.make_room.ensures.same.neighbours
+
+pub returns-in_default-make_room-clause-checked : goal.returns-in_default-make_room-clause-checked
+returns-in_default-make_room-clause-checked g c = c.make_room.ensures.checked

@@ -1,5 +1,6 @@
 -- What is settled by numbers is settled by terms.
-use Rattle.std.proofs.Common.{◌*◌, ◌≤◌, length, arith}
+use Rattle.std.proofs.Common.{◌≡◌, ◌*◌, ◌≤◌, ℤ, ◌+ℤ◌, ◌<ℤ◌, pos, length, arith}
+use Rattle.std.proofs.lemmas.Int.{ints}
 use Rattle.ec_axioms.specs.declared.limits.TheConstants.{MOST_MENTIONS}
 use Rattle.ec_store.specs.Store.{history_of}
 use Rattle.ec_parts.specs.StandFor.{view_of}
@@ -7,6 +8,10 @@ use Rattle.ec_sweep.proofs.Oks.{then_ok}
 use Rattle.ec_sweep.proofs.SettledTerms.{added-rows, has_settled, room}
 use Rattle.ec_sweep.proofs.TurnedTerms.{AreShown-added, length-turns_few}
 use Rattle.ec_sweep.proofs.settle_all.settle_all.Goals as goal
+
+-- a whole number comes before the next
+before-next : (r t : ℤ) → t ≡ r +ℤ pos 1 → r <ℤ t
+before-next r t next = omega (arith, ints)
 
 pub tally_of-requires-clause-few : goal.tally_of-requires-clause-few
 tally_of-requires-clause-few g c =
@@ -41,3 +46,9 @@ returns g c =
     can c.len.ensures.order c.len.ensures.numbers c.len-2.ensures.slots c.in_ok-tally.tally c.in_ok-tally.ensures.tallied c.in_ok-tally.ensures.rows
     (record { dirty = c.settle_rows-settled.new.dirty; agenda = c.settle_rows-settled.new.agenda; planned = c.settle_rows-settled.new.planned }) settles)
     c.settle_rows-settled.ensures
+
+pub settle_rows-settled-requires-clause-marks_free : goal.settle_rows-settled-requires-clause-marks_free
+settle_rows-settled-requires-clause-marks_free g c = λ n. c.requires.can.planned_up_to.none_yet n (g.T.Moment.rank c.args.at) (before-next _ _ c.requires.can.next)
+
+pub settle_rows-settled-requires-clause-initiations_free : goal.settle_rows-settled-requires-clause-initiations_free
+settle_rows-settled-requires-clause-initiations_free g c = λ n. c.requires.can.planned_up_to.not_yet n (g.T.Moment.rank c.args.at) (before-next _ _ c.requires.can.next)

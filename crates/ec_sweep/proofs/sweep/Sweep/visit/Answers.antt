@@ -64,3 +64,6 @@ returns-clause-most g c =
 
 pub returns-clause-last : goal.returns-clause-last
 returns-clause-last c = grind (arith, common_steps)
+
+pub returns-clause-steps : goal.returns-clause-steps
+returns-clause-steps g c = c.in_ok-turns.ensures.steps
