@@ -1,6 +1,6 @@
 -- The first cause of a change, found event by event.
-use Rattle.std.proofs.Common.{◌≡◌, ℤ, Bool, true, false, cond, ◌&&◌, ◌||◌, List, [], ◌∷◌, length, filter, find, flat_map, Option, Some, None, option_map, IsTrue, IsFalse, refl, sym, ap, ap₂, ◌∙◌, arith}
-use Rattle.std.specs.Prelude.{nat_lt}
+use Rattle.std.proofs.Common.{◌≡◌, ℕ, ◌+◌, ℤ, Bool, true, false, cond, ◌&&◌, ◌||◌, List, [], ◌∷◌, length, drop, filter, find, flat_map, Option, Some, None, option_map, IsTrue, IsFalse, refl, sym, ap, ap₂, ◌∙◌, arith}
+use Rattle.std.specs.Prelude.{nat_lt, slice_get}
 use Rattle.std.specs.List.{list_any}
 use Rattle.std.specs.Option.{option_or}
 use Rattle.std.specs.Ordering.{int_eq}
@@ -13,7 +13,9 @@ use Rattle.ec_terms.specs.declared.theory.Theory.{Theory}
 use Rattle.ec_terms.specs.Domain.{GroundEntry, is_strong}
 use Rattle.ec_axioms.specs.Calculus.{Currency, Effect, PlainCause, PlainEvent, cause_of, cause_of_first, effects_at, effects_of, first_cause, has_break, has_effect, is_active, is_breaking, is_clashing, is_current, is_initiated, is_initiating, is_terminated}
 use Rattle.ec_axioms.specs.Plain.{events_at}
+use Rattle.ec_store.specs.Store.{Kept, history_of, plain_of}
 use Rattle.ec_query.specs.Sought.{first_of_event, is_cause}
+use Rattle.ec_query.proofs.KeptWalks.{walk-here}
 
 -- the cause of the first that passes
 cause_of_first-find : (p : Effect → Bool) (effects : List Effect) → cause_of_first (filter p effects) ≡ option_map cause_of (find p effects)
@@ -91,3 +93,12 @@ has_break-breaking theory events p t break not_ended =
   where
     rest : (a b c : Bool) → (a || b || c) ≡ true → a ≡ false → (b || c) ≡ true
     rest a b c some ended = grind arith
+
+-- the first cause from an event at the time on is that of the event, or else that behind it
+pub first_among-here : {T : Type 0} (rank : T → ℤ) (theory : Theory) (events : List PlainEvent) (wanted : GroundEntry → Bool) (t : ℤ) (kept : List (Kept T)) (i : ℕ) (k : Kept T)
+    → slice_get kept i ≡ Some k → int_eq (rank k.1.at) t ≡ true → (own : Option PlainCause) → own ≡ first_of_event theory events wanted (plain_of rank k)
+    → option_or own (first_among theory events wanted (events_at t (history_of rank (drop (i + 1) kept)))) ≡ first_among theory events wanted (events_at t (history_of rank (drop i kept)))
+first_among-here rank theory events wanted t kept i k there at own is =
+    ap (λ o. option_or o (first_among theory events wanted (events_at t (history_of rank (drop (i + 1) kept))))) is
+    ∙ sym (first_among-first theory events wanted (plain_of rank k) (events_at t (history_of rank (drop (i + 1) kept))))
+    ∙ ap (first_among theory events wanted) (sym (walk-here rank t kept i k there at))

@@ -1,5 +1,5 @@
 -- A walk over the events that a store keeps: from one to the next, and over those at a time.
-use Rattle.std.proofs.Common.{◌≡◌, ℕ, suc, ◌+◌, ◌<◌, ◌≤◌, ℤ, true, false, List, [], ◌∷◌, length, filter, drop, Option, Some, None, option_map, refl, sym, ap, ◌∙◌, arith}
+use Rattle.std.proofs.Common.{◌≡◌, ℕ, suc, ◌+◌, ◌-◌, ◌*◌, ◌<◌, ◌≤◌, ℤ, true, false, List, [], ◌∷◌, length, filter, drop, Option, Some, None, option_map, refl, sym, ap, ◌∙◌, arith}
 use Rattle.std.specs.Prelude.{int_lt, slice_get}
 use Rattle.std.specs.List.{list_all, drop-map}
 use Rattle.std.specs.Ordering.{int_eq}
@@ -99,3 +99,30 @@ module _ {T : Type 0} (rank : T → ℤ) (t : ℤ) (kept : List (Kept T)) (i : �
 -- at the end there is none
 pub walk-end : {T : Type 0} (rank : T → ℤ) (t : ℤ) (kept : List (Kept T)) (i : ℕ) → length kept ≤ i → events_at t (history_of rank (drop i kept)) ≡ []
 walk-end rank t kept i end = ap (λ ks. events_at t (history_of rank ks)) (drop_all i kept end)
+
+-- ---- counts of a walk
+
+-- one event more was read
+pub one_read : (steps before here rest later all : ℕ) → here ≡ suc rest → later ≡ rest → before + here ≡ all → steps ≡ before + 1 → steps + later ≡ all
+one_read steps before here rest later all first same left read = omega (arith, first, same, left, read)
+
+pub read_later : (start before steps : ℕ) → start ≤ before → steps ≡ before + 1 → start ≤ steps
+read_later start before steps started read = omega (arith, started, read)
+
+-- the entries of an event at the time and the event itself were read
+pub both_of_one : (start before middle steps here rest all : ℕ) → here ≡ suc rest → before + here ≡ start + all → start ≤ before → middle ≡ before + 1 → steps ≡ middle + 1 → steps ≤ start + 2 * all
+both_of_one start before middle steps here rest all first left started read again = omega (arith, first, left, started, read, again)
+
+-- the next place is within the list, and leaves less of it
+pub next_within : (i n next : ℕ) → i < n → next ≡ i + 1 → next ≤ n
+next_within i n next within behind = omega (arith, within, behind)
+
+pub next_leaves : (i n next : ℕ) → i < n → next ≡ i + 1 → n - next < n - i
+next_leaves i n next within behind = omega (arith, within, behind)
+
+-- as many were read as the place says
+pub read_places : (start before steps i next : ℕ) → before ≡ start + i → steps ≡ before + 1 → next ≡ i + 1 → steps ≡ start + next
+read_places start before steps i next so_far read behind = omega (arith, so_far, read, behind)
+
+pub read_places_within : (start before steps i n : ℕ) → before ≡ start + i → steps ≡ before + 1 → i < n → steps ≤ start + n
+read_places_within start before steps i n so_far read within = omega (arith, so_far, read, within)

@@ -1,5 +1,6 @@
 -- Lists in order, searched from one member to the next.
-use Rattle.std.proofs.Common.{◌≡◌, Bool, true, false, cond, List, [], ◌∷◌, filter, find, Some, None, refl, sym, ap, subst, ◌∙◌}
+use Rattle.std.proofs.Common.{◌≡◌, ℕ, suc, ◌+◌, ◌-◌, ◌<◌, ◌≤◌, Bool, true, false, cond, List, [], ◌∷◌, filter, find, Some, None, refl, sym, ap, subst, ◌∙◌, arith}
+use Rattle.std.specs.Prelude.{◌^◌, min}
 use Rattle.std.proofs.lemmas.Bool.{cond-false}
 use Rattle.ec_axioms.proofs.Members.{IsPairwise, filter_all, filter_none, find-Some, find-None}
 
@@ -32,3 +33,15 @@ filter-next {X} after p searched (y ∷ ys) pairs x found = by_case (p y) refl f
 -- where none passes, nothing is left
 pub filter-found_none : {X : Type 0} (p : X → Bool) (xs : List X) → find p xs ≡ None → filter p xs ≡ []
 filter-found_none p xs none = filter_none p xs (λ x member. find-None p xs x none member)
+
+-- ---- what was counted
+
+-- one more was found, and counted as far as the number can tell
+pub counted_next : (count after all left next : ℕ) → left ≡ suc next → count ≡ min (all - left) (2 ^ 64 - 1) → left ≤ all → after ≡ min (count + 1) (2 ^ 64 - 1) → after ≡ min (all - next) (2 ^ 64 - 1)
+counted_next count after all left next found counted within more = omega (arith, found, counted, within, more)
+
+pub fewer_within : (all left next : ℕ) → left ≡ suc next → left ≤ all → next ≤ all
+fewer_within all left next found within = omega (arith, found, within)
+
+pub fewer_left : (left next : ℕ) → left ≡ suc next → next < left
+fewer_left left next found = omega (arith, found)

@@ -142,6 +142,10 @@ module _ {T : Type 0} (rank : T → ℤ) where
     pub starts-earlier : is_start line (rank m.at) ≡ false → starts_of line (take (i + 1) marks) ≡ starts_of line (take i marks)
     starts-earlier no_start = starts-last ∙ ap (λ b. starts_of line (take i marks) ++ cond b (rank m.at ∷ []) []) no_start ∙ append-nil (starts_of line (take i marks))
 
+-- where no mark is left
+pub at_first : (i : ℕ) → i ≤ 0 → i ≡ 0
+at_first i none = omega (arith, none)
+
 -- ---- what was asked of a mark
 
 pub start_breaks : (inits : ℕ) (asked breaks current start : Bool) → 0 < inits → asked ≡ true → asked ≡ breaks → (nat_lt 0 inits && (breaks || not current)) ≡ start → asked ≡ start

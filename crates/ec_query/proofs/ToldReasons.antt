@@ -1,5 +1,5 @@
 -- A reason with its causes: what it is made of, what it may cost, and how it is told.
-use Rattle.std.proofs.Common.{◌≡◌, ◌≤◌, ℕ, ◌+◌, ◌*◌, ℤ, Bool, true, false, List, ◌++◌, Option, Some, None, option_map, refl, sym, ap, ap₂, ◌∙◌, arith}
+use Rattle.std.proofs.Common.{◌≡◌, ◌≤◌, ℕ, ◌+◌, ◌*◌, ℤ, Bool, true, false, List, ◌++◌, Option, Some, None, option_map, refl, sym, ap, ap₂, subst, ◌∙◌, arith}
 use Rattle.std.specs.Prelude.{codes, nat_lt}
 use Rattle.std.proofs.lemmas.Bool.{or_parts}
 use Rattle.std.proofs.lemmas.Bool.Decides.{nat_tests}
@@ -41,6 +41,20 @@ module _ (theory : Theory) (events : List PlainEvent) (p : Ground) (t : ℤ) whe
   pub why_steps-of : (reason : PlainReason) → reason ≡ reason_of theory events p t → 2 * reason_count events reason ≡ why_steps theory events p t
   unfolding why_steps
   why_steps-of reason is = ap (λ r. 2 * reason_count events r) is
+
+  -- and no more were taken
+  pub why_steps-within : (steps now : ℕ) (reason : PlainReason) → reason ≡ reason_of theory events p t → steps ≤ now + 2 * reason_count events reason → steps ≤ now + why_steps theory events p t
+  why_steps-within steps now reason is read = subst (λ n. steps ≤ now + n) (why_steps-of reason is) read
+
+-- steps for the begin alone, for the end alone, and for both
+pub begin_read : (steps now begun : ℕ) → steps ≤ now + 2 * begun → steps ≤ now + 2 * (begun + 0)
+begin_read steps now begun read = omega (arith, read)
+
+pub end_read : (steps now begun ended : ℕ) → steps ≤ now + 2 * ended → steps ≤ now + 2 * (begun + ended)
+end_read steps now begun ended read = omega (arith, read)
+
+pub both_read : (steps middle now begun ended : ℕ) → middle ≤ now + 2 * ended → steps ≤ middle + 2 * begun → steps ≤ now + 2 * (begun + ended)
+both_read steps middle now begun ended first second = omega (arith, first, second)
 
 -- what takes no step takes none too many
 pub no_more_steps : (steps count : ℕ) → steps ≤ steps + 2 * count

@@ -7,6 +7,7 @@ use Rattle.ec_rows.specs.PlainMarks.{plain_marks}
 use Rattle.ec_intervals.specs.Table.{plain_begin, plain_broken}
 use Rattle.ec_query.specs.Members.{members_text}
 use Rattle.ec_query.proofs.BrokenLemmas.{left_behind, left_behind-all, left_behind-next, left_behind-none}
+use Rattle.ec_query.proofs.NextOfOrder.{fewer_left}
 use Rattle.ec_query.proofs.WritingLemmas.{IsLeft-start, IsLeft-next, IsLeft-part, IsLeft-end, OnErr-anyway}
 use Rattle.ec_query.proofs.broken_reply.write_members.Goals as goal
 
@@ -32,7 +33,7 @@ pub loop-found-smaller : goal.loop-found-smaller
 loop-found-smaller g c =
     let rank = g.T.Moment.rank in
     let next = ap length (left_behind-next rank (g.M.MarkRow.marks c.args.row.now) c.len.ensures.row c.args.strong c.args.is_initial (option_map (plain_begin rank) c.loop-found.after) (plain_broken rank c.in-Some.found) c.in-Some.ensures) in
-    omega (arith, next)
+    fewer_left _ _ next
 
 pub loop-found-preserved : goal.loop-found-preserved
 loop-found-preserved g c =

@@ -1,19 +1,17 @@
 -- The walk goes over the events at the time, and stops at the first that has a cause.
-use Rattle.std.proofs.Common.{◌≡◌, ◌+◌, ℕ, true, false, List, Option, Some, drop, length, sym, ap, ◌∙◌, arith}
+use Rattle.std.proofs.Common.{◌≡◌, ◌+◌, ℕ, true, false, List, Option, None, Some, drop, length, sym, ap, ◌∙◌, arith}
 use Rattle.std.proofs.lemmas.Grind.{common_steps}
 use Rattle.std.specs.List.{list_all}
-use Rattle.std.specs.Option.{option_or}
 use Rattle.std.specs.Ordering.{int_eq}
 use Rattle.std.proofs.lemmas.Option.{same_Some}
 use Rattle.ec_axioms.specs.declared.event.Event.{Event}
 use Rattle.ec_axioms.specs.Calculus.{PlainCause}
-use Rattle.ec_axioms.specs.Events.{event_of}
 use Rattle.ec_axioms.specs.Plain.{events_at}
 use Rattle.ec_store.specs.Store.{history_of}
 use Rattle.ec_query.specs.Sought.{is_sought}
 use Rattle.ec_query.proofs.EventWalks.{is_from}
-use Rattle.ec_query.proofs.FirstCauses.{first_among, first_among-at, first_among-first, first_among-none}
-use Rattle.ec_query.proofs.KeptWalks.{IsNext, next-found, next-none, walk-behind, walk-end, walk-first, walk-from, walk-here, walk-on, walk-within}
+use Rattle.ec_query.proofs.FirstCauses.{first_among, first_among-at, first_among-here, first_among-none}
+use Rattle.ec_query.proofs.KeptWalks.{IsNext, both_of_one, next-found, next-none, next_leaves, next_within, one_read, read_later, walk-behind, walk-end, walk-first, walk-from, walk-here, walk-on, walk-within}
 use Rattle.ec_query.proofs.ShownEffects.{is_kept, time-of}
 use Rattle.ec_query.proofs.causes.first_cause.Goals as goal
 
@@ -61,16 +59,13 @@ returns-in-Some-first_rule_in-clause-cause g c = λ events p on.
     let i = c.loop-found.cursor in
     let next : IsNext kept i c.in-Some.found.0 c.in-Some.found.1 = next-found kept i c.in-Some.found.0 c.in-Some.found.1 c.in-Some.ensures.next c.in-Some.ensures.event in
     let wanted = is_sought theory p c.args.sought in
-    let rest = first_among theory events wanted (events_at t (history_of rank (drop (i + 1) kept))) in
     let at : int_eq (rank next.event.at) t ≡ true =
     sym (ap (λ a. int_eq (rank a) t) (time-of rank theory events parts.props parts.store parts.entries on.stand.both.caches.entries_of c.in-Some.found.0 next.event next.named c.at.result c.at.ensures))
     ∙ sym c.is_at-here.ensures ∙ c.if-not-here.false in
     let same = same_Some c.event-event.result.now next.event (sym c.event-event.ensures.event ∙ next.named) in
     let named : List ℕ → Option PlainCause = λ id. Some (record { id = id; rule = c.in-Some-first_rule_in.rule }) in
     ap named (c.copied.ensures.same ∙ ap (λ (e : Event _). e.id) same)
-    ∙ ap (λ o. option_or o rest) (c.in-Some-first_rule_in.ensures.rule events p next.event on next.named)
-    ∙ sym (first_among-first theory events wanted (event_of rank next.event) (events_at t (history_of rank (drop (i + 1) kept))))
-    ∙ ap (first_among theory events wanted) (sym (walk-here rank t kept i (c.in-Some.found.0, next.event) next.there at))
+    ∙ first_among-here rank theory events wanted t kept i (c.in-Some.found.0, next.event) next.there at (named next.event.id) (c.in-Some-first_rule_in.ensures.rule events p next.event on next.named)
     ∙ c.loop-found.invariant.cause events p on
 
 pub returns-in-Some-first_rule_in-clause-steps : goal.returns-in-Some-first_rule_in-clause-steps
@@ -87,14 +82,14 @@ returns-in-Some-first_rule_in-clause-steps g c =
     ∙ sym c.is_at-here.ensures ∙ c.if-not-here.false in
     let here = walk-here rank t kept i (c.in-Some.found.0, next.event) next.there at in
     let counted = ap length here in
-    omega (arith, counted, c.loop-found.invariant.left, c.loop-found.invariant.started, c.first_rule_in.ensures.steps, c.event-event.ensures.steps)
+    both_of_one c.args.steps.now c.loop-found.steps _ _ _ _ _ counted c.loop-found.invariant.left c.loop-found.invariant.started c.first_rule_in.ensures.steps c.event-event.ensures.steps
 
 pub loop-found-smaller : goal.loop-found-smaller
 loop-found-smaller g c =
     let kept = c.args.parts.now.store.events in
     let next : IsNext kept c.loop-found.cursor c.in-Some.found.0 c.in-Some.found.1 =
     next-found kept c.loop-found.cursor c.in-Some.found.0 c.in-Some.found.1 c.in-Some.ensures.next c.in-Some.ensures.event in
-    omega (arith, next.within, next.behind)
+    next_leaves c.loop-found.cursor (length kept) c.in-Some.found.1 next.within next.behind
 
 pub loop-found-preserved : goal.loop-found-preserved
 loop-found-preserved g c =
@@ -114,16 +109,13 @@ loop-found-preserved g c =
     record {
       cause = λ events p on.
           let wanted = is_sought theory p c.args.sought in
-          let rest = first_among theory events wanted (events_at t (history_of rank (drop (i + 1) kept))) in
           ap (λ n. first_among theory events wanted (events_at t (history_of rank (drop n kept)))) next.behind
-          ∙ ap (λ o. option_or o rest) (c.in_default-first_rule_in.ensures.rule events p next.event on next.named)
-          ∙ sym (first_among-first theory events wanted (event_of rank next.event) (events_at t (history_of rank (drop (i + 1) kept))))
-          ∙ ap (first_among theory events wanted) (sym here)
+          ∙ first_among-here rank theory events wanted t kept i (c.in-Some.found.0, next.event) next.there at None (c.in_default-first_rule_in.ensures.rule events p next.event on next.named)
           ∙ c.loop-found.invariant.cause events p on;
-      left = omega (arith, counted, moved, c.loop-found.invariant.left, c.first_rule_in.ensures.steps);
+      left = one_read _ c.loop-found.steps _ _ _ _ counted moved c.loop-found.invariant.left c.first_rule_in.ensures.steps;
       from = ap (λ n. list_all (is_from t) (history_of rank (drop n kept))) next.behind ∙ walk-on rank t kept i (c.in-Some.found.0, next.event) next.there c.loop-found.invariant.from;
-      started = omega (arith, c.loop-found.invariant.started, c.first_rule_in.ensures.steps);
-      within = omega (arith, next.within, next.behind);
+      started = read_later c.args.steps.now c.loop-found.steps _ c.loop-found.invariant.started c.first_rule_in.ensures.steps;
+      within = next_within i (length kept) c.in-Some.found.1 next.within next.behind;
     }
 
 pub returns-clause-cause : goal.returns-clause-cause

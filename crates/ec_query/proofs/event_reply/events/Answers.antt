@@ -1,5 +1,5 @@
 -- Each event is the next of what is left.
-use Rattle.std.proofs.Common.{◌+◌, ◌++◌, drop, map, refl, sym, ap, ap₂, subst, ◌∙◌, arith}
+use Rattle.std.proofs.Common.{◌+◌, ◌++◌, drop, length, map, refl, sym, ap, ap₂, subst, ◌∙◌, arith}
 use Rattle.std.proofs.lemmas.Grind.{common_steps}
 use Rattle.std.specs.Prelude.{decimal}
 use Rattle.ec_outside.specs.Streams.{Appended}
@@ -7,8 +7,8 @@ use Rattle.ec_axioms.specs.QueryTexts.{counted_text, event_text}
 use Rattle.ec_store.specs.Store.{history_of, plain_of}
 use Rattle.ec_query.specs.Members.{members_text, kept_text}
 use Rattle.ec_query.proofs.EventLemmas.{events_reply-of}
-use Rattle.ec_query.proofs.KeptWalks.{IsNext, next-found, next-none, next-read}
-use Rattle.ec_query.proofs.WritingLemmas.{IsLeft-start, IsLeft-next, IsLeft-part, IsLeft-end, OnErr-anyway, OnErr-renamed, counted_text-map, members_text-next, members_text-end}
+use Rattle.ec_query.proofs.KeptWalks.{IsNext, next-found, next-none, next-read, next_leaves, next_within, read_places, read_places_within}
+use Rattle.ec_query.proofs.WritingLemmas.{IsLeft-start, IsLeft-next, IsLeft-part, IsLeft-end, OnErr-anyway, OnErr-renamed, OnErr-rose, counted_text-map, members_text-next, members_text-end}
 use Rattle.ec_query.proofs.event_reply.events.Goals as goal
 
 pub returns-in_err-write_count-clause-part : goal.returns-in_err-write_count-clause-part
@@ -60,14 +60,14 @@ returns-in_err-write_all-clause-steps g c =
     let kept = c.args.store.now.events in
     let next : IsNext kept c.loop-found.cursor c.in-Some.found.0 c.in-Some.found.1 =
     next-found kept c.loop-found.cursor c.in-Some.found.0 c.in-Some.found.1 c.in-Some.ensures.next c.in-Some.ensures.event in
-    omega (arith, next.within, c.event.ensures.steps, c.loop-found.invariant.read)
+    read_places_within c.args.steps.now c.loop-found.steps c.event.new.steps c.loop-found.cursor (length kept) c.loop-found.invariant.read c.event.ensures.steps next.within
 
 pub loop-found-smaller : goal.loop-found-smaller
 loop-found-smaller g c =
     let kept = c.args.store.now.events in
     let next : IsNext kept c.loop-found.cursor c.in-Some.found.0 c.in-Some.found.1 =
     next-found kept c.loop-found.cursor c.in-Some.found.0 c.in-Some.found.1 c.in-Some.ensures.next c.in-Some.ensures.event in
-    omega (arith, next.within, next.behind)
+    next_leaves c.loop-found.cursor (length kept) c.in-Some.found.1 next.within next.behind
 
 pub loop-found-preserved : goal.loop-found-preserved
 loop-found-preserved g c =
@@ -84,8 +84,8 @@ loop-found-preserved g c =
           (next-read kept c.loop-found.cursor c.in-Some.found.0 c.in-Some.found.1 next c.event.result.now c.event.ensures.event)
           ∙ ap₂ (λ bytes i. bytes ++ members_text (kept_text rank canon) (drop i kept)) (sym (c.as_bytes.ensures ∙ c.set_event.ensures)) (sym next.behind))
           c.in_ok-write_all.ensures.written c.in_ok-write_all.ensures.quiet;
-      read = omega (arith, next.behind, c.event.ensures.steps, c.loop-found.invariant.read);
-      within = omega (arith, next.behind, next.within);
+      read = read_places c.args.steps.now c.loop-found.steps c.event.new.steps c.loop-found.cursor c.in-Some.found.1 c.loop-found.invariant.read c.event.ensures.steps next.behind;
+      within = next_within c.loop-found.cursor (length kept) c.in-Some.found.1 next.within next.behind;
     }
 
 pub returns-clause-written : goal.returns-clause-written
@@ -96,6 +96,10 @@ returns-clause-written g c = λ events are.
     subst (λ text. Appended g.K.Sink.stands c.args.out.now c.loop-found.out text) (events_reply-of rank canon kept events are)
     (IsLeft-end c.loop-found.invariant.left (members_text-end (kept_text rank canon) kept c.loop-found.cursor
     (next-none kept c.loop-found.cursor c.next.result c.in_default.is c.next.ensures.next)))
+
+pub returns-in_err-write_all-clause-failed : goal.returns-in_err-write_all-clause-failed
+returns-in_err-write_all-clause-failed g c =
+    OnErr-rose c.from_residual-in_err-write_all.result (g.K.Sink.faults c.write_all.new.out) c.loop-found.invariant.left.quiet c.in_err-write_all.ensures.failed
 
 pub returns-in_err-write_all-clause-counted : goal.returns-in_err-write_all-clause-counted
 returns-in_err-write_all-clause-counted c = grind (arith, common_steps)

@@ -14,8 +14,5 @@ pub returns-in-None-clause-reason : goal.returns-in-None-clause-reason
 returns-in-None-clause-reason g c = λ events stand.
     reason_of-unkept g.T.Moment.rank c.args.parts.now.checked events (view_of c.args.parts.now) stand (ground_of c.args.p.now) (g.T.Moment.rank c.args.at) (sym c.in-None.ensures.number)
 
-pub why_kept-requires : goal.why_kept-requires
-why_kept-requires c = grind (arith, common_steps)
-
 pub returns-in-None-clause-steps : goal.returns-in-None-clause-steps
 returns-in-None-clause-steps c = grind (arith, common_steps)

@@ -1,11 +1,12 @@
 -- The begin is broken at the next break, or goes on without an end.
-use Rattle.std.proofs.Common.{None, sym, ap, ◌∙◌, arith}
+use Rattle.std.proofs.Common.{None, sym, ap, ◌∙◌}
 use Rattle.ec_lists.proofs.Options.{None-from_option_map}
 use Rattle.ec_axioms.specs.Marks.{mark_at}
 use Rattle.ec_axioms.specs.Timeline.{reason_yes}
 use Rattle.ec_intervals.specs.Table.{plain_begin}
+use Rattle.ec_query.specs.ReasonSteps.{begin_count}
 use Rattle.ec_query.proofs.ReasonCases.{reason_of-lasting}
-use Rattle.ec_query.proofs.ToldReasons.{broken-at, last_begin-begun, why_steps-of}
+use Rattle.ec_query.proofs.ToldReasons.{begin_read, broken-at, last_begin-begun, why_steps-within}
 use Rattle.ec_query.proofs.explaining.why_begun.Goals as goal
 
 pub why_broken-requires : goal.why_broken-requires
@@ -46,7 +47,7 @@ pub returns-in-None-clause-steps : goal.returns-in-None-clause-steps
 returns-in-None-clause-steps g c = λ events p on last.
     let rank = g.T.Moment.rank in
     let theory = c.args.parts.now.checked in
-    let all = why_steps-of theory events p (rank c.args.at) _
-    (reason_of-lasting theory events p (rank c.args.at) (plain_begin rank c.args.begin) last (None-from_option_map (mark_at theory events p) _ (sym (c.in-None.ensures events p on)))) in
-    let read = c.origin_of.ensures.steps events p on in
-    omega (arith, all, read)
+    let begin = plain_begin rank c.args.begin in
+    why_steps-within theory events p (rank c.args.at) c.origin_of.new.steps c.args.steps.now (reason_yes begin None)
+    (reason_of-lasting theory events p (rank c.args.at) begin last (None-from_option_map (mark_at theory events p) _ (sym (c.in-None.ensures events p on))))
+    (begin_read c.origin_of.new.steps c.args.steps.now (begin_count events begin) (c.origin_of.ensures.steps events p on))

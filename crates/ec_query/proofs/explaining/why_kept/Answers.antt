@@ -14,8 +14,5 @@ returns-in-None-clause-reason g c = λ events p on.
 pub returns-in-Some-clause-steps : goal.returns-in-Some-clause-steps
 returns-in-Some-clause-steps c = grind (arith, common_steps)
 
-pub why_begun-requires : goal.why_begun-requires
-why_begun-requires c = grind (arith, common_steps)
-
 pub returns-in-None-clause-steps : goal.returns-in-None-clause-steps
 returns-in-None-clause-steps c = grind (arith, common_steps)

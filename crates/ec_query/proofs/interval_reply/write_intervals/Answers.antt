@@ -1,12 +1,20 @@
 -- The count, the front and the spans follow one another.
-use Rattle.std.proofs.Common.{◌++◌, map, refl, sym, ap, ap₂, ◌∙◌, arith}
+use Rattle.std.proofs.Common.{◌++◌, map, OnOk, OnErr, refl, sym, ap, ap₂, ◌∙◌, arith}
 use Rattle.std.proofs.lemmas.Grind.{common_steps}
 use Rattle.std.specs.Prelude.{decimal}
+use Rattle.std.proofs.lemmas.Result.{IfOk-at_ok, IfErr-at_err}
+use Rattle.ec_outside.specs.Streams.{Appended, AppendedPart}
 use Rattle.ec_axioms.specs.QueryTexts.{counted_text, interval_text}
 use Rattle.ec_intervals.specs.Table.{front_at, front_members, members_at, plain_interval, plain_intervals, spans_at}
 use Rattle.ec_query.specs.Members.{members_text, span_text}
 use Rattle.ec_query.proofs.WritingLemmas.{IsLeft-start, IsLeft-next, IsLeft-part, IsLeft-last, IsLeft-last_part, OnErr-anyway, counted_text-intervals}
 use Rattle.ec_query.proofs.interval_reply.write_intervals.Goals as goal
+use Rattle.ec_query.proofs.interval_reply.write_intervals.Goals.{After-write_count}
+
+-- what was written first is the count
+counted : (g : _) (c : After-write_count g) → OnOk c.write_count.result (Appended g.K.Sink.stands c.args.out.now c.write_count.new.out (decimal c.len.result))
+    × OnErr c.write_count.result (AppendedPart g.K.Sink.stands c.args.out.now c.write_count.new.out (decimal c.len.result))
+counted g c = (c.write_count.ensures.written, c.write_count.ensures.part)
 
 pub returns-in_err-write_front-clause-part : goal.returns-in_err-write_front-clause-part
 returns-in_err-write_front-clause-part g c =
@@ -22,7 +30,7 @@ returns-in_err-write_front-clause-part g c =
     (IsLeft-start {faults = g.K.Sink.faults} c.args.out.now (counted_text (map (interval_text canon) (plain_intervals rank (members_at c.args.id.0 c.args.intervals.now)))) (decimal c.len.result ++ (first ++ rest))
     (counted_text-intervals rank canon front spans
     ∙ ap₂ (λ n f. decimal n ++ (members_text (λ interval. interval_text canon (plain_interval rank interval)) (front_members f) ++ rest)) (sym c.len.ensures) (sym c.front.ensures)))
-    refl c.in_ok-write_count.ensures.written c.in_ok-write_count.ensures.quiet)
+    refl (IfOk-at_ok (λ _. Appended g.K.Sink.stands c.args.out.now c.write_count.new.out (decimal c.len.result)) c.in_ok-write_count.was (counted g (goal.at.returns-in_err-write_front-clause-part g c).After-write_count).0) c.in_ok-write_count.ensures.quiet)
     refl c.in_err-write_front.ensures.part)
 
 pub returns-clause-written : goal.returns-clause-written
@@ -39,7 +47,7 @@ returns-clause-written g c =
     (IsLeft-start {faults = g.K.Sink.faults} c.args.out.now (counted_text (map (interval_text canon) (plain_intervals rank (members_at c.args.id.0 c.args.intervals.now)))) (decimal c.len.result ++ (first ++ rest))
     (counted_text-intervals rank canon front spans
     ∙ ap₂ (λ n f. decimal n ++ (members_text (λ interval. interval_text canon (plain_interval rank interval)) (front_members f) ++ rest)) (sym c.len.ensures) (sym c.front.ensures)))
-    refl c.in_ok-write_count.ensures.written c.in_ok-write_count.ensures.quiet)
+    refl (IfOk-at_ok (λ _. Appended g.K.Sink.stands c.args.out.now c.write_count.new.out (decimal c.len.result)) c.in_ok-write_count.was (counted g (goal.at.returns-clause-written g c).After-write_count).0) c.in_ok-write_count.ensures.quiet)
     refl c.in_ok-write_front.ensures.written c.in_ok-write_front.ensures.quiet)
     refl c.write_begun.ensures.written
 
@@ -57,7 +65,7 @@ returns-clause-part g c =
     (IsLeft-start {faults = g.K.Sink.faults} c.args.out.now (counted_text (map (interval_text canon) (plain_intervals rank (members_at c.args.id.0 c.args.intervals.now)))) (decimal c.len.result ++ (first ++ rest))
     (counted_text-intervals rank canon front spans
     ∙ ap₂ (λ n f. decimal n ++ (members_text (λ interval. interval_text canon (plain_interval rank interval)) (front_members f) ++ rest)) (sym c.len.ensures) (sym c.front.ensures)))
-    refl c.in_ok-write_count.ensures.written c.in_ok-write_count.ensures.quiet)
+    refl (IfOk-at_ok (λ _. Appended g.K.Sink.stands c.args.out.now c.write_count.new.out (decimal c.len.result)) c.in_ok-write_count.was (counted g (goal.at.returns-clause-part g c).After-write_count).0) c.in_ok-write_count.ensures.quiet)
     refl c.in_ok-write_front.ensures.written c.in_ok-write_front.ensures.quiet)
     refl c.write_begun.ensures.part
 
@@ -82,4 +90,4 @@ returns-in_err-write_count-clause-part g c =
     (IsLeft-part (decimal c.len.result) (first ++ rest)
     (IsLeft-start {faults = g.K.Sink.faults} c.args.out.now (counted_text (map (interval_text canon) (plain_intervals rank (members_at c.args.id.0 c.args.intervals.now)))) (decimal c.len.result ++ (first ++ rest))
     (counted_text-intervals rank canon front spans ∙ ap (λ n. decimal n ++ (first ++ rest)) (sym c.len.ensures)))
-    refl c.in_err-write_count.ensures.part)
+    refl (IfErr-at_err (λ _. AppendedPart g.K.Sink.stands c.args.out.now c.write_count.new.out (decimal c.len.result)) c.in_err-write_count.was (counted g (goal.at.returns-in_err-write_count-clause-part g c).After-write_count).1))

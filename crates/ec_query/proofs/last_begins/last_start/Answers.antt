@@ -7,7 +7,7 @@ use Rattle.ec_lists.proofs.Filters.{length-filter_le}
 use Rattle.ec_axioms.specs.Calculus.{timeline_of}
 use Rattle.ec_points.specs.Table.{marks_at, marks_in}
 use Rattle.ec_parts.specs.StandFor.{view_of}
-use Rattle.ec_query.proofs.OnMarks.{starts-earlier, starts-first, starts-here, starts-none, starts_of, times_in}
+use Rattle.ec_query.proofs.OnMarks.{at_first, starts-earlier, starts-first, starts-here, starts-none, starts_of, times_in}
 use Rattle.ec_query.proofs.OnParts.{on-times}
 use Rattle.ec_query.proofs.last_begins.last_start.Goals as goal
 
@@ -34,9 +34,6 @@ loop-i-init g c =
           c.count_before-i.result c.count_before-i.ensures.count c.count_before-i.ensures.row);
     }
 
-pub get-start-requires : goal.get-start-requires
-get-start-requires g c = omega (arith, c.loop-i.invariant.within, c.loop-i-test.true)
-
 pub returns-then-starts_at : goal.returns-then-starts_at
 returns-then-starts_at g c = λ events p on breaks.
     let theory = c.args.parts.now.checked in
@@ -61,6 +58,13 @@ loop-i-preserved g c =
           ∙ ap (λ n. last_or None (starts_of rank (timeline_of theory events p) (take n marks))) again
           ∙ c.loop-i.invariant.last events p on breaks;
     }
+
+pub returns : goal.returns
+returns g c = λ events p on breaks.
+    let theory = c.args.parts.now.checked in
+    let rank = g.T.Moment.rank in
+    let marks = g.M.MarkRow.marks c.in_ok-row.row.now in
+    sym (ap (λ n. last_or None (starts_of rank (timeline_of theory events p) (take n marks))) (at_first c.loop-i.i c.loop-i-test.false)) ∙ c.loop-i.invariant.last events p on breaks
 
 pub overflow_sub-i-in-loop-i : goal.overflow_sub-i-in-loop-i
 overflow_sub-i-in-loop-i c = grind (arith, common_steps)
