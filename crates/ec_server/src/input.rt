@@ -144,7 +144,6 @@ pub(crate) fn serve_input<
             return Ending::ReadFault;
         };
         if count == 0 {
-            #[tactic(none)]
             return finish(sessions, feed, output, steps);
         }
         left -= count as u64;

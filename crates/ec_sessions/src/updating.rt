@@ -128,7 +128,7 @@ impl<T: Moment, M: MarkRow<T>, I: SpanRow<T>, X: TimeRow<T>> Sessions<T, M, I, X
 
     /// Makes an update that is not refused for a cause that is always told.
     fn update_at_once<L: Ledger>(&mut self, update: Update<T>, steps: &mut Steps<L>) -> Answer
-        requires { IsTrue (may_want_by (updated self.old.theory self.old.state.events (plain_update T.rank update))) }
+        requires may_want { IsTrue (may_want_by (updated self.old.theory self.old.state.events (plain_update T.rank update))) }
         ensures theory { self.new.theory ≡ self.old.theory }
         ensures reply { let outcome = updated self.old.theory self.old.state.events (plain_update T.rank update) in
             IsAnswerBy (λ prefix. update_reply self.old.theory prefix self.old.state outcome) (may_want_by outcome) self.old.state (plain_answer result) self.new.state }

@@ -38,7 +38,7 @@ pub(crate) fn look<T: Moment, M: MarkRow<T>, I: SpanRow<T>, X: TimeRow<T>, L: Le
     looked: &mut Looked,
     steps: &mut Steps<L>,
 ) -> Result<Vec<Turn>, NoMemory>
-    requires { CanLookAt T.rank parts.now.checked (view_of parts.now) change.now (T.rank at) dirty.now due.now looked.old progress.old }
+    requires may_look { CanLookAt T.rank parts.now.checked (view_of parts.now) change.now (T.rank at) dirty.now due.now looked.old progress.old }
     ensures looked { IfOk result (λ turns. (new : List PlainEvent) (tally : PartsTally) (r : ℤ) (agenda : List (Due T)) (planned : Planned T) (active : Effect → Bool) →
         CanLook T.rank parts.now.checked new (view_of parts.now) tally change.now r (T.rank at) dirty.now agenda due.now looked.old planned active progress.old →
         HasLooked T.rank parts.now.checked new (view_of parts.now) change.now (T.rank at) dirty.now agenda planned looked.old looked.new active turns.items) }

@@ -34,7 +34,7 @@ pub(crate) fn settle_all<T: Moment, M: MarkRow<T>, I: SpanRow<T>, X: TimeRow<T>>
     agenda: &mut Agenda<T>,
     planned: &mut Planned<T>,
 ) -> Result<(), NoMemory>
-    requires { CanSettleAt T.rank parts.now.checked (view_of parts.now) (T.rank at) dirty.old agenda.old due.now turns.now planned.old }
+    requires may_settle { CanSettleAt T.rank parts.now.checked (view_of parts.now) (T.rank at) dirty.old agenda.old due.now turns.now planned.old }
     ensures { OnOk result ((new : List PlainEvent) (tally : PartsTally) (change : Change T) (r : ℤ) (before : List (Due T)) (plains : List PlainTurn) (looked : Looked) (active : Effect → Bool) →
         CanSettle T.rank parts.now.checked new (view_of parts.now) tally change r (T.rank at) dirty.old before agenda.old due.now turns.now plains looked planned.old active →
         HasSettled T.rank parts.now.checked new (view_of parts.now) (T.rank at) plains (settled_by (view_of parts.now).table (view_of parts.now).neighbours.rows due.now turns.now)

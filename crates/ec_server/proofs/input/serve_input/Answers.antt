@@ -19,18 +19,13 @@ loop-buffer-init g c = record {
   theory = refl;
   taking = IsTaking-start g.S.Source.left g.K.Sink.stands (record { theory = c.args.sessions.now.theory; spelt = g.T.Moment.spelt; canon = g.T.Moment.canon })
       c.args.limit c.args.input.now c.args.output.now c.args.sessions.now.state c.args.feed.now c.requires.start c.requires.part;
+  ready = c.requires.part.not_ready;
   reads = refl;
   writes = refl;
 }
 
 pub read_piece-requires : goal.read_piece-requires
 read_piece-requires g c = some_left c.loop-buffer.left c.if-left-eq0.false
-
-pub finish-requires : goal.finish-requires
-finish-requires g c = c.loop-buffer.invariant.taking.at.part.not_ready
-
-pub answer_piece-requires : goal.answer_piece-requires
-answer_piece-requires g c = c.loop-buffer.invariant.taking.at.part.not_ready
 
 pub overflow_sub-left : goal.overflow_sub-left
 overflow_sub-left g c = c.in-Ok.ensures.within.1
@@ -61,6 +56,7 @@ loop-buffer-preserved g c =
           (subst (λ (theory : Theory). (taken : List ℕ) (start : _) → IsAt g.K.Sink.stands (record { theory = theory; spelt = g.T.Moment.spelt; canon = g.T.Moment.canon }) taken c.loop-buffer.sessions.state c.loop-buffer.feed start c.flush.new.self
           → IsAt g.K.Sink.stands (record { theory = theory; spelt = g.T.Moment.spelt; canon = g.T.Moment.canon }) (taken ++ piece) c.answer_piece.new.sessions.state c.answer_piece.new.feed start c.answer_piece.new.out)
           c.loop-buffer.invariant.theory c.in-Go.ensures.served);
+      ready = c.answer_piece.ensures.ready;
       reads = c.in-Ok.ensures.quiet ∙ c.loop-buffer.invariant.reads;
       writes = second_of_two c.in-Go.ensures.quiet go_is_quiet ∙ writes;
     }

@@ -11,32 +11,32 @@ use Rattle.ec_sweep.proofs.look.look.Goals as goal
 
 pub count_removals-removed-requires : goal.count_removals-removed-requires
 count_removals-removed-requires g c =
-    let can = c.requires.can in
+    let can = c.requires.may_look.can in
     rw c.as_slice.ensures
-    (removals-ordered g.T.Moment.rank c.args.parts.now.checked c.args.parts.now.props c.args.parts.now.store.events c.requires.new c.args.change.now can.underway.change_is)
+    (removals-ordered g.T.Moment.rank c.args.parts.now.checked c.args.parts.now.props c.args.parts.now.store.events c.requires.may_look.new c.args.change.now can.underway.change_is)
 
 pub count_added-added-requires : goal.count_added-added-requires
 count_added-added-requires g c =
-    let can = c.requires.can in
+    let can = c.requires.may_look.can in
     rw c.as_slice-2.ensures
-    (added-ordered g.T.Moment.rank c.args.parts.now.checked c.args.parts.now.props c.args.parts.now.store.events c.requires.new c.args.change.now can.underway.change_is)
+    (added-ordered g.T.Moment.rank c.args.parts.now.checked c.args.parts.now.props c.args.parts.now.store.events c.requires.may_look.new c.args.change.now can.underway.change_is)
 
 pub between-requires-clause-ordered : goal.between-requires-clause-ordered
 between-requires-clause-ordered g c =
     subst (λ n. c.args.progress.now.removed ≤ n) (sym (count-same _ c.count_removals-removed.ensures.count c.as_slice.ensures))
-    (removed-further g.T.Moment.rank c.args.parts.now.checked c.requires.new (view_of c.args.parts.now) c.requires.tally c.args.change.now c.requires.r (g.T.Moment.rank c.args.at)
-    c.args.dirty.now c.requires.agenda c.args.due.now c.args.looked.now c.requires.planned c.requires.active c.args.progress.now c.requires.can)
+    (removed-further g.T.Moment.rank c.args.parts.now.checked c.requires.may_look.new (view_of c.args.parts.now) c.requires.may_look.tally c.args.change.now c.requires.may_look.r (g.T.Moment.rank c.args.at)
+    c.args.dirty.now c.requires.may_look.agenda c.args.due.now c.args.looked.now c.requires.may_look.planned c.requires.may_look.active c.args.progress.now c.requires.may_look.can)
 
 pub between-requires-2-clause-ordered : goal.between-requires-2-clause-ordered
 between-requires-2-clause-ordered g c =
     subst (λ n. c.args.progress.now.added ≤ n) (sym (count-same _ c.count_added-added.ensures.count c.as_slice-2.ensures))
-    (added-further g.T.Moment.rank c.args.parts.now.checked c.requires.new (view_of c.args.parts.now) c.requires.tally c.args.change.now c.requires.r (g.T.Moment.rank c.args.at)
-    c.args.dirty.now c.requires.agenda c.args.due.now c.args.looked.now c.requires.planned c.requires.active c.args.progress.now c.requires.can)
+    (added-further g.T.Moment.rank c.args.parts.now.checked c.requires.may_look.new (view_of c.args.parts.now) c.requires.may_look.tally c.args.change.now c.requires.may_look.r (g.T.Moment.rank c.args.at)
+    c.args.dirty.now c.requires.may_look.agenda c.args.due.now c.args.looked.now c.requires.may_look.planned c.requires.may_look.active c.args.progress.now c.requires.may_look.can)
 
 pub between-requires-2-clause-within : goal.between-requires-2-clause-within
 between-requires-2-clause-within g c =
-    let can = c.requires.can in
-    let many = length-entries g.T.Moment.rank c.args.parts.now.checked c.args.parts.now.props c.args.parts.now.store.events c.requires.new c.args.change.now can.underway.change_is in
+    let can = c.requires.may_look.can in
+    let many = length-entries g.T.Moment.rank c.args.parts.now.checked c.args.parts.now.props c.args.parts.now.store.events c.requires.may_look.new c.args.change.now can.underway.change_is in
     let within = rw c.as_slice-2.ensures at c.count_added-added.ensures.within in
     rw c.as_slice-4.ensures (rw many within)
 
@@ -44,8 +44,8 @@ pub look_by_number-requires : goal.look_by_number-requires
 look_by_number-requires g c =
     subst (All (λ (removal : Removal _). IsSome (kept_at removal.slot.0 c.args.parts.now.entries.slots)))
     (sym (part-same _ c.between.ensures c.as_slice-3.ensures (count-same _ c.count_removals-removed.ensures.count c.as_slice.ensures)))
-    (removals-kept g.T.Moment.rank c.args.parts.now.checked c.requires.new (view_of c.args.parts.now) c.requires.tally c.args.change.now c.requires.r (g.T.Moment.rank c.args.at)
-    c.args.dirty.now c.requires.agenda c.args.due.now c.args.looked.now c.requires.planned c.requires.active c.args.progress.now c.requires.can)
+    (removals-kept g.T.Moment.rank c.args.parts.now.checked c.requires.may_look.new (view_of c.args.parts.now) c.requires.may_look.tally c.args.change.now c.requires.may_look.r (g.T.Moment.rank c.args.at)
+    c.args.dirty.now c.requires.may_look.agenda c.args.due.now c.args.looked.now c.requires.may_look.planned c.requires.may_look.active c.args.progress.now c.requires.may_look.can)
 
 pub returns-clause-looked : goal.returns-clause-looked
 returns-clause-looked g c =
@@ -89,12 +89,12 @@ returns-clause-steps g c =
     (part-same _ c.between.ensures c.as_slice-3.ensures refl)
     (part-same _ c.between-2.ensures c.as_slice-4.ensures refl)
     (subst (λ n. c.args.progress.now.removed ≤ n) (sym (count-same _ c.count_removals-removed.ensures.count c.as_slice.ensures))
-    (removed-further g.T.Moment.rank c.args.parts.now.checked c.requires.new (view_of c.args.parts.now) c.requires.tally c.args.change.now c.requires.r (g.T.Moment.rank c.args.at)
-    c.args.dirty.now c.requires.agenda c.args.due.now c.args.looked.now c.requires.planned c.requires.active c.args.progress.now c.requires.can))
+    (removed-further g.T.Moment.rank c.args.parts.now.checked c.requires.may_look.new (view_of c.args.parts.now) c.requires.may_look.tally c.args.change.now c.requires.may_look.r (g.T.Moment.rank c.args.at)
+    c.args.dirty.now c.requires.may_look.agenda c.args.due.now c.args.looked.now c.requires.may_look.planned c.requires.may_look.active c.args.progress.now c.requires.may_look.can))
     (subst (λ rs. c.count_removals-removed.result ≤ length rs) c.as_slice.ensures c.count_removals-removed.ensures.within)
     (subst (λ n. c.args.progress.now.added ≤ n) (sym (count-same _ c.count_added-added.ensures.count c.as_slice-2.ensures))
-    (added-further g.T.Moment.rank c.args.parts.now.checked c.requires.new (view_of c.args.parts.now) c.requires.tally c.args.change.now c.requires.r (g.T.Moment.rank c.args.at)
-    c.args.dirty.now c.requires.agenda c.args.due.now c.args.looked.now c.requires.planned c.requires.active c.args.progress.now c.requires.can))
+    (added-further g.T.Moment.rank c.args.parts.now.checked c.requires.may_look.new (view_of c.args.parts.now) c.requires.may_look.tally c.args.change.now c.requires.may_look.r (g.T.Moment.rank c.args.at)
+    c.args.dirty.now c.requires.may_look.agenda c.args.due.now c.args.looked.now c.requires.may_look.planned c.requires.may_look.active c.args.progress.now c.requires.may_look.can))
     c.in_ok-turns.ensures.steps
 
 pub between-requires-clause-within : goal.between-requires-clause-within

@@ -16,26 +16,26 @@ before-next r t next = omega (arith, ints)
 pub tally_of-requires-clause-few : goal.tally_of-requires-clause-few
 tally_of-requires-clause-few g c =
     let few : length c.args.turns.now ≤ 4 * MOST_MENTIONS =
-    length-turns_few c.args.parts.now.checked (history_of g.T.Moment.rank c.args.parts.now.store.events) c.requires.new (g.T.Moment.rank c.args.at)
-    c.args.parts.now.props c.args.parts.now.neighbours.rows c.args.turns.now c.requires.plains c.requires.can.turned c.requires.can.turns_at
-    c.requires.can.underway.few_old c.requires.can.underway.few_new in
+    length-turns_few c.args.parts.now.checked (history_of g.T.Moment.rank c.args.parts.now.store.events) c.requires.may_settle.new (g.T.Moment.rank c.args.at)
+    c.args.parts.now.props c.args.parts.now.neighbours.rows c.args.turns.now c.requires.may_settle.plains c.requires.may_settle.can.turned c.requires.may_settle.can.turns_at
+    c.requires.may_settle.can.underway.few_old c.requires.may_settle.can.underway.few_new in
     omega (arith, few)
 
 pub tally_of-requires-clause-added : goal.tally_of-requires-clause-added
 tally_of-requires-clause-added g c =
-    AreShown-added c.args.parts.now.props c.args.parts.now.neighbours.rows c.args.turns.now c.requires.plains c.requires.can.turned
+    AreShown-added c.args.parts.now.props c.args.parts.now.neighbours.rows c.args.turns.now c.requires.may_settle.plains c.requires.may_settle.can.turned
 
 pub settle_rows-settled-requires-clause-added : goal.settle_rows-settled-requires-clause-added
 settle_rows-settled-requires-clause-added g c =
-    added-rows g.T.Moment.rank c.args.parts.now.checked c.requires.new (view_of c.args.parts.now) c.requires.tally c.requires.change c.requires.r c.args.at
-    c.args.dirty.now c.requires.agenda c.args.agenda.now c.args.due.now c.args.turns.now c.requires.plains c.requires.looked c.args.planned.now c.requires.active
-    c.requires.can c.len.ensures.order c.len.ensures.numbers c.len-2.ensures.slots c.in_ok-tally.tally c.in_ok-tally.ensures.tallied c.in_ok-tally.ensures.rows
+    added-rows g.T.Moment.rank c.args.parts.now.checked c.requires.may_settle.new (view_of c.args.parts.now) c.requires.may_settle.tally c.requires.may_settle.change c.requires.may_settle.r c.args.at
+    c.args.dirty.now c.requires.may_settle.agenda c.args.agenda.now c.args.due.now c.args.turns.now c.requires.may_settle.plains c.requires.may_settle.looked c.args.planned.now c.requires.may_settle.active
+    c.requires.may_settle.can c.len.ensures.order c.len.ensures.numbers c.len-2.ensures.slots c.in_ok-tally.tally c.in_ok-tally.ensures.tallied c.in_ok-tally.ensures.rows
 
 pub settle_rows-settled-requires-clause-room : goal.settle_rows-settled-requires-clause-room
 settle_rows-settled-requires-clause-room g c =
-    room g.T.Moment.rank c.args.parts.now.checked c.requires.new (view_of c.args.parts.now) c.requires.tally c.requires.change c.requires.r c.args.at
-    c.args.dirty.now c.requires.agenda c.args.agenda.now c.args.due.now c.args.turns.now c.requires.plains c.requires.looked c.args.planned.now c.requires.active
-    c.requires.can c.len.ensures.order c.len.ensures.numbers c.len-2.ensures.slots c.in_ok-tally.tally c.in_ok-tally.ensures.tallied c.in_ok-tally.ensures.rows
+    room g.T.Moment.rank c.args.parts.now.checked c.requires.may_settle.new (view_of c.args.parts.now) c.requires.may_settle.tally c.requires.may_settle.change c.requires.may_settle.r c.args.at
+    c.args.dirty.now c.requires.may_settle.agenda c.args.agenda.now c.args.due.now c.args.turns.now c.requires.may_settle.plains c.requires.may_settle.looked c.args.planned.now c.requires.may_settle.active
+    c.requires.may_settle.can c.len.ensures.order c.len.ensures.numbers c.len-2.ensures.slots c.in_ok-tally.tally c.in_ok-tally.ensures.tallied c.in_ok-tally.ensures.rows
 
 pub returns : goal.returns
 returns g c =
@@ -48,7 +48,7 @@ returns g c =
     c.settle_rows-settled.ensures
 
 pub settle_rows-settled-requires-clause-marks_free : goal.settle_rows-settled-requires-clause-marks_free
-settle_rows-settled-requires-clause-marks_free g c = λ n. c.requires.can.planned_up_to.none_yet n (g.T.Moment.rank c.args.at) (before-next _ _ c.requires.can.next)
+settle_rows-settled-requires-clause-marks_free g c = λ n. c.requires.may_settle.can.planned_up_to.none_yet n (g.T.Moment.rank c.args.at) (before-next _ _ c.requires.may_settle.can.next)
 
 pub settle_rows-settled-requires-clause-initiations_free : goal.settle_rows-settled-requires-clause-initiations_free
-settle_rows-settled-requires-clause-initiations_free g c = λ n. c.requires.can.planned_up_to.not_yet n (g.T.Moment.rank c.args.at) (before-next _ _ c.requires.can.next)
+settle_rows-settled-requires-clause-initiations_free g c = λ n. c.requires.may_settle.can.planned_up_to.not_yet n (g.T.Moment.rank c.args.at) (before-next _ _ c.requires.may_settle.can.next)

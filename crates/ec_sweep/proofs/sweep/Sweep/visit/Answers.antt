@@ -13,19 +13,23 @@ take_due-requires g c = due-later g.T.Moment.rank c.args.self.now.agenda (g.T.Mo
 
 pub look-requires : goal.look-requires
 look-requires g c =
-    let leads = c.requires.leads in
-    CanLookAt-next g.T.Moment.rank c.args.parts.now.checked leads.new (view_of c.args.parts.now) leads.tally c.args.change.now c.args.self.now (g.T.Moment.rank c.args.at)
-    c.len.ensures.order c.len-2.ensures.slots leads.underway (c.requires.sweeping leads.new leads.tally leads.underway) c.requires.first c.requires.there
-    c.deref.result.now (λ n. ap (has_number n) c.deref.ensures.value ∙ c.in_ok-due.ensures.due n)
+    let leads = c.requires.leads in record {
+      may_look =
+          CanLookAt-next g.T.Moment.rank c.args.parts.now.checked leads.new (view_of c.args.parts.now) leads.tally c.args.change.now c.args.self.now (g.T.Moment.rank c.args.at)
+          c.len.ensures.order c.len-2.ensures.slots leads.underway (c.requires.sweeping leads.new leads.tally leads.underway) c.requires.first c.requires.there
+          c.deref.result.now (λ n. ap (has_number n) c.deref.ensures.value ∙ c.in_ok-due.ensures.due n);
+    }
 
 pub settle_all-requires : goal.settle_all-requires
 settle_all-requires g c =
-    let leads = c.requires.leads in
-    CanSettleAt-looked g.T.Moment.rank c.args.parts.now.checked leads.new (view_of c.args.parts.now) leads.tally c.args.change.now c.args.self.now (g.T.Moment.rank c.args.at)
-    c.len.ensures.order c.len-2.ensures.slots leads.underway (c.requires.sweeping leads.new leads.tally leads.underway) c.requires.first c.requires.there
-    c.deref.result.now (λ n. ap (has_number n) c.deref.ensures.value ∙ c.in_ok-due.ensures.due n)
-    c.look.new.looked c.in_ok-turns.turns.items c.deref-2.result.now c.deref-2.ensures.value c.in_ok-turns.ensures.looked
-    c.deref-3.result.now (λ n. ap (has_number n) c.deref-3.ensures.value ∙ c.in_ok-due.ensures.due n) c.take_due.new.agenda c.in_ok-due.ensures.behind
+    let leads = c.requires.leads in record {
+      may_settle =
+          CanSettleAt-looked g.T.Moment.rank c.args.parts.now.checked leads.new (view_of c.args.parts.now) leads.tally c.args.change.now c.args.self.now (g.T.Moment.rank c.args.at)
+          c.len.ensures.order c.len-2.ensures.slots leads.underway (c.requires.sweeping leads.new leads.tally leads.underway) c.requires.first c.requires.there
+          c.deref.result.now (λ n. ap (has_number n) c.deref.ensures.value ∙ c.in_ok-due.ensures.due n)
+          c.look.new.looked c.in_ok-turns.turns.items c.deref-2.result.now c.deref-2.ensures.value c.in_ok-turns.ensures.looked
+          c.deref-3.result.now (λ n. ap (has_number n) c.deref-3.ensures.value ∙ c.in_ok-due.ensures.due n) c.take_due.new.agenda c.in_ok-due.ensures.behind;
+    }
 
 pub returns-clause-sweeping : goal.returns-clause-sweeping
 returns-clause-sweeping g c = λ new tally underway.
