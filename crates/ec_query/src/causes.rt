@@ -137,7 +137,7 @@ pub(crate) fn find_cause<T: Moment, M: MarkRow<T>, I: SpanRow<T>, X: TimeRow<T>,
     at: T,
     steps: &mut Steps<L>,
 ) -> Cause
-    requires { (events : List PlainEvent) × (p : Ground) × AreOn T.rank parts.now.checked events (view_of parts.now) id.0 p × IsTrue (has_effect parts.now.checked events (is_current parts.now.checked events) (sought_by parts.now.checked p sought) (T.rank at)) }
+    requires on { (events : List PlainEvent) × (p : Ground) × AreOn T.rank parts.now.checked events (view_of parts.now) id.0 p × IsTrue (has_effect parts.now.checked events (is_current parts.now.checked events) (sought_by parts.now.checked p sought) (T.rank at)) }
     ensures cause { (events : List PlainEvent) (p : Ground) → AreOn T.rank parts.now.checked events (view_of parts.now) id.0 p → IsFirstCause parts.now.checked events (sought_by parts.now.checked p sought) (T.rank at) result }
     ensures steps { (events : List PlainEvent) (p : Ground) → AreOn T.rank parts.now.checked events (view_of parts.now) id.0 p → steps.new ≤ steps.old + 2 * count_at events (T.rank at) }
 {

@@ -38,7 +38,7 @@ fn origin_of<T: Moment, M: MarkRow<T>, I: SpanRow<T>, X: TimeRow<T>, L: Ledger>(
     begin: Begin<T>,
     steps: &mut Steps<L>,
 ) -> Origin<T>
-    requires { (events : List PlainEvent) × (p : Ground) × AreOn T.rank parts.now.checked events (view_of parts.now) id.0 p × IsBegun parts.now.checked events p (plain_begin T.rank begin) }
+    requires on { (events : List PlainEvent) × (p : Ground) × AreOn T.rank parts.now.checked events (view_of parts.now) id.0 p × IsBegun parts.now.checked events p (plain_begin T.rank begin) }
     ensures begin { plain_origin T.rank result ≡ plain_begin T.rank begin }
     ensures cause { (events : List PlainEvent) (p : Ground) → AreOn T.rank parts.now.checked events (view_of parts.now) id.0 p → HasOriginCause T.rank parts.now.checked events p result }
     ensures steps { (events : List PlainEvent) (p : Ground) → AreOn T.rank parts.now.checked events (view_of parts.now) id.0 p → steps.new ≤ steps.old + 2 * begin_count events (plain_begin T.rank begin) }
@@ -58,7 +58,7 @@ fn why_broken<T: Moment, M: MarkRow<T>, I: SpanRow<T>, X: TimeRow<T>, L: Ledger>
     mark: Mark<T>,
     steps: &mut Steps<L>,
 ) -> Reason<T>
-    requires { (events : List PlainEvent) × (p : Ground) × AreOn T.rank parts.now.checked events (view_of parts.now) id.0 p × IsBrokenAt T.rank parts.now.checked events p at (plain_begin T.rank begin) mark }
+    requires on { (events : List PlainEvent) × (p : Ground) × AreOn T.rank parts.now.checked events (view_of parts.now) id.0 p × IsBrokenAt T.rank parts.now.checked events p at (plain_begin T.rank begin) mark }
     ensures reason { (events : List PlainEvent) (p : Ground) → AreOn T.rank parts.now.checked events (view_of parts.now) id.0 p → IsBrokenAt T.rank parts.now.checked events p at (plain_begin T.rank begin) mark → IsReasonFor T.rank parts.now.checked events p (T.rank at) result }
     ensures steps { (events : List PlainEvent) (p : Ground) → AreOn T.rank parts.now.checked events (view_of parts.now) id.0 p → IsBrokenAt T.rank parts.now.checked events p at (plain_begin T.rank begin) mark → steps.new ≤ steps.old + why_steps parts.now.checked events p (T.rank at) }
 {
@@ -94,7 +94,7 @@ fn why_begun<T: Moment, M: MarkRow<T>, I: SpanRow<T>, X: TimeRow<T>, L: Ledger>(
     begin: Begin<T>,
     steps: &mut Steps<L>,
 ) -> Reason<T>
-    requires { (events : List PlainEvent) × (p : Ground) × AreOn T.rank parts.now.checked events (view_of parts.now) id.0 p × (begin_before (timeline_of parts.now.checked events p) (T.rank at) ≡ Some (plain_begin T.rank begin)) }
+    requires on { (events : List PlainEvent) × (p : Ground) × AreOn T.rank parts.now.checked events (view_of parts.now) id.0 p × (begin_before (timeline_of parts.now.checked events p) (T.rank at) ≡ Some (plain_begin T.rank begin)) }
     ensures reason { (events : List PlainEvent) (p : Ground) → AreOn T.rank parts.now.checked events (view_of parts.now) id.0 p → begin_before (timeline_of parts.now.checked events p) (T.rank at) ≡ Some (plain_begin T.rank begin) → IsReasonFor T.rank parts.now.checked events p (T.rank at) result }
     ensures steps { (events : List PlainEvent) (p : Ground) → AreOn T.rank parts.now.checked events (view_of parts.now) id.0 p → begin_before (timeline_of parts.now.checked events p) (T.rank at) ≡ Some (plain_begin T.rank begin) → steps.new ≤ steps.old + why_steps parts.now.checked events p (T.rank at) }
 {

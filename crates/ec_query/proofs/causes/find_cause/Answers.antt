@@ -7,8 +7,8 @@ use Rattle.ec_query.proofs.causes.find_cause.Goals as goal
 
 pub unreachable-requires : goal.unreachable-requires
 unreachable-requires g c =
-    first_cause-some c.args.parts.now.checked c.requires.0 (is_sought c.args.parts.now.checked c.requires.1 c.args.sought) (g.T.Moment.rank c.args.at) c.requires.3
-    (sym (c.in-None.ensures.cause c.requires.0 c.requires.1 c.requires.2))
+    first_cause-some c.args.parts.now.checked c.requires.on.0 (is_sought c.args.parts.now.checked c.requires.on.1 c.args.sought) (g.T.Moment.rank c.args.at) c.requires.on.3
+    (sym (c.in-None.ensures.cause c.requires.on.0 c.requires.on.1 c.requires.on.2))
 
 pub returns-clause-steps : goal.returns-clause-steps
 returns-clause-steps c = grind (arith, common_steps)

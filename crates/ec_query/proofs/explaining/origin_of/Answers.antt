@@ -15,12 +15,14 @@ returns-in-Initial g c = record {
 }
 
 pub find_cause-requires : goal.find_cause-requires
-find_cause-requires g c = (
-  c.requires.0,
-  c.requires.1,
-  c.requires.2,
-  subst (λ (b : Begin). IsBegun c.args.parts.now.checked c.requires.0 c.requires.1 b) (ap (plain_begin g.T.Moment.rank) c.in-At.is) c.requires.3,
-)
+find_cause-requires g c = record {
+  on = (
+    c.requires.on.0,
+    c.requires.on.1,
+    c.requires.on.2,
+    subst (λ (b : Begin). IsBegun c.args.parts.now.checked c.requires.on.0 c.requires.on.1 b) (ap (plain_begin g.T.Moment.rank) c.in-At.is) c.requires.on.3,
+  );
+}
 
 pub returns-in-At : goal.returns-in-At
 returns-in-At g c = record {

@@ -11,17 +11,20 @@ use Rattle.ec_query.proofs.explaining.why_begun.Goals as goal
 
 pub why_broken-requires : goal.why_broken-requires
 why_broken-requires g c =
-    let rank = g.T.Moment.rank in (
-      c.requires.0,
-      c.requires.1,
-      c.requires.2,
-      broken-at rank c.args.parts.now.checked c.requires.0 c.requires.1 c.args.at (plain_begin rank c.args.begin) c.in-Some.mark c.requires.3 (c.in-Some.ensures c.requires.0 c.requires.1 c.requires.2),
-    )
+    let rank = g.T.Moment.rank in record {
+      on = (
+        c.requires.on.0,
+        c.requires.on.1,
+        c.requires.on.2,
+        broken-at rank c.args.parts.now.checked c.requires.on.0 c.requires.on.1 c.args.at (plain_begin rank c.args.begin) c.in-Some.mark c.requires.on.3 (c.in-Some.ensures c.requires.on.0 c.requires.on.1 c.requires.on.2),
+      );
+    }
 
 pub origin_of-requires : goal.origin_of-requires
 origin_of-requires g c =
-    let rank = g.T.Moment.rank in
-    (c.requires.0, c.requires.1, c.requires.2, last_begin-begun c.args.parts.now.checked c.requires.0 c.requires.1 (rank c.args.at) (plain_begin rank c.args.begin) c.requires.3)
+    let rank = g.T.Moment.rank in record {
+      on = (c.requires.on.0, c.requires.on.1, c.requires.on.2, last_begin-begun c.args.parts.now.checked c.requires.on.0 c.requires.on.1 (rank c.args.at) (plain_begin rank c.args.begin) c.requires.on.3);
+    }
 
 pub returns-in-Some-clause-reason : goal.returns-in-Some-clause-reason
 returns-in-Some-clause-reason g c = λ events p on last.

@@ -11,13 +11,15 @@ pub find_cause-breaking-requires : goal.find_cause-breaking-requires
 find_cause-breaking-requires g c =
     let rank = g.T.Moment.rank in
     let theory = c.args.parts.now.checked in
-    let broken = c.requires.3 in (
-      c.requires.0,
-      c.requires.1,
-      c.requires.2,
-      broken-there theory c.requires.0 c.requires.1 (rank c.args.at) (plain_begin rank c.args.begin) broken.last (rank c.args.mark.at) broken.break
-          (not_terminated rank theory c.requires.0 c.requires.1 c.args.at (plain_begin rank c.args.begin) c.args.mark broken c.if-mark-eq0.true),
-    )
+    let broken = c.requires.on.3 in record {
+      on = (
+        c.requires.on.0,
+        c.requires.on.1,
+        c.requires.on.2,
+        broken-there theory c.requires.on.0 c.requires.on.1 (rank c.args.at) (plain_begin rank c.args.begin) broken.last (rank c.args.mark.at) broken.break
+            (not_terminated rank theory c.requires.on.0 c.requires.on.1 c.args.at (plain_begin rank c.args.begin) c.args.mark broken c.if-mark-eq0.true),
+      );
+    }
 
 pub returns-then-mark-eq0-clause-reason : goal.returns-then-mark-eq0-clause-reason
 returns-then-mark-eq0-clause-reason g c = λ events p on broken.
@@ -40,21 +42,25 @@ returns-then-mark-eq0-clause-steps g c = λ events p on broken.
 
 pub find_cause-ending-requires : goal.find_cause-ending-requires
 find_cause-ending-requires g c =
-    let rank = g.T.Moment.rank in (
-      c.requires.0,
-      c.requires.1,
-      c.requires.2,
-      terminated rank c.args.parts.now.checked c.requires.0 c.requires.1 c.args.at (plain_begin rank c.args.begin) c.args.mark c.requires.3 c.if-mark-eq0.false,
-    )
+    let rank = g.T.Moment.rank in record {
+      on = (
+        c.requires.on.0,
+        c.requires.on.1,
+        c.requires.on.2,
+        terminated rank c.args.parts.now.checked c.requires.on.0 c.requires.on.1 c.args.at (plain_begin rank c.args.begin) c.args.mark c.requires.on.3 c.if-mark-eq0.false,
+      );
+    }
 
 pub origin_of-origin-requires : goal.origin_of-origin-requires
 origin_of-origin-requires g c =
-    let rank = g.T.Moment.rank in (
-      c.requires.0,
-      c.requires.1,
-      c.requires.2,
-      last_begin-begun c.args.parts.now.checked c.requires.0 c.requires.1 (rank c.args.at) (plain_begin rank c.args.begin) c.requires.3.last,
-    )
+    let rank = g.T.Moment.rank in record {
+      on = (
+        c.requires.on.0,
+        c.requires.on.1,
+        c.requires.on.2,
+        last_begin-begun c.args.parts.now.checked c.requires.on.0 c.requires.on.1 (rank c.args.at) (plain_begin rank c.args.begin) c.requires.on.3.last,
+      );
+    }
 
 pub returns-then-holds-clause-reason : goal.returns-then-holds-clause-reason
 returns-then-holds-clause-reason g c = λ events p on broken.
