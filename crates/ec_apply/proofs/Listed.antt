@@ -3,10 +3,9 @@ use Rattle.std.proofs.Common.{◌≡◌, ℕ, zero, suc, Bool, true, false, cond
 use Rattle.std.specs.Prelude.{◌==◌}
 use Rattle.std.specs.List.{list_all}
 use Rattle.std.specs.Option.{option_map_or}
-use Rattle.std.proofs.lemmas.Bool.{cases_Bool, and_parts, eq-eqb, eqb-true}
+use Rattle.std.proofs.lemmas.Bool.{cases_Bool, and_parts, eq-eqb, eqb-true, not-true}
 use Rattle.std.proofs.Math.Bool.{or-false}
 use Rattle.ec_lists.proofs.Tests.{list_all-slice_get}
-use Rattle.ec_lists.proofs.Booleans.{false-from_not}
 use Rattle.ec_lists.proofs.Numbers.{eqb-turned}
 use Rattle.ec_rows.proofs.OrderedLemmas.{ascending-first, ascending-rest}
 use Rattle.ec_delta.specs.declared.touches.Touched.{Touched}
@@ -17,7 +16,7 @@ module _ {T : Type 0} where
   -- the first row is of no number of a later one
   first-other : (row r : Row T) (rows : List (Row T)) (i : ℕ) → IsTrue (are_once (r ∷ rows)) → slice_get rows i ≡ Some row → (r.0 == row.0) ≡ false
   first-other row r rows i once there =
-      false-from_not (r.0 == row.0) (list_all-slice_get (λ (s : Row T). not (r.0 == s.0)) rows i row (ascending-first (λ (a b : Row T). not (a.0 == b.0)) r rows once) there)
+      not-true (r.0 == row.0) (list_all-slice_get (λ (s : Row T). not (r.0 == s.0)) rows i row (ascending-first (λ (a b : Row T). not (a.0 == b.0)) r rows once) there)
 
   -- what is listed is found by its number
   pub touched_at-listed : (rows : List (Row T)) (i : ℕ) (row : Row T) → IsTrue (are_once rows) → slice_get rows i ≡ Some row → touched_at row.0 rows ≡ Some row.1
@@ -41,7 +40,7 @@ module _ {T : Type 0} where
   none-listed n [] none = refl
   none-listed n (r ∷ rows) none =
       let parts = and_parts (not (n == r.0)) _ none in
-      ap₂ (λ a b. (a && r.1.matters) || b) (eqb-turned n r.0 (false-from_not (n == r.0) parts.0)) (none-listed n rows parts.1)
+      ap₂ (λ a b. (a && r.1.matters) || b) (eqb-turned n r.0 (not-true (n == r.0) parts.0)) (none-listed n rows parts.1)
 
   -- it is all one whether a property is looked for or asked for
   pub matters_in-at : (n : ℕ) (rows : List (Row T)) → IsTrue (are_once rows) → matters_in n rows ≡ matters_at n rows

@@ -3,7 +3,7 @@ use Rattle.std.proofs.Common.{◌≡◌, ℕ, ℤ, Bool, true, false, cond, not,
 use Rattle.std.specs.Prelude.{◌==◌, bytes_eq, int_lt, nat_lt}
 use Rattle.std.specs.List.{All, list_all, list_any}
 use Rattle.std.specs.Ordering.{int_eq}
-use Rattle.std.proofs.lemmas.Bool.{cases_Bool, and_parts, and_from, false≢true}
+use Rattle.std.proofs.lemmas.Bool.{cases_Bool, and_parts, and_from, false≢true, not-true, not_from_false, false_from_ne_true}
 use Rattle.std.proofs.lemmas.Int.{ints}
 use Rattle.std.proofs.lemmas.List.{length-map}
 use Rattle.std.proofs.lemmas.Slice.Eq.{bytes_eq-Decides}
@@ -77,13 +77,9 @@ apart-history (e ∷ events) history =
     let absent = (and_parts (list_all (comes_before e) events) _ parts.0).1 in
     and_from _ _
     (list_all-from_members (λ (f : PlainEvent). not (bytes_eq e.id f.id)) events
-    (λ f member. other (bytes_eq e.id f.id) (λ same. false≢true (sym (ap not (member-list_any (λ (g : PlainEvent). bytes_eq g.id e.id) events f member
-    ((bytes_eq-Decides f.id e.id).1 (sym ((bytes_eq-Decides e.id f.id).0 same))))) ∙ absent))))
+    (λ f member. not_from_false (bytes_eq e.id f.id) (false_from_ne_true (bytes_eq e.id f.id) (λ same. false≢true (sym (ap not (member-list_any (λ (g : PlainEvent). bytes_eq g.id e.id) events f member
+    ((bytes_eq-Decides f.id e.id).1 (sym ((bytes_eq-Decides e.id f.id).0 same))))) ∙ absent)))))
     (apart-history events parts.1)
-  where
-    other : (b : Bool) → (b ≡ true → ⊥) → not b ≡ true
-    other true never = absurd (never refl)
-    other false never = refl
 
 -- a list whose images ascend ascends by them
 ascending-map : {X Y : Type 0} (before : Y → Y → Bool) (f : X → Y) (xs : List X) → is_ascending before (map f xs) ≡ true → is_ascending (λ x y. before (f x) (f y)) xs ≡ true
@@ -219,9 +215,6 @@ module _ {T : Type 0} (rank : T → ℤ) (theory : Theory) (table : List KeptPro
   added-event event member =
       let there = IsMember-from_filter (λ e. not (has_event old e)) new (event_of rank event) (subst (λ es. IsMember es (event_of rank event)) is_change.added (IsMember-map (event_of rank) change.add event member)) in
       (there.0, not-true (has_event old (event_of rank event)) there.1)
-    where
-      not-true : (b : Bool) → not b ≡ true → b ≡ false
-      not-true b e = grind arith
 
   -- the identity of an added event is not left in the store
   absent-id : (event : Event T) → IsMember change.add event → slot_of event.id (without_slots change.remove store.events) ≡ None

@@ -4,7 +4,7 @@ use Rattle.std.specs.Prelude.{◌==◌}
 use Rattle.std.specs.List.{All, IsDistinct, list_any}
 use Rattle.std.specs.Ordering.{int_eq}
 use Rattle.std.specs.Cmp.{int_eq_equiv}
-use Rattle.std.proofs.lemmas.Bool.{cases_Bool, and_parts, and_from, or_left, or_right, eq-eqb, and_left}
+use Rattle.std.proofs.lemmas.Bool.{cases_Bool, and_parts, and_from, or_left, or_right, eq-eqb, and_left, not-true}
 use Rattle.std.proofs.lemmas.Int.{ints}
 use Rattle.std.proofs.lemmas.List.{length-map}
 use Rattle.std.proofs.lemmas.List.Folds.{list_any-append}
@@ -13,7 +13,6 @@ use Rattle.std.proofs.Math.Bool.{and-false}
 use Rattle.ec_lists.proofs.Finds.{is_some-find}
 use Rattle.ec_lists.proofs.Integers.{int_eq-is, int_eq-same, int_eq-from_lt}
 use Rattle.ec_lists.proofs.Tests.{list_any-map, list_any-same}
-use Rattle.ec_lists.proofs.Booleans.{false-from_not}
 use Rattle.ec_terms.specs.declared.ground.Ground.{Ground}
 use Rattle.ec_terms.specs.declared.theory.Theory.{Theory}
 use Rattle.ec_axioms.specs.Calculus.{PlainEvent}
@@ -99,7 +98,7 @@ module _ {T : Type 0} (rank : T → ℤ) (law : ChangesAreMade rank) (theory : T
       ∙ change_at-own changes (ascending-rest (are_apart rank) d changes apart) c later
     where
       other : are_apart rank d c ≡ true → (d.0.0 == c.0.0 && int_eq (rank d.1.at) (rank c.1.at)) ≡ false
-      other e = false-from_not (d.0.0 == c.0.0 && int_eq (rank d.1.at) (rank c.1.at)) e
+      other e = not-true (d.0.0 == c.0.0 && int_eq (rank d.1.at) (rank c.1.at)) e
 
   -- so no new initiation clashes
   pub no_new_clashes : IsTrue (are_all_apart rank planned.initiations) → (clash : ℕ → ℤ → Bool) → new_clashes rank clash planned.initiations ≡ 0

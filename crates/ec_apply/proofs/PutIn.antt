@@ -2,7 +2,7 @@
 use Rattle.std.proofs.Common.{◌≡◌, ℕ, ◌+◌, ◌≤◌, ℤ, Bool, true, false, cond, not, ◌||◌, List, [], ◌∷◌, ◌++◌, length, map, find, Option, Some, None, is_some, refl, sym, ap, subst, ◌∙◌, inl, inr, ⊎_elim, slice_get, arith, length-append}
 use Rattle.std.specs.Prelude.{◌==◌, bytes_eq}
 use Rattle.std.specs.List.{list_any}
-use Rattle.std.proofs.lemmas.Bool.{cases_Bool, false≢true, eq-eqb}
+use Rattle.std.proofs.lemmas.Bool.{cases_Bool, false≢true, eq-eqb, not-true}
 use Rattle.std.proofs.lemmas.List.Folds.{list_any-append}
 use Rattle.std.proofs.lemmas.List.{map-append}
 use Rattle.std.proofs.lemmas.List.Sums.{sum_by-append}
@@ -147,9 +147,6 @@ module _ {T : Type 0} where
               ∙ so_far.fresh.absent i e (slice_get-behind add (event ∷ []) i e there);
           apart = (ascending-last (λ (x y : Event T). not (bytes_eq x.id y.id)) add event so_far.fresh.apart).0;
         }
-          where
-            not-true : (b : Bool) → not b ≡ true → b ≡ false
-            not-true b e = grind arith
 
         -- what stands under a slot now
         event-now : (slot : Slot) → event_at slot store'.events ≡ cond (put.slot.0 == slot.0) (Some event) (event_at slot store.events)

@@ -7,6 +7,7 @@ use Rattle.std.proofs.lemmas.List.Folds.{list_any-append}
 use Rattle.std.proofs.lemmas.Slice.Eq.{bytes_eq-Decides}
 use Rattle.std.proofs.Math.Bool.{or-false}
 use Rattle.ec_points.proofs.MadeChanges.{find-never}
+use Rattle.ec_lists.proofs.Booleans.{not-or_turned}
 use Rattle.ec_lists.proofs.Filters.{filter-each, filter-filter}
 use Rattle.ec_lists.proofs.Tests.{list_all-get_or}
 use Rattle.ec_apply.proofs.LastMembers.{ascending-last, live-parts}
@@ -126,10 +127,7 @@ module _ {T : Type 0} where
       → without_slots rest (filter (λ (k : Kept T). not (r.slot.0 == k.0.0)) events) ≡ without_slots (rest ++ r ∷ []) events
   without_slots-last rest r events =
       filter-filter (λ (k : Kept T). not (has_slot k.0 rest)) (λ k. not (r.slot.0 == k.0.0)) (λ k. not (has_slot k.0 (rest ++ r ∷ []))) events
-      (λ k. ap not (has_slot-last k.0 rest r) ∙ both (has_slot k.0 rest) (r.slot.0 == k.0.0))
-    where
-      both : (a b : Bool) → not (a || b) ≡ (not b && not a)
-      both a b = grind arith
+      (λ k. ap not (has_slot-last k.0 rest r) ∙ not-or_turned (has_slot k.0 rest) (r.slot.0 == k.0.0))
 
   -- with none to be taken out all are left
   pub without_slots-none : (removals : List (Removal T)) (events : List (Kept T)) → removals ≡ [] → without_slots removals events ≡ events

@@ -10,6 +10,7 @@ use Rattle.std.proofs.lemmas.List.Folds.{list_any-append}
 use Rattle.std.proofs.lemmas.Option.{get_or_from_slice_get, slice_get_within}
 use Rattle.std.proofs.lemmas.Slice.Eq.{bytes_eq-Decides}
 use Rattle.std.proofs.Math.Numerals.{suc-eq-add-one}
+use Rattle.ec_lists.proofs.Booleans.{not-or_turned}
 use Rattle.ec_lists.proofs.Filters.{filter-filter, filter-each}
 use Rattle.ec_lists.proofs.Finds.{find-map}
 use Rattle.ec_lists.proofs.Fronts.{drop-slice_get}
@@ -91,13 +92,7 @@ module _ {N : Type 0} where
   unfolding without_event
   untouched-before k n rest events =
       filter-filter (λ (e : PlainEvent). not (bytes_eq e.id k)) (λ (e : PlainEvent). not (is_touched e.id rest)) (λ (e : PlainEvent). not (is_touched e.id ((k, n) ∷ rest))) events
-      (λ e. both (bytes_eq e.id k) (is_touched e.id rest))
-    where
-      both : (a b : Bool) → not (a || b) ≡ (not b && not a)
-      both true true = refl
-      both true false = refl
-      both false true = refl
-      both false false = refl
+      (λ e. not-or_turned (bytes_eq e.id k) (is_touched e.id rest))
 
   -- what is found there
   pub event_with-untouched : (id : List ℕ) (touched : List (List ℕ × N)) (events : List PlainEvent) → event_with id (untouched touched events) ≡ cond (is_touched id touched) None (event_with id events)

@@ -8,6 +8,7 @@ use Rattle.std.proofs.lemmas.Bool.{cond-false, cases_Bool, false≢true}
 use Rattle.std.proofs.lemmas.Bool.Decides.{nat_tests}
 use Rattle.std.proofs.lemmas.Int.{ints}
 use Rattle.ec_lists.proofs.Integers.{int_lt-next}
+use Rattle.ec_lists.proofs.Booleans.{not-beq_same}
 use Rattle.ec_terms.specs.declared.ground.Ground.{Ground}
 use Rattle.ec_terms.specs.declared.theory.Theory.{Theory}
 use Rattle.ec_terms.specs.Domain.{GroundEntry, is_initial, is_strong}
@@ -158,12 +159,8 @@ module _ (theory : Theory) (old new : List PlainEvent) (t : ℤ) (quiet : IsQuie
       let now = differs-not theory old new p t same in
       let next : is_current theory old p (t +ℤ pos 1) ≡ is_current theory new p (t +ℤ pos 1) =
       CurrencyBehindMarks-law theory old p t ∙ ap₂ current_behind now (sym (quiet-mark p)) ∙ sym (CurrencyBehindMarks-law theory new p t) in
-      ap₂ (λ x y. not (beq x y)) next refl ∙ not_beq _ ∙ sym (ap₂ (λ x y. not (beq x y)) now refl ∙ not_beq _))
+      ap₂ (λ x y. not (beq x y)) next refl ∙ not-beq_same _ ∙ sym (ap₂ (λ x y. not (beq x y)) now refl ∙ not-beq_same _))
       (cases_Bool (differs theory old new p t))
-    where
-      not_beq : (b : Bool) → not (beq b b) ≡ false
-      not_beq true = refl
-      not_beq false = refl
 
 -- the law
 pub QuietInstantsPassOn-law : QuietInstantsPassOn

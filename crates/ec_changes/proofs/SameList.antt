@@ -2,6 +2,7 @@
 use Rattle.std.proofs.Common.{◌≡◌, ◌+◌, Bool, true, false, not, ◌&&◌, List, [], ◌++◌, length, IsFalse, refl, ap, ap₂, filter}
 use Rattle.std.specs.Bool.{beq}
 use Rattle.std.proofs.lemmas.Bool.{not_from_true}
+use Rattle.ec_lists.proofs.Booleans.{not-beq_same}
 use Rattle.ec_terms.specs.declared.ground.Ground.{Ground}
 use Rattle.ec_terms.specs.declared.theory.Theory.{Theory}
 use Rattle.ec_terms.specs.Domain.{GroundLiteral}
@@ -17,17 +18,12 @@ use Rattle.ec_changes.proofs.OtherIntervals.{intervals_eq-Decides}
 
 -- ---- the same list
 
--- a test is the same as itself
-beq-itself : (b : Bool) → not (beq b b) ≡ false
-beq-itself true = refl
-beq-itself false = refl
-
 -- no entry sees a change from a currency to itself
 sees_change-none : (current : Currency) (effect : Effect) → IsFalse (sees_change current current effect)
 unfolding sees_change
 sees_change-none current effect =
     list_any-never (λ (literal : GroundLiteral). not (beq (current literal.prop effect.event.rank) (current literal.prop effect.event.rank))) effect.entry.literals
-    (λ literal. beq-itself (current literal.prop effect.event.rank))
+    (λ literal. not-beq_same (current literal.prop effect.event.rank))
 
 -- no event stands in a list and not in it
 events_only_in-none : (events : List PlainEvent) → events_only_in events events ≡ []

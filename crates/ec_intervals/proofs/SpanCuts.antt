@@ -4,7 +4,7 @@ use Rattle.std.specs.Prelude.{int_lt, int_le, slice_get, IsTrue}
 use Rattle.std.specs.List.{list_all, list_any, HoldsAt, take-map, drop-map}
 use Rattle.std.specs.Option.{option_map_or}
 use Rattle.std.specs.Ordering.{int_eq}
-use Rattle.std.proofs.lemmas.Bool.{or_parts, false≢true, cases_Bool}
+use Rattle.std.proofs.lemmas.Bool.{or_parts, false≢true, cases_Bool, not-true}
 use Rattle.std.proofs.lemmas.Int.{ints}
 use Rattle.std.proofs.lemmas.Option.{slice_get_past}
 use Rattle.std.proofs.lemmas.List.Filters.{length-filter_both}
@@ -126,12 +126,8 @@ module _ {T : Type 0} (rank : T → ℤ) where
       list_all (λ i. not (ends_before a i)) (plain_spans rank spans) ≡ true
   from-last a [] proper from = refl
   from-last a (s ∷ spans) proper from =
-      ap₂ (λ x y. x && y) (lasts a (rank s.from) s (and-left (is_proper rank s) (list_all (is_proper rank) spans) proper) (not_true (int_lt (rank s.from) a) (and-left (not (int_lt (rank s.from) a)) _ from)))
+      ap₂ (λ x y. x && y) (lasts a (rank s.from) s (and-left (is_proper rank s) (list_all (is_proper rank) spans) proper) (not-true (int_lt (rank s.from) a) (and-left (not (int_lt (rank s.from) a)) _ from)))
       (from-last a spans (and-right (is_proper rank s) (list_all (is_proper rank) spans) proper) (and-right (not (int_lt (rank s.from) a)) _ from))
-    where
-      not_true : (b : Bool) → not b ≡ true → b ≡ false
-      not_true true is = absurd (false≢true is)
-      not_true false is = refl
 
   -- where a span covers a time, those in front of it end before the time, and the others do not
   pub covering-cut : (a : ℤ) (spans : List (Span T)) (i : ℕ) → IsSpanRow rank spans → i < length spans → HoldsAt (λ s. IsTrue (is_covering rank a s)) spans i →

@@ -197,12 +197,8 @@ module _ (strong initial : Bool) (a b : ℤ) (before : List PlainMark) (front st
 
     later-behind : list_all (λ (i : Interval). not (up_to_m i.from)) (later strong (mark_initiates m) ms) ≡ true
     later-behind =
-        list_all-weaker (λ (i : Interval). begins_where (λ s. int_lt m.instant s) i.from) (λ (i : Interval). not (up_to_m i.from)) (λ i. twice (begins_where (λ s. int_lt m.instant s) i.from))
+        list_all-weaker (λ (i : Interval). begins_where (λ s. int_lt m.instant s) i.from) (λ (i : Interval). not (up_to_m i.from)) (λ i behind. ap (λ b. not (not b)) behind)
         (later strong (mark_initiates m) ms) (later-begins (λ s. int_lt m.instant s) strong (mark_initiates m) ms behind_m)
-      where
-        twice : (b : Bool) → b ≡ true → not (not b) ≡ true
-        twice true is = refl
-        twice false is = is
 
     front-up_to : list_all (λ (i : Interval). up_to_m i.from) front ≡ true
     front-up_to = list_all-weaker (λ (i : Interval). not (is_start i.from)) (λ (i : Interval). up_to_m i.from) (λ i. one i.from) front in_front
@@ -236,11 +232,7 @@ module _ (strong initial : Bool) (a b : ℤ) (before : List PlainMark) (front st
 
     module _ (hi : ℕ) (taken : list_all (λ (i : Interval). not (begins_behind m.instant i)) (take hi starts) ≡ true) (dropped : list_all (begins_behind m.instant) (drop hi starts) ≡ true) where
       dropped_not : list_all (λ (i : Interval). not (up_to_m i.from)) (drop hi starts) ≡ true
-      dropped_not = list_all-weaker (begins_behind m.instant) (λ (i : Interval). not (up_to_m i.from)) (λ i. twice (begins_behind m.instant i)) (drop hi starts) dropped
-        where
-          twice : (b : Bool) → b ≡ true → not (not b) ≡ true
-          twice true is = refl
-          twice false is = is
+      dropped_not = list_all-weaker (begins_behind m.instant) (λ (i : Interval). not (up_to_m i.from)) (λ i behind. ap (λ b. not (not b)) behind) (drop hi starts) dropped
 
       cut : (front ++ take hi starts) ++ drop hi starts ≡ (ended ++ option_to_list (lasting end old_open)) ++ later strong (mark_initiates m) ms
       cut = append_assoc front (take hi starts) (drop hi starts) ∙ ap (λ xs. front ++ xs) (take-append-drop hi starts) ∙ parts

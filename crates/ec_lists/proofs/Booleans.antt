@@ -1,5 +1,6 @@
 -- Truth values, and what a choice between two values is.
 use Rattle.std.proofs.Common.{◌≡◌, Bool, true, false, not, cond, ◌&&◌, ◌||◌, List, map, Option, Some, None, option_map, is_some, refl, sym, ◌⊎◌, inl, inr, arith}
+use Rattle.std.specs.Bool.{beq}
 use Rattle.std.specs.Prelude.{if◌then◌else◌}
 use Rattle.std.proofs.lemmas.Bool.{false≢true}
 
@@ -13,6 +14,15 @@ and-left a b both = grind arith
 
 pub and-right : (a b : Bool) → (a && b) ≡ true → b ≡ true
 and-right a b both = grind arith
+
+-- not either is neither, in the other order
+pub not-or_turned : (a b : Bool) → not (a || b) ≡ (not b && not a)
+not-or_turned a b = grind arith
+
+-- a truth value does not differ from itself
+pub not-beq_same : (b : Bool) → not (beq b b) ≡ false
+not-beq_same true = refl
+not-beq_same false = refl
 
 -- ---- choices
 
@@ -51,12 +61,6 @@ is_some-cond false x o = refl
 pub cond-None : {A : Type 0} (test : Bool) (a : A) (rest : Option A) → (if test then Some a else rest) ≡ None → (test ≡ false) × (rest ≡ None)
 cond-None true a rest none = cc
 cond-None false a rest none = (refl, none)
-
--- ---- tests
-
--- what is not so fails
-pub false-from_not : (a : Bool) → not a ≡ true → a ≡ false
-false-from_not a is = grind arith
 
 -- one of three holds
 pub cases_or_three : (a b c : Bool) → (a || b || c) ≡ true → (a ≡ true) ⊎ ((b ≡ true) ⊎ (c ≡ true))

@@ -8,7 +8,7 @@ use Rattle.std.proofs.lemmas.List.Elements.{All-contains}
 use Rattle.ec_context.specs.Widened.{is_among, without_props}
 use Rattle.ec_context.proofs.Tables.{prop_at-without_props}
 use Rattle.ec_rows.proofs.OrderedLemmas.{is_ascending-filter}
-use Rattle.std.proofs.lemmas.Bool.{cases_Bool, false≢true, false_from_ne_true, eqb-true, eq-eqb}
+use Rattle.std.proofs.lemmas.Bool.{cases_Bool, false≢true, false_from_ne_true, eqb-true, eq-eqb, not-true}
 use Rattle.ec_terms.specs.declared.ids.PropId.{PropId}
 use Rattle.ec_terms.specs.declared.ground.Ground.{Ground}
 use Rattle.ec_terms.specs.declared.theory.Theory.{Theory}
@@ -100,11 +100,8 @@ IsOneToOne-without_props props table one = record {
   numbers = λ k d below.
       let x = get_or (without_props props table) k d in
       let parts = IsMember-from_filter (λ (kept : KeptProp). not (is_among kept.id props)) table x (IsMember_at (without_props props table) x k below (get_or_default (without_props props table) k x d below)) in
-      prop_at-without_props props x.id table (not_true _ parts.1) ∙ All-contains (λ (kept : KeptProp). prop_at kept.id table ≡ Some kept) table x one.numbers (Contains-from_member table x parts.0);
+      prop_at-without_props props x.id table (not-true _ parts.1) ∙ All-contains (λ (kept : KeptProp). prop_at kept.id table ≡ Some kept) table x one.numbers (Contains-from_member table x parts.0);
 }
-  where
-    not_true : (b : Bool) → not b ≡ true → b ≡ false
-    not_true b h = grind arith
 
 -- ---- all parts
 

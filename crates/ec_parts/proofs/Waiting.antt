@@ -2,7 +2,7 @@
 use Rattle.std.proofs.Common.{◌≡◌, ℕ, ℤ, ◌<◌, ◌≤◌, Bool, true, false, not, ◌||◌, List, [], ◌∷◌, ◌++◌, filter, length, get_or, Option, Some, None, is_some, IsSome, refl, sym, ap, ap₂, subst, ◌∙◌, inl, inr, ⊎_elim, arith}
 use Rattle.std.specs.Prelude.{◌==◌, nat_lt, option_map, flat_map}
 use Rattle.std.specs.List.{All}
-use Rattle.std.proofs.lemmas.Bool.{eqb-true}
+use Rattle.std.proofs.lemmas.Bool.{eqb-true, not-true}
 use Rattle.std.proofs.lemmas.List.{get_or_default}
 use Rattle.ec_lists.proofs.Filters.{filter_comm}
 use Rattle.ec_lists.proofs.Options.{Some-from_is_some, is_some-option_map}
@@ -56,10 +56,7 @@ kept_same items table id there =
     let k = Some-from_is_some (prop_at id (without_props items table)) there in
     let found = find-Some (λ (kept : KeptProp). kept.id == id) (without_props items table) k.0 k.1 in
     let stays = (IsMember-from_filter (λ (kept : KeptProp). not (is_among kept.id items)) table k.0 found.0).1 in
-    sym (prop_at-without_props items id table (ap (λ n. is_among n items) (sym (eqb-true k.0.id id found.1)) ∙ not_true _ stays))
-  where
-    not_true : (b : Bool) → not b ≡ true → b ≡ false
-    not_true b h = grind arith
+    sym (prop_at-without_props items id table (ap (λ n. is_among n items) (sym (eqb-true k.0.id id found.1)) ∙ not-true _ stays))
 
 term_same : (items : List PropId) (table : List KeptProp) (id : ℕ) → IsSome (prop_at id (without_props items table)) → term_at id table ≡ term_at id (without_props items table)
 term_same items table id there = ap (option_map (λ (k : KeptProp). k.term)) (kept_same items table id there)

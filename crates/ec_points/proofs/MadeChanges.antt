@@ -10,7 +10,7 @@ use Rattle.std.proofs.lemmas.List.Folds.{find-append}
 use Rattle.ec_lists.proofs.Finds.{find-filter, find_agree}
 use Rattle.ec_rows.specs.declared.mark.Mark.{Mark}
 use Rattle.ec_rows.specs.Marks.{is_counted, mark_at, with_mark}
-use Rattle.std.proofs.lemmas.Bool.{and_parts, cases_Bool}
+use Rattle.std.proofs.lemmas.Bool.{and_parts, cases_Bool, not-true}
 use Rattle.ec_rows.proofs.OrderedLemmas.{ascending-first, ascending-rest}
 use Rattle.ec_points.specs.Changes.{Change, are_apart, are_all_apart, without_mark, with_change, changed, change_at, made, ChangesAreMade}
 
@@ -133,9 +133,6 @@ module _ {T : Type 0} (rank : T → ℤ) (t : ℤ) where
         let ih : find is_here changes ≡ None = change_at-apart change changes number time (and_parts _ _ apart).1 in
         let not_here : is_here c ≡ false = same ∙ not-true _ here in
         ap (λ b. cond b (Some c) (find is_here changes)) not_here ∙ ih
-      where
-        not-true : (b : Bool) → not b ≡ true → b ≡ false
-        not-true b e = grind arith
 
     -- one change more, in front of others that are made
     module _ (change : Change T) (changes : List (Change T)) (apart : are_all_apart rank (change ∷ changes) ≡ true) (marks : List (Mark T))

@@ -3,7 +3,7 @@ use Rattle.std.proofs.Common.{◌≡◌, ℕ, ℤ, ◌+◌, ◌≤◌, suc, true
 use Rattle.std.specs.Prelude.{◌==◌, slice_get}
 use Rattle.std.specs.List.{list_all}
 use Rattle.std.specs.Ordering.{int_eq}
-use Rattle.std.proofs.lemmas.Bool.{and_parts, cases_Bool}
+use Rattle.std.proofs.lemmas.Bool.{and_parts, cases_Bool, not-true}
 use Rattle.std.proofs.Math.ListN.{drop_of_length-le}
 use Rattle.ec_lists.proofs.Fronts.{drop-slice_get}
 use Rattle.ec_rows.proofs.OrderedLemmas.{ascending-first}
@@ -38,9 +38,6 @@ module _ {T : Type 0} (rank : T → ℤ) where
       let both = and_parts (are_apart rank change c) (list_all (are_apart rank change) rest) apart in
       ap₂ (λ b cs. cond b (c ∷ cs) cs) (ap (λ b. is_clash c.1 && not b) (others c.0.0 (rank c.1.at) (not-true (is_here c.0.0 (rank c.1.at) change) both.0)))
       (new_clashes-after clash now change others rest both.1)
-    where
-      not-true : (b : Bool) → not b ≡ true → b ≡ false
-      not-true b e = grind arith
 
   module _ (changes : List (Change T)) where
     -- after i changes: those that are left lead to what all of them do, and there is room for them

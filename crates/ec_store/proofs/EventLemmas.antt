@@ -5,7 +5,7 @@ use Rattle.std.specs.List.{list_any, list_all}
 use Rattle.std.specs.Ordering.{int_cmp, int_eq, is_lt, is_eq, ordering_then}
 use Rattle.std.specs.declared.cmp.Ordering.{Ordering}
 use Rattle.std.specs.declared.cmp.Ordering.TheVariants.{Less, Equal, Greater}
-use Rattle.std.proofs.lemmas.Bool.{cases_Bool, false≢true, and_parts, and_right, or_right, or_parts}
+use Rattle.std.proofs.lemmas.Bool.{cases_Bool, false≢true, and_parts, and_right, or_right, or_parts, not-true}
 use Rattle.std.proofs.lemmas.Slice.Eq.{bytes_eq-Decides}
 use Rattle.ec_terms.specs.declared.ids.Slot.{Slot}
 use Rattle.ec_terms.specs.Term.{name_cmp}
@@ -20,7 +20,7 @@ use Rattle.ec_rows.proofs.TimeLemmas.{place_cmp-total}
 use Rattle.ec_store.specs.Store.{Kept, plain_of, history_of, slot_of, event_at, kept_before, with_kept, without_kept}
 use Rattle.ec_store.specs.EventRecords.{entry_of}
 use Rattle.ec_lists.proofs.Integers.{int_eq-same}
-use Rattle.ec_lists.proofs.Booleans.{option_map-cond, is_some-cond, map-cond, cond_comm, cond-same, cond-again, false-from_not}
+use Rattle.ec_lists.proofs.Booleans.{option_map-cond, is_some-cond, map-cond, cond_comm, cond-same, cond-again}
 use Rattle.ec_lists.proofs.Filters.{filter-not_any, filter-map}
 use Rattle.ec_lists.proofs.Numbers.{bytes_eq-turned}
 
@@ -125,7 +125,7 @@ module _ {T : Type 0} where
   unfolding is_history
   history-new rank k ks history =
       let outer = and_parts (list_all (comes_before (plain_of rank k)) (history_of rank ks) && not (has_id k.1.id (history_of rank ks))) (is_history (history_of rank ks)) history in
-      false-from_not (has_id k.1.id (history_of rank ks))
+      not-true (has_id k.1.id (history_of rank ks))
       (and_parts (list_all (comes_before (plain_of rank k)) (history_of rank ks)) (not (has_id k.1.id (history_of rank ks))) outer.0).1
 
   history-rest : (rank : T → ℤ) (k : Kept T) (ks : List (Kept T)) → is_history (history_of rank (k ∷ ks)) ≡ true → is_history (history_of rank ks) ≡ true

@@ -4,7 +4,7 @@ use Rattle.std.specs.Prelude.{◌==◌, option_map, option_and_then, slice_get, 
 use Rattle.std.specs.List.{list_any}
 use Rattle.std.specs.Option.{option_map_or}
 use Rattle.std.specs.Ordering.{int_eq}
-use Rattle.std.proofs.lemmas.Bool.{and_from, and_parts, eq-eqb, eqb-true, false≢true, false_from_ne_true}
+use Rattle.std.proofs.lemmas.Bool.{and_from, and_parts, eq-eqb, eqb-true, false≢true, false_from_ne_true, not-false}
 use Rattle.std.proofs.lemmas.List.Elements.{All-contains}
 use Rattle.ec_lists.proofs.Integers.{int_eq-is, int_eq-same}
 use Rattle.ec_terms.specs.declared.ids.PropId.{PropId}
@@ -163,12 +163,8 @@ module _ {T : Type 0} (rank : T → ℤ) (theory : Theory) (new : List PlainEven
       let told = can.underway.change_is.removed k.0 (Contains-from_member view.store.events k.0 k.1) in
       let missing : has_slot k.0.0 change.remove ≡ false =
       ap (λ n. list_any (λ (removal : Removal T). removal.slot.0 == n) change.remove) k.2 ∙ false_from_ne_true (has_slot slot change.remove) (λ goes. false≢true (sym stays ∙ goes_here goes)) in
-      ap (λ e. has_event new (event_of rank e)) (sym k.3) ∙ set (has_event new (plain_of rank k.0)) (sym told ∙ missing)
+      ap (λ e. has_event new (event_of rank e)) (sym k.3) ∙ not-false (has_event new (plain_of rank k.0)) (sym told ∙ missing)
     where
-      set : (b : Bool) → not b ≡ false → b ≡ true
-      set true fails = refl
-      set false fails = sym fails
-
       goes_here : has_slot slot change.remove ≡ true → has_slot slot removals ≡ true
       goes_here goes =
           let found = list_any-member (λ (removal : Removal T). removal.slot.0 == slot.0) change.remove goes in

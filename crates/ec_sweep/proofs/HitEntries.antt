@@ -4,7 +4,7 @@ use Rattle.std.specs.Prelude.{option_and_then, slice_get}
 use Rattle.std.specs.List.{All}
 use Rattle.std.specs.Option.{option_map_or}
 use Rattle.std.specs.Ordering.{int_eq}
-use Rattle.std.proofs.lemmas.Bool.{and_from, and_parts, eq-eqb}
+use Rattle.std.proofs.lemmas.Bool.{and_from, and_parts, eq-eqb, not-true}
 use Rattle.ec_parts.proofs.Waiting.{All-from_members}
 use Rattle.ec_terms.specs.declared.ids.PropId.{PropId}
 use Rattle.ec_numbered.specs.ByNumber.{kept_at}
@@ -56,11 +56,7 @@ module _ {T : Type 0} (rank : T → ℤ) (slots : Slots T) (t : ℤ) (dirty : Di
       let both = and_parts (not (has_slot hit.slot removals)) (depends_on_due rank slots t dirty due hit.slot.0 hit.place) (sym (are.hit hit.slot.0 hit.place) ∙ has_hit-member hits hit member) in
       let found = list_any-member (λ (p : PropId). is_some (dirty_at p.0 dirty) && depends_at rank slots t hit.slot.0 hit.place p.0) due both.1 in
       let parts = and_parts (is_some (dirty_at found.0.0 dirty)) (depends_at rank slots t hit.slot.0 hit.place found.0.0) found.2 in
-      record { prop = found.0; due_there = found.1; dirty_there = parts.0; depends = parts.1; stays = cleared _ both.0 }
-    where
-      cleared : (b : Bool) → not b ≡ true → b ≡ false
-      cleared true fails = sym fails
-      cleared false holds = refl
+      record { prop = found.0; due_there = found.1; dirty_there = parts.0; depends = parts.1; stays = not-true _ both.0 }
 
   pub hits-have_entries : All (λ (hit : Hit). IsSome (entry_at slots hit)) hits
   hits-have_entries =

@@ -4,7 +4,7 @@ use Rattle.std.specs.Prelude.{◌==◌, Contains, IsSome, nat_lt, is_some, unwra
 use Rattle.std.specs.List.{All, list_any}
 use Rattle.std.specs.Option.{option_map_or}
 use Rattle.std.specs.Ordering.{int_eq}
-use Rattle.std.proofs.lemmas.Bool.{cases_Bool, and_from, and_parts, cond-true, eq-eqb, eqb-true, false≢true, false_from_ne_true, or_cases, or_left, or_parts}
+use Rattle.std.proofs.lemmas.Bool.{cases_Bool, and_from, and_parts, cond-true, eq-eqb, eqb-true, false≢true, false_from_ne_true, or_cases, or_left, or_parts, not-true, not-false}
 use Rattle.std.proofs.lemmas.Bool.Decides.{nat_tests}
 use Rattle.std.proofs.lemmas.List.Elements.{All-contains, All-contains_itself, All-weaker}
 use Rattle.std.proofs.lemmas.Option.{none-some}
@@ -562,11 +562,8 @@ module _ {T : Type 0} (rank : T → ℤ) (theory : Theory) (new : List PlainEven
         let absent : row_mark_at rank (rank at) (marks_at n view.points) ≡ None =
         None-from_is_some (row_mark_at rank (rank at) (marks_at n view.points))
         (is_some-find (λ (m : Mark T). int_eq (rank m.at) (rank at)) (marks_at n view.points)
-        ∙ ap (λ (m : Mark T). has_mark rank (rank m.at) (marks_at n view.points)) (sym one.is.mark_is) ∙ not_true _ both.1) in
+        ∙ ap (λ (m : Mark T). has_mark rank (rank m.at) (marks_at n view.points)) (sym one.is.mark_is) ∙ not-true _ both.1) in
         ap₂ (λ a b. not a && b) (ap (λ o. is_counted (mark_or_zeros at o)) absent) both.0
-      where
-        not_true : (b : Bool) → not b ≡ true → b ≡ false
-        not_true b differs = grind arith
 
     -- and one with new initiations as one that starts
     starts : (n : ℕ) (p : Ground) (found : prop_of p view.table ≡ Some n) (known : Tallied) (there : row_at n rows ≡ Some known) → let one = settles.each (record { 0 = n }) known there in
@@ -577,13 +574,10 @@ module _ {T : Type 0} (rank : T → ℤ) (theory : Theory) (new : List PlainEven
         let absent : (is_marked (mark_at theory old p (rank at)) && mark_initiates (mark_at theory old p (rank at))) ≡ false =
         sym (has_initiation-is theory old p rank (marks_at n view.initiations)
         (can.underway.both.caches.initiations_of.marks n p (kept n p found) ∙ kept_initiations-all theory old p (breaks-planned after settles n p found known there planned_one)) (rank at))
-        ∙ ap (λ (m : Mark T). has_mark rank (rank m.at) (marks_at n view.initiations)) (sym one.is.mark_is) ∙ not_true _ both.1 in
+        ∙ ap (λ (m : Mark T). has_mark rank (rank m.at) (marks_at n view.initiations)) (sym one.is.mark_is) ∙ not-true _ both.1 in
         ap (λ a. a && not (nat_lt 0 (old_mark rank view.points at n).inits) && nat_lt 0 one.settled.mark.inits) planned_one
         ∙ ap₂ (λ a b. not a && b) (ap mark_initiates (mark n p found) ∙ silent (mark_at theory old p (rank at)) absent) (counted_starts one.settled.mark both.0)
       where
-        not_true : (b : Bool) → not b ≡ true → b ≡ false
-        not_true b differs = grind arith
-
         silent : (m : PlainMark) → (is_marked m && mark_initiates m) ≡ false → mark_initiates m ≡ false
         silent m none = grind (arith, nat_tests)
 
@@ -668,10 +662,7 @@ module _ {T : Type 0} (rank : T → ℤ) (theory : Theory) (new : List PlainEven
         first_fails a b second both = grind arith
 
         stay : (m k : Mark T) (b : Bool) → b ≡ is_some (mark_planned (plain_mark rank m) (plain_mark rank k)) → (b && not (m.inits == k.inits)) ≡ false → m.inits ≡ k.inits
-        stay m k true is_changed stays = eqb-true m.inits k.inits (not_false _ stays)
-          where
-            not_false : (b : Bool) → not b ≡ false → b ≡ true
-            not_false b fails = grind arith
+        stay m k true is_changed stays = eqb-true m.inits k.inits (not-false _ stays)
         stay m k false is_changed stays =
             eqb-true m.inits k.inits
             (and_parts (m.inits == k.inits) (m.terms == k.terms)

@@ -2,16 +2,11 @@
 use Rattle.std.proofs.Common.{◌≡◌, ◌<◌, ◌≤◌, ℕ, Bool, true, false, not, cond, refl, sym, ap, ap₂, ◌∙◌, arith}
 use Rattle.std.specs.Bool.{beq}
 use Rattle.std.specs.Prelude.{◌==◌, unwrap_or}
+use Rattle.std.proofs.lemmas.Bool.{not-true, not-false}
 use Rattle.ec_parts.specs.Activity.{is_bit_set}
 use Rattle.ec_sweep.specs.Words.{word_at}
 use Rattle.ec_sweep.proofs.HitLemmas.{WordsHit-one, active_of-read, acts_at-entry, entry_at-read, entry_at-within, turn_at-same, turn_at-turned}
 use Rattle.ec_sweep.proofs.look_hits.look_at.Goals as goal
-
-same_from_not : (b : Bool) → not b ≡ false → b ≡ true
-same_from_not b none = grind arith
-
-other_from_not : (b : Bool) → not b ≡ true → b ≡ false
-other_from_not b some = grind arith
 
 -- a place among few entries is one of a word
 place_in_word : (place many : ℕ) → place < many → many ≤ 64 → place < 64
@@ -50,7 +45,7 @@ returns-else-has_bit-now-clause-turns g c =
     (entry_at-read c.args.entries.now.slots c.args.hit c.active-before.result c.list.result.now c.as_slice-list.result.now c.from-place.result c.index-list-place.result c.requires c.list.ensures.list
     c.as_slice-list.ensures.items c.from-place.ensures c.index-list-place.is)
     ∙ sym c.evaluate-now.ensures.active)
-    ∙ same_from_not _ c.if-has_bit-now.false)
+    ∙ not-false _ c.if-has_bit-now.false)
 
 pub returns-in_ok-push-clause-turns : goal.returns-in_ok-push-clause-turns
 returns-in_ok-push-clause-turns g c =
@@ -63,7 +58,7 @@ returns-in_ok-push-clause-turns g c =
     (ap₂ beq
     (ap₂ is_bit_set (active_of-read c.args.entries.now.slots c.args.hit c.active-before.result c.active-before.ensures) (sym c.from-place.ensures) ∙ sym c.has_bit.ensures)
     acts
-    ∙ other_from_not _ c.if-has_bit-now.true)
+    ∙ not-true _ c.if-has_bit-now.true)
     acts read c.in_ok-push.ensures.items
 
 pub bounds-list-place : goal.bounds-list-place
