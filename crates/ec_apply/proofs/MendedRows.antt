@@ -9,6 +9,7 @@ use Rattle.std.proofs.lemmas.List.Folds.{list_any-append}
 use Rattle.ec_axioms.proofs.Members.{IsMember, filter_agree, list_any-false}
 use Rattle.std.specs.Cmp.Lexicographic.{pointwise}
 use Rattle.std.proofs.Math.Bool.{or-false}
+use Rattle.ec_lists.proofs.Booleans.{or_first}
 use Rattle.ec_axioms.specs.Changes.{interval_eq}
 use Rattle.ec_terms.specs.Domain.{is_strong}
 use Rattle.ec_exclusive.specs.Neighbours.{Neighbourhoods}
@@ -142,7 +143,7 @@ module _ {T : Type 0} (rank : T → ℤ) (around : Neighbourhoods) (points : Poi
       AreMendedSoFar-mend moved is more total = record {
         mended = λ m there. ⊎_elim
             (λ own. subst (λ k. IsMended rank around points k now') (eqb-true row.0 m own) mended)
-            (λ other. IsMended-same m (elsewhere m (apart m other)) (so_far.mended m (first (matters_in m (take i touched)) (row.0 == m) other (sym (matters_own m) ∙ there))))
+            (λ other. IsMended-same m (elsewhere m (apart m other)) (so_far.mended m (or_first (matters_in m (take i touched)) (row.0 == m) other (sym (matters_own m) ∙ there))))
             (cases_Bool (row.0 == m));
         others = λ m none. let parts = or_parts (matters_in m (take i touched)) (row.0 == m) (sym (matters_own m) ∙ none) in
             elsewhere m (apart m parts.1) ∙ so_far.others m parts.0;
@@ -154,9 +155,6 @@ module _ {T : Type 0} (rank : T → ℤ) (around : Neighbourhoods) (points : Poi
           one_at_most : (b : Bool) → cond b 1 0 ≤ 1
           one_at_most true = omega arith
           one_at_most false = omega arith
-
-          first : (a b : Bool) → b ≡ false → (a || b) ≡ true → a ≡ true
-          first a b other either = grind arith
 
           start_now : are_moved rank row.0 start now' ≡ are_moved rank row.0 now now'
           start_now = ap (λ x. not (pointwise interval_eq (plain_intervals rank (members_in x)) (intervals_at rank row.0 now'))) (sym same-row)

@@ -3,7 +3,7 @@ use Rattle.std.proofs.Common.{◌≡◌, ℕ, ℤ, Bool, true, false, cond, not,
 use Rattle.std.specs.Prelude.{◌==◌, bytes_eq, int_lt, nat_lt}
 use Rattle.std.specs.List.{All, list_all, list_any}
 use Rattle.std.specs.Ordering.{int_eq}
-use Rattle.std.proofs.lemmas.Bool.{cases_Bool, and_parts, and_from, false≢true, not-true, not_from_false, false_from_ne_true}
+use Rattle.std.proofs.lemmas.Bool.{cases_Bool, and_parts, and_from, false≢true, not-true, not_from_false, false_from_ne_true, eqb-true}
 use Rattle.std.proofs.lemmas.Int.{ints}
 use Rattle.std.proofs.lemmas.List.{length-map}
 use Rattle.std.proofs.lemmas.Slice.Eq.{bytes_eq-Decides}
@@ -27,7 +27,6 @@ use Rattle.ec_rows.specs.Ordered.{is_ascending}
 use Rattle.ec_rows.proofs.OrderedLemmas.{ascending-first, ascending-rest, is_ascending-filter}
 use Rattle.ec_store.specs.Store.{Kept, Store, event_at, history_of, plain_of, slot_of}
 use Rattle.ec_store.proofs.EventLemmas.{has_id-slot_of}
-use Rattle.ec_store.proofs.PropLemmas.{same_number}
 use Rattle.ec_store.specs.Table.{KeptProp}
 use Rattle.ec_numbered.specs.ByNumber.{kept_at}
 use Rattle.ec_context.specs.Entries.{shown_entries}
@@ -122,7 +121,7 @@ module _ {T : Type 0} where
     where
       at_number : (other : Slot) → (not (has_slot other removals) && (other.0 == slot.0)) ≡ (not (has_slot slot removals) && (other.0 == slot.0))
       at_number other =
-          ⊎_elim (λ here. ap (λ b. not b && (other.0 == slot.0)) (has_slot-number other slot removals (same_number other.0 slot.0 here)))
+          ⊎_elim (λ here. ap (λ b. not b && (other.0 == slot.0)) (has_slot-number other slot removals (eqb-true other.0 slot.0 here)))
           (λ elsewhere. ap (λ b. not (has_slot other removals) && b) elsewhere ∙ never (not (has_slot other removals)) (not (has_slot slot removals)) ∙ sym (ap (λ b. not (has_slot slot removals) && b) elsewhere))
           (cases_Bool (other.0 == slot.0))
         where
@@ -182,7 +181,7 @@ module _ {T : Type 0} (rank : T → ℤ) (theory : Theory) (table : List KeptPro
       two_apart r s at_r at_s before =
           ⊎_elim
           (λ number.
-          let found : event_at r.slot store.events ≡ event_at s.slot store.events = ap (λ n. option_map (λ (k : Kept T). k.1) (find (λ (k : Kept T). k.0.0 == n) store.events)) (same_number r.slot.0 s.slot.0 number) in
+          let found : event_at r.slot store.events ≡ event_at s.slot store.events = ap (λ n. option_map (λ (k : Kept T). k.1) (find (λ (k : Kept T). k.0.0 == n) store.events)) (eqb-true r.slot.0 s.slot.0 number) in
           let times : Some r.at ≡ Some s.at = sym at_r ∙ ap (option_map (λ (e : Event T). e.at)) found ∙ at_s in
           let at : r.at ≡ s.at = cc in
           absurd (false≢true (sym (not_before (rank r.at) (rank s.at) r.slot.0 s.slot.0 (ap rank at) number) ∙ before)))
@@ -310,7 +309,7 @@ module _ {T : Type 0} (rank : T → ℤ) (theory : Theory) (table : List KeptPro
                 in_new =
                     let under = kept_under slot e store.events is_event in
                     ap (λ (f : Event T). has_event new (event_of rank f)) (sym under.3) ∙ sym (left under.0 under.1)
-                    ∙ ap not (has_slot-number under.0.0 slot change.remove (same_number under.0.0.0 slot.0 under.2) ∙ stays)
+                    ∙ ap not (has_slot-number under.0.0 slot change.remove (eqb-true under.0.0.0 slot.0 under.2) ∙ stays)
 
         -- the entries are those of the new list
         pub entries-new : AreEntriesOf rank theory new table store' entered'

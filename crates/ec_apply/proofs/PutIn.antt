@@ -2,11 +2,11 @@
 use Rattle.std.proofs.Common.{◌≡◌, ℕ, ◌+◌, ◌≤◌, ℤ, Bool, true, false, cond, not, ◌||◌, List, [], ◌∷◌, ◌++◌, length, map, find, Option, Some, None, is_some, refl, sym, ap, subst, ◌∙◌, inl, inr, ⊎_elim, slice_get, arith, length-append}
 use Rattle.std.specs.Prelude.{◌==◌, bytes_eq}
 use Rattle.std.specs.List.{list_any}
-use Rattle.std.proofs.lemmas.Bool.{cases_Bool, false≢true, eq-eqb, not-true}
+use Rattle.std.proofs.lemmas.Bool.{cases_Bool, false≢true, eq-eqb, not-true, eqb-true}
 use Rattle.std.proofs.lemmas.List.Folds.{list_any-append}
 use Rattle.std.proofs.lemmas.List.{map-append}
 use Rattle.std.proofs.lemmas.List.Sums.{sum_by-append}
-use Rattle.ec_lists.proofs.Booleans.{cond_comm, option_map-cond}
+use Rattle.ec_lists.proofs.Booleans.{cond_comm, option_map-cond, or_left_comm}
 use Rattle.ec_lists.proofs.Numbers.{bytes_eq_comm}
 use Rattle.ec_lists.proofs.Places.{slice_get-behind}
 use Rattle.ec_lists.proofs.Tests.{list_all-slice_get}
@@ -17,7 +17,6 @@ use Rattle.ec_axioms.specs.Changes.{comes_before, event_eq, has_event, with_even
 use Rattle.ec_axioms.specs.Events.{event_of}
 use Rattle.ec_store.specs.Store.{Kept, Store, event_at, history_of, plain_of, slot_of, with_kept}
 use Rattle.ec_store.proofs.EventLemmas.{history_of-with_kept, slot_of-with_kept}
-use Rattle.ec_store.proofs.PropLemmas.{same_number}
 use Rattle.ec_numbered.specs.ByNumber.{kept_at}
 use Rattle.ec_context.specs.declared.entry.Entry.{Entry}
 use Rattle.ec_entries.specs.declared.event_entries.EventEntries.{EventEntries}
@@ -32,11 +31,8 @@ list_any-with_event p e [] = refl
 list_any-with_event p e (f ∷ es) =
     ⊎_elim
     (λ before. ap (λ b. list_any p (cond b (e ∷ f ∷ es) (f ∷ with_event e es))) before)
-    (λ later. ap (λ b. list_any p (cond b (e ∷ f ∷ es) (f ∷ with_event e es))) later ∙ ap (λ b. p f || b) (list_any-with_event p e es) ∙ swapped (p f) (p e) (list_any p es))
+    (λ later. ap (λ b. list_any p (cond b (e ∷ f ∷ es) (f ∷ with_event e es))) later ∙ ap (λ b. p f || b) (list_any-with_event p e es) ∙ or_left_comm (p f) (p e) (list_any p es))
     (cases_Bool (comes_before e f))
-  where
-    swapped : (a b c : Bool) → (a || (b || c)) ≡ (b || (a || c))
-    swapped a b c = grind arith
 
 module _ {T : Type 0} where
   -- ---- one event
@@ -162,7 +158,7 @@ module _ {T : Type 0} where
         kept-elsewhere slot elsewhere = put.others slot.0 (λ same. false≢true (sym elsewhere ∙ eq-eqb put.slot.0 slot.0 (sym same)))
 
         kept-here : (slot : Slot) → (put.slot.0 == slot.0) ≡ true → kept_at slot.0 entered'.slots ≡ Some (entries_kept event list active)
-        kept-here slot here = ap (λ n. kept_at n entered'.slots) (sym (same_number put.slot.0 slot.0 here)) ∙ put.kept
+        kept-here slot here = ap (λ n. kept_at n entered'.slots) (sym (eqb-true put.slot.0 slot.0 here)) ∙ put.kept
 
         aligned-now : AreAligned store'.events entered'.slots
         aligned-now slot =

@@ -2,7 +2,7 @@
 use Rattle.std.proofs.Common.{◌≡◌, ◌≢◌, ℕ, ℤ, Bool, true, false, cond, not, ◌&&◌, ◌||◌, List, [], ◌∷◌, ◌++◌, filter, find, Option, Some, None, option_map, is_some, IsTrue, IsSome, refl, sym, ap, subst, ◌∙◌, inl, inr, ⊎_elim, get_or, arith}
 use Rattle.std.specs.Prelude.{◌==◌, bytes_eq}
 use Rattle.std.specs.List.{All, list_all}
-use Rattle.std.proofs.lemmas.Bool.{cases_Bool, and_parts, false≢true, eq-eqb}
+use Rattle.std.proofs.lemmas.Bool.{cases_Bool, and_parts, false≢true, eq-eqb, eqb-true}
 use Rattle.std.proofs.lemmas.List.Folds.{list_any-append}
 use Rattle.std.proofs.lemmas.Slice.Eq.{bytes_eq-Decides}
 use Rattle.std.proofs.Math.Bool.{or-false}
@@ -18,7 +18,6 @@ use Rattle.ec_axioms.specs.Changes.{is_history, has_id, comes_before}
 use Rattle.ec_axioms.proofs.Members.{IsMember, Contains-from_member, IsMember-map, filter_agree, find-Some, member-list_any}
 use Rattle.ec_rows.specs.Ordered.{is_ascending}
 use Rattle.ec_store.specs.Store.{Kept, event_at, history_of, plain_of, without_kept}
-use Rattle.ec_store.proofs.PropLemmas.{same_number}
 use Rattle.ec_numbered.specs.ByNumber.{kept_at}
 use Rattle.ec_revise.specs.declared.change.Removal.{Removal}
 use Rattle.ec_revise.specs.Change.{has_slot}
@@ -76,7 +75,7 @@ module _ {T : Type 0} where
     id-slot k member =
         ⊎_elim
         (λ here.
-        let same : event_at k.0 events ≡ event_at slot events = event_at-number k.0 slot events (sym (same_number slot.0 k.0.0 here)) in
+        let same : event_at k.0 events ≡ event_at slot events = event_at-number k.0 slot events (sym (eqb-true slot.0 k.0.0 here)) in
         let own : event_at k.0 events ≡ Some k.1 = at_member k member in
         let one : k.1 ≡ event = cc in
         (bytes_eq-Decides k.1.id event.id).1 (ap (λ (e : Event T). e.id) one) ∙ sym here)
@@ -85,7 +84,7 @@ module _ {T : Type 0} where
         (λ same.
         let under = kept_under slot event events found in
         let one : k ≡ under.0 = same_kept rank events k under.0 history member under.1 ((bytes_eq-Decides k.1.id event.id).0 same ∙ ap (λ (e : Event T). e.id) (sym under.3)) in
-        let number : k.0.0 ≡ slot.0 = ap (λ (j : Kept T). j.0.0) one ∙ same_number under.0.0.0 slot.0 under.2 in
+        let number : k.0.0 ≡ slot.0 = ap (λ (j : Kept T). j.0.0) one ∙ eqb-true under.0.0.0 slot.0 under.2 in
         absurd (false≢true (sym elsewhere ∙ eq-eqb slot.0 k.0.0 (sym number))))
         (λ apart. apart ∙ sym elsewhere) (cases_Bool (bytes_eq k.1.id event.id)))
         (cases_Bool (slot.0 == k.0.0))
@@ -142,7 +141,7 @@ module _ {T : Type 0} where
     kept-left : (slot : Slot) → kept_at slot.0 slots' ≡ cond (r.slot.0 == slot.0) None (kept_at slot.0 slots)
     kept-left slot =
         ⊎_elim
-        (λ here. ap (λ n. kept_at n slots') (sym (same_number r.slot.0 slot.0 here)) ∙ absent ∙ sym (ap (λ b. cond b None (kept_at slot.0 slots)) here))
+        (λ here. ap (λ n. kept_at n slots') (sym (eqb-true r.slot.0 slot.0 here)) ∙ absent ∙ sym (ap (λ b. cond b None (kept_at slot.0 slots)) here))
         (λ elsewhere. others slot.0 (λ same. false≢true (sym elsewhere ∙ eq-eqb r.slot.0 slot.0 (sym same))) ∙ sym (ap (λ b. cond b None (kept_at slot.0 slots)) elsewhere))
         (cases_Bool (r.slot.0 == slot.0))
 

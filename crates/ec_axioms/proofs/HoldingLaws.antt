@@ -7,6 +7,7 @@ use Rattle.std.specs.Option.{option_map_or}
 use Rattle.std.specs.Ordering.{int_eq}
 use Rattle.std.proofs.lemmas.Bool.{and_parts, and_from, or_cases, or_parts, cases_Bool, not-true, not-false, and_right, ltb-true, false_from_ne_true, true_from_ne_false, both_ways}
 use Rattle.std.proofs.lemmas.Int.{ints}
+use Rattle.ec_lists.proofs.Booleans.{Bool-from_both}
 use Rattle.ec_axioms.specs.Timeline.{Timeline, Begin, before_all, begin_at, is_after, is_start, begins_of, initial_begins, next_break, interval_from, intervals_on, covers, is_held_at, is_current_on, carries, carries_initially, instants_before, instants_between}
 use Rattle.ec_axioms.specs.Calculus.{holds_at, intervals_of, timeline_of, timeline_by}
 use Rattle.ec_axioms.specs.Plain.{ends_well, HoldsWhereCurrent}
@@ -202,15 +203,12 @@ module _ (line : Timeline) (ascending : IsTrue (is_ascending line.instants)) (t 
   -- A property is held exactly where it is current and ends well.
   pub is_held_at-current : is_held_at (intervals_on line) t ≡ (is_current_on line t && ends_well line t)
   is_held_at-current =
-      same_answer (is_held_at (intervals_on line) t) (is_current_on line t && ends_well line t)
+      Bool-from_both (is_held_at (intervals_on line) t) (is_current_on line t && ends_well line t)
       (λ held.
       let found = list_any-member (λ begin. is_after begin t && option_map_or (λ x. line.terminated x && int_le t x) (next_break line begin) true) (begins_of line)
       (sym (is_held_at-begins line t) ∙ held) in
       held-current found.0 found.1 found.2)
       current-held
-    where
-      same_answer : (x y : Bool) → (x ≡ true → y ≡ true) → (y ≡ true → x ≡ true) → x ≡ y
-      same_answer x y to from = grind arith
 
 -- ---- of a history
 

@@ -7,6 +7,7 @@ use Rattle.std.proofs.lemmas.Bool.{and_parts, and_from, or_left, or_right}
 use Rattle.std.proofs.lemmas.Int.{ints}
 use Rattle.std.proofs.lemmas.List.{length-map}
 use Rattle.std.proofs.lemmas.Option.{slice_get_cases, get_or_from_slice_get}
+use Rattle.std.proofs.Math.Bool.{and-true}
 use Rattle.std.proofs.Math.ListN.{get_or-map}
 use Rattle.ec_terms.specs.declared.ground.Ground.{Ground}
 use Rattle.ec_terms.specs.declared.theory.Theory.{Theory}
@@ -181,9 +182,6 @@ current_by-last i b initial events t s last =
         any_before-last (λ r. i r && not (breaks_between b events t r)) events t s last
         ∙ ap₂ (λ x y. x || (i s && not y)) kept behind
         ∙ ap (λ x. (any_before (λ r. i r && not (breaks_between b events s r)) events s && not (b s)) || x) (and-true (i s))
-      where
-        and-true : (x : Bool) → (x && true) ≡ x
-        and-true x = grind arith
 
 -- Current behind the last instant: initiated there, or current there and not broken.
 pub is_current-last : (theory : Theory) (events : List PlainEvent) (p : Ground) (t s : ℤ) → IsLastBefore events t s →
@@ -204,9 +202,6 @@ is_current-first theory events p t none =
     ∙ current_by-past _ _ (is_initial theory p) events t
     ∙ ap (λ es. current_by (is_initiated theory events (is_current theory events) p) (has_break theory events (is_current theory events) p) (is_initial theory p) es t) none
     ∙ and-true (is_initial theory p)
-  where
-    and-true : (x : Bool) → (x && true) ≡ x
-    and-true x = grind arith
 
 -- ---- the answer of a program that asks step by step
 

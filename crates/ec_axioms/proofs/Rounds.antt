@@ -6,6 +6,7 @@ use Rattle.std.specs.Ordering.{int_eq}
 use Rattle.std.proofs.lemmas.Bool.{cases_Bool}
 use Rattle.std.proofs.lemmas.Int.{ints}
 use Rattle.std.proofs.lemmas.List.{nil_from_length}
+use Rattle.std.proofs.Math.Bool.{and-true}
 use Rattle.ec_terms.specs.declared.ground.Ground.{Ground}
 use Rattle.ec_terms.specs.declared.theory.Theory.{Theory}
 use Rattle.ec_terms.specs.Domain.{GroundEntry, is_initial}
@@ -13,7 +14,7 @@ use Rattle.ec_axioms.specs.Laws.{SolvesEquation, CurrencyIsTheSolution, PastIsCl
 use Rattle.ec_axioms.specs.Timeline.{Timeline, is_current_on, carries}
 use Rattle.ec_axioms.specs.Calculus.{PlainEvent, Currency, instants_of, effects_at, is_initiated, has_break, timeline_by, round_current, is_current}
 use Rattle.ec_lists.proofs.Filters.{filter-filter_wider, filter-none, length-filter_le, length-filter_wider}
-use Rattle.ec_lists.proofs.Integers.{int_lt-trans}
+use Rattle.ec_lists.proofs.Integers.{int_lt-trans, int_le-same}
 use Rattle.ec_axioms.proofs.Effects.{list_any-instants, current_by, is_current_on-by, current_by-same, current_by-past, events_at, is_active-same, effects_at-same, effects_at-events, effects_at-none, is_initiated-same, has_break-same}
 
 -- ---- how many instants lie before
@@ -61,9 +62,6 @@ next_round-first theory events c p t none =
     let line : Timeline = timeline_by theory events c p in
     let empty : filter (λ s. int_lt s t) (instants_of events) ≡ [] = nil_from_length (filter (λ s. int_lt s t) (instants_of events)) (omega arith) in
     ap (λ us. list_any (carries line t) us || (line.initial && not (list_any line.breaks us))) empty ∙ and-true (is_initial theory p)
-  where
-    and-true : (b : Bool) → (b && true) ≡ b
-    and-true b = grind arith
 
 -- a currency is settled by that at the times that have fewer instants before them
 next_round-deeper : (theory : Theory) (events : List PlainEvent) (c d : Currency) (n : ℕ) (p : Ground) (t : ℤ) → depth_at events t ≤ suc n →
@@ -119,9 +117,6 @@ CurrencyIsTheSolution-law = (
       (λ s within q. solves q s) (λ s within q. is_current-equation theory events q s)
       (depth_at events t) t (int_le-same t) (omega arith) p,
 )
-  where
-    int_le-same : (t : ℤ) → int_le t t ≡ true
-    int_le-same t = grind (arith, ints)
 
 -- ---- the past is closed
 

@@ -1,11 +1,11 @@
 -- What is found in a list of events by identity, once an event is put in or taken out.
-use Rattle.std.proofs.Common.{◌≡◌, ◌+◌, ℕ, Bool, true, false, not, cond, ◌&&◌, ◌||◌, suc, List, [], ◌∷◌, length, Option, Some, None, is_some, IsTrue, IsFalse, refl, sym, ap, subst, ◌∙◌, ⊎_elim, arith}
+use Rattle.std.proofs.Common.{◌≡◌, ◌+◌, ℕ, Bool, true, false, not, cond, ◌&&◌, suc, List, [], ◌∷◌, length, Option, Some, None, is_some, IsTrue, IsFalse, refl, sym, ap, subst, ◌∙◌, ⊎_elim, arith}
 use Rattle.std.specs.Prelude.{bytes_eq}
 use Rattle.std.specs.List.{list_all}
 use Rattle.std.proofs.lemmas.Bool.{cases_Bool, and_parts, not-true, cond-true, cond-false, false≢true, false_from_ne_true}
 use Rattle.std.proofs.lemmas.Slice.Eq.{bytes_eq-Decides}
 use Rattle.ec_lists.proofs.Finds.{is_some-find}
-use Rattle.ec_lists.proofs.Booleans.{cond_comm}
+use Rattle.ec_lists.proofs.Booleans.{cond_comm, or_second}
 use Rattle.ec_axioms.specs.Calculus.{PlainEvent}
 use Rattle.ec_axioms.specs.Changes.{has_id, comes_before, is_history, has_event, with_event, without_event}
 use Rattle.ec_axioms.proofs.Histories.{comes_before-trans, is_history-with_event, is_history-without_event, absent_parts}
@@ -122,14 +122,11 @@ length-without_event id (f ∷ events) history there =
     ap (λ b. length (cond (not b) (f ∷ without_event id events) (without_event id events)) + 1) own
     ∙ ap (λ es. length es + 1) (without_event-absent id events gone) ∙ one_more (length events))
     (λ other.
-    let rest : IsTrue (has_id id events) = second (bytes_eq f.id id) (has_id id events) other there in
+    let rest : IsTrue (has_id id events) = or_second (bytes_eq f.id id) (has_id id events) other there in
     ap (λ b. length (cond (not b) (f ∷ without_event id events) (without_event id events)) + 1) other
     ∙ behind (length (without_event id events)) (length events) (length-without_event id events parts.1 rest))
     (cases_Bool (bytes_eq f.id id))
   where
-    second : (a b : Bool) → a ≡ false → (a || b) ≡ true → b ≡ true
-    second a b none some = grind arith
-
     one_more : (n : ℕ) → n + 1 ≡ suc n
     one_more n = omega arith
 

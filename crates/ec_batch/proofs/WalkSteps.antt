@@ -10,7 +10,7 @@ use Rattle.std.proofs.lemmas.List.Sorted.{length_permutation, list_any-IsPermuta
 use Rattle.std.proofs.lemmas.Slice.Eq.{bytes_eq-Decides}
 use Rattle.ec_lists.proofs.Finds.{find-map}
 use Rattle.ec_lists.proofs.Tests.{list_any-filter_map}
-use Rattle.ec_lists.proofs.Options.{None-from_is_some, is_some-option_map}
+use Rattle.ec_lists.proofs.Options.{None-from_is_some, is_some-option_map, IfSome-weaker}
 use Rattle.ec_terms.specs.declared.ids.PropId.{PropId}
 use Rattle.ec_terms.specs.declared.ids.Slot.{Slot}
 use Rattle.ec_terms.specs.declared.ground.Ground.{Ground}
@@ -132,11 +132,6 @@ few-let_in theory events after is = by_tests (nat_lt most_mentions (length (ment
 
 -- ---- what stands under an identity
 
--- what is said of something there
-if_there : {A : Type 0} (o : Option A) (P Q : A → Type 0) → ((a : A) → P a → Q a) → IfSome o P → IfSome o Q
-if_there None P Q so here = here
-if_there (Some a) P Q so here = so a here
-
 -- entries that are shown stay shown
 shown_moved : {T : Type 0} (theory : Theory) (before after : List KeptProp) → ((id : ℕ) (p : Ground) → term_at id before ≡ Some p → term_at id after ≡ Some p) → (added : Added T)
     → shown_entries before added.entries ≡ Some (entries_of theory added.event.term) → shown_entries after added.entries ≡ Some (entries_of theory added.event.term)
@@ -147,7 +142,7 @@ module _ {T : Type 0} {rank : T → ℤ} {theory : Theory} {events : List (Kept 
   IsNet-moved soon later id n same net = record {
     old = net.old;
     new = net.new ∙ sym same;
-    entries = if_there n.new _ _ (λ added is. shown_moved theory before after keeps added is) net.entries;
+    entries = IfSome-weaker n.new _ _ (λ added is. shown_moved theory before after keeps added is) net.entries;
   }
 
   -- where nothing is put under an identity

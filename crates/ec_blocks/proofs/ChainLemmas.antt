@@ -2,6 +2,7 @@
 use Rattle.std.proofs.Common.{◌≡◌, ℕ, ◌+◌, ◌-◌, ◌*◌, ◌^◌, ◌<◌, ◌≤◌, zero, suc, Bool, true, false, ◌&&◌, List, [], ◌∷◌, ◌++◌, length, map, get_or, take, drop, set, Option, Some, None, refl, sym, ap, ap₂, subst, ◌∙◌, length-append, length-drop, length-set, add-one, zero-add, arith}
 use Rattle.std.specs.Prelude.{nat_lt, nat_le, nat_eq, slice_get}
 use Rattle.std.specs.List.{insert, remove, list_all}
+use Rattle.std.proofs.lemmas.Bool.{le-leb, lt-ltb}
 use Rattle.std.proofs.lemmas.List.{length-map, get_or-map, get_or-drop, map-set}
 use Rattle.std.proofs.lemmas.Bool.Decides.{nat_tests}
 use Rattle.std.proofs.lemmas.List.Edits.{length-insert, length-remove}
@@ -155,18 +156,12 @@ module _ {X : Type 0} where
   starts-below bound n [] all few = refl
   starts-below bound n (b ∷ blocks) all few =
       let most : length b ≤ 128 = is_block-most b (and-left _ _ all) in
-      ap₂ (λ a c. a && c) (below n bound (omega arith)) (starts-below bound (n + length b) blocks (and-right _ _ all) (omega arith))
-    where
-      below : (m n : ℕ) → m < n → nat_lt m n ≡ true
-      below m n lt = grind (arith, nat_tests)
+      ap₂ (λ a c. a && c) (lt-ltb n bound (omega arith)) (starts-below bound (n + length b) blocks (and-right _ _ all) (omega arith))
 
   -- and no start is before the first
   starts-from-first : (least n : ℕ) (blocks : List (List X)) → least ≤ n → list_all (λ place. nat_le least place) (starts_from n blocks) ≡ true
   starts-from-first least n [] le = refl
-  starts-from-first least n (b ∷ blocks) le = ap₂ (λ a c. a && c) (upto least n le) (starts-from-first least (n + length b) blocks (omega arith))
-    where
-      upto : (m n : ℕ) → m ≤ n → nat_le m n ≡ true
-      upto m n le = grind (arith, nat_tests)
+  starts-from-first least n (b ∷ blocks) le = ap₂ (λ a c. a && c) (le-leb least n le) (starts-from-first least (n + length b) blocks (omega arith))
 
   -- behind a block they are not 0
   pub starts-above : (blocks : List (List X)) (k : ℕ) → list_all is_block blocks ≡ true → list_all (λ place. nat_le 1 place) (drop (suc k) (starts_from 0 blocks)) ≡ true

@@ -2,7 +2,7 @@
 use Rattle.std.proofs.Common.{◌≡◌, ℕ, ◌+◌, ◌-◌, ◌<◌, ◌≤◌, ◌⊎◌, inl, inr, ⊎_elim, Bool, true, false, if◌then◌else◌, List, length, get_or, refl, ap, arith}
 use Rattle.std.specs.Prelude.{nat_le, nat_lt}
 use Rattle.std.specs.List.Sorted.{IsNonDecreasingBy, IsPartitionPoint}
-use Rattle.std.proofs.lemmas.Bool.Decides.{nat_tests}
+use Rattle.std.proofs.lemmas.Bool.{ltb-true, leb-true, leb-false, le-leb, lt-leb}
 use Rattle.std.proofs.lemmas.List.{get_or_default}
 
 -- between the two there are some numbers that have not been looked at
@@ -10,21 +10,6 @@ pub record Bracketed (ns : List ℕ) (i low size : ℕ) : Type 0 where
   pub within : low + size < length ns
   pub before : (k : ℕ) → k < low → get_or ns k 0 ≤ i
   pub behind : (k : ℕ) → low + size ≤ k → k < length ns → i < get_or ns k 0
-
-upto : (n i : ℕ) → nat_le n i ≡ true → n ≤ i
-upto n i test = grind (arith, nat_tests)
-
-beyond : (n i : ℕ) → nat_le n i ≡ false → i < n
-beyond n i test = grind (arith, nat_tests)
-
-is_upto : (n i : ℕ) → n ≤ i → nat_le n i ≡ true
-is_upto n i le = grind (arith, nat_tests)
-
-is_beyond : (n i : ℕ) → i < n → nat_le n i ≡ false
-is_beyond n i less = grind (arith, nat_tests)
-
-below : (i n : ℕ) → nat_lt i n ≡ true → i < n
-below i n test = grind (arith, nat_tests)
 
 -- one of two places within a list
 pub one-within : (n high end chosen : ℕ) (test : Bool) → high < n → end < n → chosen ≡ (if test then high else end) → chosen < n
@@ -34,7 +19,7 @@ one-within n high end chosen false high_in end_in same = omega (arith, same)
 -- one of two places, as the number at the first tells
 pub bracketed-end : (ns : List ℕ) (i high end chosen n : ℕ) (test : Bool) → nat_lt i n ≡ test → end + 1 ≡ length ns → n ≡ get_or ns high 0 → chosen ≡ (if test then high else end) →
     (chosen + 1 ≡ length ns) ⊎ (i < get_or ns chosen 0)
-bracketed-end ns i high end chosen n true less last is same = inr (omega (arith, below i n less, is, ap (λ k. get_or ns k 0) same))
+bracketed-end ns i high end chosen n true less last is same = inr (omega (arith, ltb-true i n less, is, ap (λ k. get_or ns k 0) same))
 bracketed-end ns i high end chosen n false more last is same = inl (omega (arith, same, last))
 
 module _ (ns : List ℕ) (i : ℕ) (rise : IsNonDecreasingBy (λ n. n) ns) where
@@ -52,7 +37,7 @@ module _ (ns : List ℕ) (i : ℕ) (rise : IsNonDecreasingBy (λ n. n) ns) where
   pub bracketed-none : (count last n : ℕ) → count ≡ length ns → last + 1 ≡ count → n ≡ get_or ns last 0 → n ≤ i →
       IsPartitionPoint (λ m. nat_le m i ≡ true) (λ m. nat_le m i ≡ false) ns count
   bracketed-none count last n same end is le = (
-    λ k d _ less. is_upto _ i (omega (arith, get_or_default ns k d 0 (omega arith), rise k last 0 (omega arith) (omega arith))),
+    λ k d _ less. le-leb _ i (omega (arith, get_or_default ns k d 0 (omega arith), rise k last 0 (omega arith) (omega arith))),
     λ k d ge inside. absurd (omega arith),
   )
 
@@ -66,10 +51,10 @@ module _ (ns : List ℕ) (i : ℕ) (rise : IsNonDecreasingBy (λ n. n) ns) where
 
       cuts : (test : Bool) → nat_le n i ≡ test → IsPartitionPoint (λ m. nat_le m i ≡ true) (λ m. nat_le m i ≡ false) ns (if test then low + 1 else low)
       cuts true passes = (
-        λ k d _ less. is_upto _ i (let within = found.within in omega (arith, at k d (omega arith), upto n i passes, rise k low 0 (omega arith) (omega arith))),
-        λ k d ge inside. is_beyond _ i (omega (arith, at k d inside, found.behind k (omega arith) inside)),
+        λ k d _ less. le-leb _ i (let within = found.within in omega (arith, at k d (omega arith), leb-true n i passes, rise k low 0 (omega arith) (omega arith))),
+        λ k d ge inside. lt-leb _ i (omega (arith, at k d inside, found.behind k (omega arith) inside)),
       )
       cuts false fails = (
-        λ k d _ less. is_upto _ i (let within = found.within in omega (arith, at k d (omega arith), found.before k less)),
-        λ k d ge inside. is_beyond _ i (omega (arith, at k d inside, beyond n i fails, rise low k 0 ge inside)),
+        λ k d _ less. le-leb _ i (let within = found.within in omega (arith, at k d (omega arith), found.before k less)),
+        λ k d ge inside. lt-leb _ i (omega (arith, at k d inside, leb-false n i fails, rise low k 0 ge inside)),
       )

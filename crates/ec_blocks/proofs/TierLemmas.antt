@@ -3,7 +3,7 @@ use Rattle.std.proofs.Common.{◌≡◌, ℕ, ◌+◌, ◌-◌, ◌*◌, ◌/◌
 use Rattle.std.specs.Prelude.{nat_lt, slice_get}
 use borrow.Rule.Slice.PartMut.{put_mid}
 use Rattle.std.specs.List.{insert, remove, list_all}
-use Rattle.std.proofs.lemmas.Bool.{cases_lt}
+use Rattle.std.proofs.lemmas.Bool.{cases_lt, ltb-true, ltb-false}
 use Rattle.std.proofs.lemmas.Bool.Decides.{nat_tests}
 use Rattle.std.proofs.lemmas.List.{append-nil, length_push, length-take-le, take-append-drop, drop-drop, take_at, drop_at, take_all, drop_all, drop_more, take_more_set, get_or_at, set_at, take-append-le, drop-append-le, take-set-le, drop-set-lt, drop-set-add, get_or-take, get_or-drop, get_or_append_left, get_or-append_right, set-append_left, set-append_right, set-get_or, set_split}
 use Rattle.std.proofs.lemmas.List.Edits.{insert-append_left, insert-append_right, remove-append_right, length-insert, get_or-insert_at, paste_all}
@@ -439,16 +439,10 @@ module _ {X : Type 0} (hs : List ℕ) (ms : List X) (count : length hs ≡ lengt
   spot t = if t then 64 * (k / 64) + (get_or hs (k / 64) 0 + k % 64) % 64 else k
 
   grouped : nat_lt (k / 64) (length hs) ≡ true → k / 64 < length hs
-  grouped less = lt (k / 64) (length hs) less
-    where
-      lt : (a b : ℕ) → nat_lt a b ≡ true → a < b
-      lt a b less = grind (arith, nat_tests)
+  grouped less = ltb-true (k / 64) (length hs) less
 
   ungrouped : nat_lt (k / 64) (length hs) ≡ false → length hs ≤ k / 64
-  ungrouped more = le (k / 64) (length hs) more
-    where
-      le : (a b : ℕ) → nat_lt a b ≡ false → b ≤ a
-      le a b more = grind (arith, nat_tests)
+  ungrouped more = ltb-false (k / 64) (length hs) more
 
   -- a member lies among all
   pub place-within : place_of hs k < length ms

@@ -1,5 +1,5 @@
 -- Counts of the entries of kept events: whole number by whole number, over quiet stretches, and as sums over instants.
-use Rattle.std.proofs.Common.{◌≡◌, ℕ, zero, suc, ◌+◌, ℤ, pos, ◌+ℤ◌, Bool, true, false, not, ◌&&◌, ◌||◌, List, [], ◌∷◌, ◌++◌, length, filter, flat_map, IsTrue, IsFalse, refl, sym, ap, subst, ◌∙◌, ⊎_elim, arith}
+use Rattle.std.proofs.Common.{◌≡◌, ℕ, zero, suc, ◌+◌, ℤ, pos, ◌+ℤ◌, Bool, false, not, ◌&&◌, ◌||◌, List, [], ◌∷◌, ◌++◌, length, filter, flat_map, IsTrue, IsFalse, refl, sym, ap, subst, ◌∙◌, ⊎_elim, arith}
 use Rattle.std.specs.Prelude.{int_lt, int_le}
 use Rattle.std.specs.Bool.{beq}
 use Rattle.std.specs.List.{list_any, list_all, sum_by, IsDistinct}
@@ -8,7 +8,9 @@ use Rattle.std.proofs.lemmas.Bool.{cases_Bool, cond-true, cond-false, false≢tr
 use Rattle.std.proofs.lemmas.Bool.Decides.{Decides-int_eq}
 use Rattle.std.proofs.lemmas.Int.{ints}
 use Rattle.std.proofs.lemmas.List.Elements.{filter-append}
+use Rattle.ec_lists.proofs.Booleans.{not-and_same, and-not_same}
 use Rattle.ec_lists.proofs.Filters.{filter-filter, filter_comm}
+use Rattle.ec_lists.proofs.Integers.{int_lt-from_le_turned}
 use Rattle.ec_terms.specs.declared.theory.Theory.{Theory}
 use Rattle.ec_terms.specs.Domain.{GroundLiteral}
 use Rattle.ec_axioms.specs.Plain.{events_at}
@@ -89,15 +91,12 @@ KeptCountsAreWhole-law theory old new test t = (
   λ late. ap length (filter_none (λ (effect : Effect). int_lt effect.event.rank t && test effect) (kept_effects theory old new)
       (λ effect member.
       let not_before = list_all-member (λ (e : PlainEvent). int_le t e.rank) (kept_events old new) effect.event late (event-kept_effects theory old new effect member) in
-      ap (λ b. b && test effect) (reached effect.event.rank not_before))),
+      ap (λ b. b && test effect) (int_lt-from_le_turned t effect.event.rank not_before))),
   λ early. ap length (filter_agree (λ (effect : Effect). int_lt effect.event.rank t && test effect) test (kept_effects theory old new)
       (λ effect member.
       let before = list_all-member (λ (e : PlainEvent). int_lt e.rank t) (kept_events old new) effect.event early (event-kept_effects theory old new effect member) in
       ap (λ b. b && test effect) before)),
 )
-  where
-    reached : (s : ℤ) → int_le t s ≡ true → int_lt s t ≡ false
-    reached s from = grind (arith, ints)
 
 -- ---- quiet
 
@@ -153,16 +152,10 @@ pub QuietCountsNothing-law : QuietCountsNothing
 QuietCountsNothing-law theory old new r n quiet = record {
   seen = kept_count-stretch theory old new (sees theory old new) (quiet-unseen theory old new) r n quiet;
   on = kept_count-stretch theory old new (turns_on theory old new)
-      (λ t here effect member. not_on _ _ (quiet-active theory old new t here effect member)) r n quiet;
+      (λ t here effect member. not-and_same _ _ (quiet-active theory old new t here effect member)) r n quiet;
   off = kept_count-stretch theory old new (turns_off theory old new)
-      (λ t here effect member. not_off _ _ (quiet-active theory old new t here effect member)) r n quiet;
+      (λ t here effect member. and-not_same _ _ (quiet-active theory old new t here effect member)) r n quiet;
 }
-  where
-    not_on : (before after : Bool) → before ≡ after → (not before && after) ≡ false
-    not_on before after same = grind arith
-
-    not_off : (before after : Bool) → before ≡ after → (before && not after) ≡ false
-    not_off before after same = grind arith
 
 -- ---- sums
 

@@ -1,10 +1,10 @@
 -- Before the first event that stands in one list alone, the two lists have the same events, and so all else is the same.
-use Rattle.std.proofs.Common.{◌≡◌, ℤ, ◌≤ℤ◌, ◌<ℤ◌, Bool, true, not, ◌&&◌, ◌||◌, List, map, IsTrue, sym, ap, ap₂, subst, ◌∙◌, ⊎_elim, arith, IsFalse, false, filter}
+use Rattle.std.proofs.Common.{◌≡◌, ℤ, ◌≤ℤ◌, ◌<ℤ◌, Bool, true, not, ◌&&◌, ◌||◌, List, map, IsTrue, sym, ap, ap₂, subst, ◌∙◌, ⊎_elim, arith, IsFalse, filter}
 use Rattle.std.specs.Prelude.{int_lt, int_le}
 use Rattle.std.specs.Ordering.{int_eq}
 use Rattle.std.proofs.lemmas.Bool.{false_from_ne_true, cases_Bool, false≢true, not_from_false}
 use Rattle.std.proofs.lemmas.Int.{ints}
-use Rattle.ec_lists.proofs.Integers.{int_le-from, int_lt-not_after, int_lt-same}
+use Rattle.ec_lists.proofs.Integers.{int_le-from, int_lt-not_after, int_lt-same, int_lt-from_le_turned}
 use Rattle.ec_lists.proofs.Filters.{filter_comm, filter-filter_wider}
 use Rattle.ec_terms.specs.declared.ground.Ground.{Ground}
 use Rattle.ec_terms.specs.declared.theory.Theory.{Theory}
@@ -61,10 +61,7 @@ events_before-same : (old new : List PlainEvent) (t : ℤ) → IsTrue (is_histor
     → events_before t old ≡ events_before t new
 events_before-same old new t history_old history_new late =
     events-passing (λ e. int_lt e.rank t) old new history_old history_new
-    (λ e member. reached e.rank (list_all-member (λ (f : PlainEvent). int_le t f.rank) (single_events old new) e late member))
-  where
-    reached : (s : ℤ) → int_le t s ≡ true → int_lt s t ≡ false
-    reached s from = grind (arith, ints)
+    (λ e member. int_lt-from_le_turned t e.rank (list_all-member (λ (f : PlainEvent). int_le t f.rank) (single_events old new) e late member))
 
 -- and the same events up to each earlier time
 events_up_to-same : (old new : List PlainEvent) (s t : ℤ) → events_before t old ≡ events_before t new → s <ℤ t → events_up_to s old ≡ events_up_to s new

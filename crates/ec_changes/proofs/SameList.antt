@@ -1,7 +1,8 @@
 -- Between a list and itself nothing changed.
-use Rattle.std.proofs.Common.{◌≡◌, ◌+◌, Bool, true, false, not, ◌&&◌, List, [], ◌++◌, length, IsFalse, refl, ap, ap₂, filter}
+use Rattle.std.proofs.Common.{◌≡◌, ◌+◌, not, List, [], ◌++◌, length, IsFalse, refl, ap, ap₂, filter}
 use Rattle.std.specs.Bool.{beq}
 use Rattle.std.proofs.lemmas.Bool.{not_from_true}
+use Rattle.std.proofs.Math.Bool.{not-and_self, and-not_self}
 use Rattle.ec_lists.proofs.Booleans.{not-beq_same}
 use Rattle.ec_terms.specs.declared.ground.Ground.{Ground}
 use Rattle.ec_terms.specs.declared.theory.Theory.{Theory}
@@ -45,16 +46,8 @@ SameListChangesNothing-law theory events =
     ap length (filter_none (sees_change current current) effects (λ effect member. sees_change-none current effect)) in
     record {
       seen = unseen;
-      on = ap length (filter_none (turns_on theory events events) effects (λ effect member. not_both (is_active current effect)));
-      off = ap length (filter_none (turns_off theory events events) effects (λ effect member. both_not (is_active current effect)));
+      on = ap length (filter_none (turns_on theory events events) effects (λ effect member. not-and_self (is_active current effect)));
+      off = ap length (filter_none (turns_off theory events events) effects (λ effect member. and-not_self (is_active current effect)));
       props = ap length (filter_none (has_other_intervals theory events events) (live_properties theory (events ++ events)) (λ p member. has_other_intervals-none theory events p));
       work = ap₂ (λ seen singles. seen + entry_count theory (singles ++ singles) + length (singles ++ singles)) unseen (events_only_in-none events);
     }
-  where
-    not_both : (b : Bool) → (not b && b) ≡ false
-    not_both true = refl
-    not_both false = refl
-
-    both_not : (b : Bool) → (b && not b) ≡ false
-    both_not true = refl
-    both_not false = refl

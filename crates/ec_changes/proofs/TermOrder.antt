@@ -23,7 +23,7 @@ pub IsBelow-itself : (p : Ground) → IsBelow p p → ⊥
 IsBelow-itself p below = let same = tied_itself term_cmp-total p in let apart : Less ≡ Equal = sym below ∙ same in cc
 
 -- of two not both are below the other
-IsBelow-one_way : (p q : Ground) → IsBelow p q → IsBelow q p → ⊥
+pub IsBelow-one_way : (p q : Ground) → IsBelow p q → IsBelow q p → ⊥
 IsBelow-one_way p q below above = IsBelow-itself p (term_cmp-total.trans p q p below above)
 
 -- a property that is not another, and not below it, is above it

@@ -8,6 +8,7 @@ use Rattle.std.proofs.lemmas.Cmp.{nat_eq_equiv}
 use Rattle.std.proofs.lemmas.List.Folds.{list_all-append}
 use Rattle.std.proofs.lemmas.Map.Made.{length-from_keys}
 use Rattle.std.proofs.Math.Bool.{and_assoc, or-true}
+use Rattle.ec_lists.proofs.Booleans.{Bool-from_both}
 use Rattle.ec_terms.specs.declared.pattern.PatArg.{PatArg}
 use Rattle.ec_terms.specs.declared.pattern.PatArg.TheVariants.{Var, Any, Fixed}
 use Rattle.ec_terms.specs.declared.theory.Test.{Test}
@@ -17,12 +18,6 @@ use Rattle.ec_terms.specs.declared.theory.Exclusive.{Exclusive}
 use Rattle.ec_terms.specs.Binding.{is_small_place, stands_at}
 use Rattle.ec_check.specs.Faults.{each_open, rule_places, exclusive_places, variables_in, has_few_variables}
 use Rattle.ec_check.specs.Numbering.{AreWithoutGap}
-
--- two tests that pass together are the same
-same_test : (a b : Bool) → (a ≡ true → b ≡ true) → (b ≡ true → a ≡ true) → a ≡ b
-same_test true b there back = sym (there refl)
-same_test false true there back = back refl
-same_test false false there back = refl
 
 -- ---- the numbers below a number
 
@@ -140,7 +135,7 @@ is_member-variables (Fixed a ∷ places) q = is_member-variables places q
 distinct_count-bound : (places : List PatArg) → AreWithoutGap places → distinct_count nat_eq (variables_in places) ≡ bound places
 distinct_count-bound places full =
     sym (length-from_keys nat_eq_equiv (below (bound places)) (variables_in places) (below-distinct (bound places))
-    (λ q. same_test _ _ (λ there. is_member-variables places q ∙ below-stands places full q (below-is_member (bound places) q there))
+    (λ q. Bool-from_both _ _ (λ there. is_member-variables places q ∙ below-stands places full q (below-is_member (bound places) q there))
     (λ there. is_member-below (bound places) q (stands-below places q (sym (is_member-variables places q) ∙ there))))) ∙ length-below (bound places)
 
 small-bound : (places : List PatArg) → list_all is_small_place places ≡ true → bound places ≤ 16
@@ -167,7 +162,7 @@ pub few_in_places : (places : List PatArg) → AreWithoutGap places → list_all
 unfolding has_few_variables
 few_in_places places full =
     let count = distinct_count-bound places full in
-    same_test _ _ (λ small. le-leb _ _ (let low = small-bound places small in omega (arith, low, count)))
+    Bool-from_both _ _ (λ small. le-leb _ _ (let low = small-bound places small in omega (arith, low, count)))
     (λ few. bound-small places (let low = leb-true (distinct_count nat_eq (variables_in places)) 16 few in omega (arith, low, count)))
 
 pub few_in_exclusive : (e : Exclusive) → AreWithoutGap (exclusive_places e) → (list_all is_small_place e.left.args && list_all is_small_place e.right.args) ≡ has_few_variables (exclusive_places e)

@@ -4,10 +4,10 @@ use Rattle.std.proofs.Common.{◌≡◌, ◌+◌, ◌-◌, ◌<◌, ◌≤◌, �
 use Rattle.std.specs.Prelude.{int_lt, int_le}
 use Rattle.std.specs.List.Sorted.{IsPartitionedBy}
 use Rattle.std.proofs.lemmas.Bool.{cases_lt}
-use Rattle.std.proofs.lemmas.Int.{ints}
 use Rattle.std.proofs.lemmas.List.{drop-take, get_or_default, get_or-drop, get_or-take}
 use Rattle.std.proofs.Common.{drop-drop}
 use Rattle.ec_lists.proofs.Partitions.{IsCut}
+use Rattle.ec_lists.proofs.Integers.{int_le-from_lt}
 use Rattle.ec_blocks.proofs.SearchLemmas.{IsPartitionPoint-from_edges}
 use Rattle.ec_entries.specs.declared.event_entries.Dependent.{Dependent}
 use Rattle.ec_entries.specs.Dependents.{AreInOrder, dependents_after, dependents_at}
@@ -48,9 +48,6 @@ module _ {X : Type 0} (xs few : List X) (from : ℕ) (start : from < length xs) 
 
 module _ {T : Type 0} (rank : T → ℤ) (t : ℤ) (ds few : List (Dependent T)) (from : ℕ) (start : from < length ds) (is : few ≡ take (length few) (drop from ds))
     (order : AreInOrder rank ds) where
-  not_later : (r : ℤ) → int_lt r t ≡ true → int_le r t ≡ true
-  not_later r = grind (arith, ints)
-
   -- those at a time, where they and the one behind them are among some members, and one before the time in front of them
   pub dependents_at-few : (before end : ℕ) → 1 ≤ before → before ≤ end → end < length few →
       ((k : ℕ) (d : Dependent T) → k < before → int_lt (rank (get_or few k d).at) t ≡ true) → ((d : Dependent T) → int_lt (rank (get_or few before d).at) t ≡ false) →
@@ -61,7 +58,7 @@ module _ {T : Type 0} (rank : T → ℤ) (t : ℤ) (ds few : List (Dependent T))
       ∙ dependents_at-run rank t ds (from + before) (from + end) (omega (arith, ordered))
       (IsCut-few ds few from start is (earlier rank t) before (IsPartitionedBy-earlier rank t ds order) some (omega (arith, ordered, less)) passed next)
       (IsCut-few ds few from start is (up_to rank t) end (IsPartitionedBy-up_to rank t ds order) (omega (arith, some, ordered)) less
-      (λ k d below. ⊎_elim (λ early. not_later (rank (get_or few k d).at) (passed k d early)) (λ late. after_passed k d late below) (cases_lt k before))
+      (λ k d below. ⊎_elim (λ early. int_le-from_lt (rank (get_or few k d).at) t (passed k d early)) (λ late. after_passed k d late below) (cases_lt k before))
       after_next)
       (drop before few) (drop-few ds few from start is before (omega (arith, ordered, less))) (omega (arith, length-drop before few, less))
 

@@ -10,6 +10,7 @@ use Rattle.std.specs.List.Sorted.{IsPartitionedBy}
 use Rattle.std.proofs.lemmas.Cmp.{int_cmp_total, nat_cmp_total, on_total, then_total}
 use Rattle.std.proofs.lemmas.Bool.{cases_Bool}
 use Rattle.std.proofs.lemmas.Int.{ints}
+use Rattle.std.proofs.Math.Bool.{or-true}
 use Rattle.ec_entries.specs.declared.event_entries.Dependent.{Dependent}
 use Rattle.ec_entries.specs.Dependents.{AreInOrder, dependent_before, from_place, is_from}
 use Rattle.ec_rows.proofs.OrderedLemmas.{IsPlace, IsPlace-by_key, IsOrder-by_key, IsPartitionedBy-ascending, at-from_any, filter-behind_free, free-from_none, is_ascending-remove, is_ascending-with_member, is_at, is_eq-is_at, with_member-free}
@@ -82,11 +83,8 @@ list_any-kept test other y ys (x ∷ xs) kept here =
     (λ passes. let both : x ∷ filter test xs ≡ y ∷ ys = ap (λ b. cond b (x ∷ filter test xs) (filter test xs)) (sym passes) ∙ kept in
     let same : x ≡ y = cc in ap (λ z. other z || list_any other xs) same ∙ ap (λ b. b || list_any other xs) here)
     (λ fails. ap (λ b. other x || b)
-    (list_any-kept test other y ys xs (ap (λ b. cond b (x ∷ filter test xs) (filter test xs)) (sym fails) ∙ kept) here) ∙ or_true (other x))
+    (list_any-kept test other y ys xs (ap (λ b. cond b (x ∷ filter test xs) (filter test xs)) (sym fails) ∙ kept) here) ∙ or-true (other x))
     (cases_Bool (test x))
-  where
-    or_true : (b : Bool) → (b || true) ≡ true
-    or_true b = grind arith
 
 -- ---- the order
 

@@ -3,6 +3,7 @@ use Rattle.std.proofs.Common.{◌≡◌, ◌≢◌, ℕ, Bool, true, false, not,
 use Rattle.std.specs.Prelude.{◌==◌, option_map}
 use Rattle.std.proofs.Math.Path.{fun_ext}
 use Rattle.std.proofs.lemmas.Bool.{cases_Bool, false≢true}
+use Rattle.ec_lists.proofs.Booleans.{and-left, and-right}
 use Rattle.ec_terms.specs.declared.ids.PropId.{PropId}
 use Rattle.ec_terms.specs.declared.ground.Ground.{Ground}
 use Rattle.ec_terms.specs.declared.theory.Theory.{Theory}
@@ -75,16 +76,8 @@ module _ (test : PropId → Option TermForm) (forms : List (Option Form)) (ps : 
   forms-without p new others =
       map-on_members (λ q. form_kept q.0 new) test (without_number p ps)
       (λ q there. let both : (not (q.0 == p.0) && has_number q.0 ps) ≡ true = sym (has_number-filter q (λ (s : PropId). not (s.0 == p.0)) ps) ∙ there in
-      ap (option_map form_in) (others q.0 (λ is. apart q (left _ _ both) is)) ∙ form-read q (right _ _ both))
+      ap (option_map form_in) (others q.0 (λ is. apart q (and-left _ _ both) is)) ∙ form-read q (and-right _ _ both))
     where
-      left : (a b : Bool) → (a && b) ≡ true → a ≡ true
-      left true b is = refl
-      left false b is = is
-
-      right : (a b : Bool) → (a && b) ≡ true → b ≡ true
-      right true b is = is
-      right false b is = cc
-
       apart : (q : PropId) → not (q.0 == p.0) ≡ true → q.0 ≢ p.0
       apart q e is = let yes : (q.0 == p.0) ≡ true = grind arith in let no : not true ≡ true = rw yes at e in false≢true no
 

@@ -5,7 +5,7 @@ use Rattle.std.specs.List.{insert, remove, cons_option}
 use Rattle.std.specs.Ordering.{is_eq}
 use Rattle.std.specs.Cmp.Lexicographic.{texts_ties}
 use Rattle.std.specs.declared.cmp.Ordering.{Ordering}
-use Rattle.std.proofs.lemmas.Bool.{cases_Bool, false≢true}
+use Rattle.std.proofs.lemmas.Bool.{cases_Bool, false≢true, or_parts}
 use Rattle.ec_lists.proofs.Options.{is_some-option_map}
 use Rattle.std.proofs.lemmas.Cmp.{nat_list_cmp_total}
 use Rattle.std.proofs.lemmas.Map.Lookups.{exact_bytes}
@@ -282,10 +282,6 @@ module _ {Z : Type 0} (keys : List (Vec ℕ Z)) where
   -- what is among the first of them is among them
   pub is_among-first : (i : ℕ) (k : List ℕ) → is_among keys k ≡ false → is_among (take i keys) k ≡ false
   is_among-first i k none =
-      let parts : (is_among (take i keys) k || is_among (drop i keys) k) ≡ false =
+      let both : (is_among (take i keys) k || is_among (drop i keys) k) ≡ false =
       sym (list_any-append (λ (x : Vec ℕ Z). bytes_eq x.items k) (take i keys) (drop i keys)) ∙ ap (λ ks. is_among ks k) (take-append-drop i keys) ∙ none in
-      left _ _ parts
-    where
-      left : (a b : Bool) → (a || b) ≡ false → a ≡ false
-      left true b is = is
-      left false b is = refl
+      (or_parts (is_among (take i keys) k) (is_among (drop i keys) k) both).0

@@ -2,10 +2,11 @@
 use Rattle.std.proofs.Common.{◌≡◌, ◌≢◌, ℕ, Bool, true, false, not, cond, ◌&&◌, ◌||◌, IsSome, List, [], filter, Option, Some, None, is_some, refl, sym, ap, ap₂, subst, ◌∙◌, ◌⊎◌, inl, inr, ⊎_elim, arith}
 use Rattle.std.specs.Prelude.{◌==◌, option_map, bytes_eq}
 use Rattle.std.specs.List.{list_any}
-use Rattle.std.proofs.lemmas.Bool.{cases_Bool, false≢true}
+use Rattle.std.proofs.lemmas.Bool.{cases_Bool, false≢true, eqb-true}
 use Rattle.std.proofs.lemmas.List.{get_or_past}
-use Rattle.std.proofs.Math.Bool.{or-false}
+use Rattle.std.proofs.Math.Bool.{or-false, not-and_self}
 use Rattle.ec_lists.proofs.Options.{is_some-option_map}
+use Rattle.ec_lists.proofs.Numbers.{eqb-apart}
 use Rattle.ec_lists.proofs.Tests.{list_any-same, list_any-map, list_any-and}
 use Rattle.ec_terms.specs.declared.ids.PropId.{PropId}
 use Rattle.ec_terms.specs.declared.ground.Ground.{Ground}
@@ -128,12 +129,6 @@ module _ (lists : List (Option Row)) (forms : List (Option Form)) (groups : List
       inside true (Some ps) = refl
       inside false o = refl
 
-  apart : (m n : ℕ) → (m == n) ≡ false → n ≢ m
-  apart m n e is = let yes : (m == n) ≡ true = grind arith in false≢true (sym e ∙ yes)
-
-  equal : (m n : ℕ) → (m == n) ≡ true → n ≡ m
-  equal m n e = grind arith
-
   pub AreKept-with : (p : PropId) (own : List PropId) (new : List (Option Row)) (more : List (Option Form)) (form : Form) (entered : List Grouped) →
       AreMutual (added_of (lists_of new)) → ((key : List ℕ) → in_group groups key p.0 ≡ false) → ((q : PropId) → list_at q new ≡ list_with p own q (list_at q lists)) →
       kept_at p.0 more ≡ Some form → ((n : ℕ) → n ≢ p.0 → kept_at n more ≡ kept_at n forms) →
@@ -141,15 +136,15 @@ module _ (lists : List (Option Row)) (forms : List (Option Form)) (groups : List
   AreKept-with p own new more form entered are absent with_own set others enters = record {
     lists = are;
     both = λ q. ⊎_elim
-        (λ e. ap is_some (ap (λ n. kept_at n more) (equal p.0 q.0 e) ∙ set) ∙ sym (ap is_some (with_own q ∙ ap (λ b. cond b (Some own) (cond (has_number q.0 own) (option_map (with_number p) (list_at q lists)) (list_at q lists))) e)))
-        (λ e. ap is_some (others q.0 (apart p.0 q.0 e)) ∙ kept.both q ∙ sym (ap is_some (with_own q) ∙ is_some-with p q own (list_at q lists) e))
+        (λ e. ap is_some (ap (λ n. kept_at n more) (sym (eqb-true p.0 q.0 e)) ∙ set) ∙ sym (ap is_some (with_own q ∙ ap (λ b. cond b (Some own) (cond (has_number q.0 own) (option_map (with_number p) (list_at q lists)) (list_at q lists))) e)))
+        (λ e. ap is_some (others q.0 (eqb-apart p.0 q.0 e)) ∙ kept.both q ∙ sym (ap is_some (with_own q) ∙ is_some-with p q own (list_at q lists) e))
         (cases_Bool (p.0 == q.0));
     grouped = λ key n. ⊎_elim
-        (λ e. enters key n ∙ ap₂ (λ b c. (b && is_among form.keys.items key) || c) e (ap (in_group groups key) (equal p.0 n e) ∙ absent key)
+        (λ e. enters key n ∙ ap₂ (λ b c. (b && is_among form.keys.items key) || c) e (ap (in_group groups key) (sym (eqb-true p.0 n e)) ∙ absent key)
         ∙ or-false (is_among form.keys.items key)
-        ∙ sym (stands_under-form key n more form (ap (λ m. kept_at m more) (equal p.0 n e) ∙ set)))
+        ∙ sym (stands_under-form key n more form (ap (λ m. kept_at m more) (sym (eqb-true p.0 n e)) ∙ set)))
         (λ e. enters key n ∙ ap (λ b. (b && is_among form.keys.items key) || in_group groups key n) e ∙ kept.grouped key n
-        ∙ sym (ap (λ o. stands_under key (option_map form_in o)) (others n (apart p.0 n e))))
+        ∙ sym (ap (λ o. stands_under key (option_map form_in o)) (others n (eqb-apart p.0 n e))))
         (cases_Bool (p.0 == n));
   }
 
@@ -170,22 +165,18 @@ module _ (lists : List (Option Row)) (forms : List (Option Form)) (groups : List
   AreKept-less p own new less form left are without was gone others leaves = record {
     lists = are;
     both = λ q. ⊎_elim
-        (λ e. ap is_some (ap (λ n. kept_at n less) (sym (equal q.0 p.0 e)) ∙ gone)
+        (λ e. ap is_some (ap (λ n. kept_at n less) (eqb-true q.0 p.0 e) ∙ gone)
         ∙ sym (ap is_some (without q ∙ ap (λ b. cond b None (cond (has_number q.0 own) (option_map (without_number p) (list_at q lists)) (list_at q lists))) e)))
-        (λ e. ap is_some (others q.0 (λ is. apart q.0 p.0 e (sym is))) ∙ kept.both q ∙ sym (ap is_some (without q) ∙ is_some-left p q own (list_at q lists) e))
+        (λ e. ap is_some (others q.0 (λ is. eqb-apart q.0 p.0 e (sym is))) ∙ kept.both q ∙ sym (ap is_some (without q) ∙ is_some-left p q own (list_at q lists) e))
         (cases_Bool (q.0 == p.0));
     grouped = λ key n. ⊎_elim
         (λ e. leaves key n ∙ ap₂ (λ b c. not (b && is_among form.keys.items key) && c) e
-        (kept.grouped key n ∙ stands_under-form key n forms form (ap (λ m. kept_at m forms) (equal p.0 n e) ∙ was))
-        ∙ never (is_among form.keys.items key) ∙ sym (ap (λ o. stands_under key (option_map form_in o)) (ap (λ m. kept_at m less) (equal p.0 n e) ∙ gone)))
+        (kept.grouped key n ∙ stands_under-form key n forms form (ap (λ m. kept_at m forms) (sym (eqb-true p.0 n e)) ∙ was))
+        ∙ not-and_self (is_among form.keys.items key) ∙ sym (ap (λ o. stands_under key (option_map form_in o)) (ap (λ m. kept_at m less) (sym (eqb-true p.0 n e)) ∙ gone)))
         (λ e. leaves key n ∙ ap (λ b. not (b && is_among form.keys.items key) && in_group groups key n) e ∙ kept.grouped key n
-        ∙ sym (ap (λ o. stands_under key (option_map form_in o)) (others n (apart p.0 n e))))
+        ∙ sym (ap (λ o. stands_under key (option_map form_in o)) (others n (eqb-apart p.0 n e))))
         (cases_Bool (p.0 == n));
   }
-    where
-      never : (b : Bool) → (not b && b) ≡ false
-      never true = refl
-      never false = refl
 
   -- rows and groups that say the same
   pub AreKept-same : (new : List (Option Row)) (more : List (Option Form)) (other : List Grouped) → added_of (lists_of new) ≡ added_of (lists_of lists) →

@@ -6,6 +6,7 @@ use Rattle.std.proofs.lemmas.Bool.{cases_Bool, and_parts, or_left, or_right, or_
 use Rattle.std.proofs.lemmas.List.{map-append, take_more, length-take}
 use Rattle.std.proofs.lemmas.List.Folds.{list_any-append}
 use Rattle.std.proofs.lemmas.Slice.Eq.{bytes_eq-Decides}
+use Rattle.ec_lists.proofs.Numbers.{eqb-same}
 use Rattle.ec_terms.specs.declared.ground.Arg.{Arg}
 use Rattle.ec_terms.specs.declared.ground.ArgRef.{ArgRef}
 use Rattle.ec_terms.specs.declared.ground.Ground.{Ground}
@@ -101,12 +102,9 @@ shared-same (Var v ∷ ps) other f g same =
     let rest = shared-same ps other f g (λ w there shared. same w (or_right (v == w) (list_any (stands_at w) ps) there) shared) in
     ap₂ cons_option (value (cases_Bool (stands_in v other))) rest
   where
-    itself : (n : ℕ) → (n == n) ≡ true
-    itself n = grind arith
-
     value : (stands_in v other ≡ true) ⊎ (stands_in v other ≡ false) → shared_value f other (Var v) ≡ shared_value g other (Var v)
     value = ⊎_elim
-        (λ e. ap (λ b. cond b (f v) None) e ∙ same v (or_left (v == v) (list_any (stands_at v) ps) (itself v)) e ∙ sym (ap (λ b. cond b (g v) None) e))
+        (λ e. ap (λ b. cond b (f v) None) e ∙ same v (or_left (v == v) (list_any (stands_at v) ps) (eqb-same v)) e ∙ sym (ap (λ b. cond b (g v) None) e))
         (λ e. ap (λ b. cond b (f v) None) e ∙ sym (ap (λ b. cond b (g v) None) e))
 shared-same (Any ∷ ps) other f g same = shared-same ps other f g (λ w there shared. same w there shared)
 shared-same (Fixed a ∷ ps) other f g same = shared-same ps other f g (λ w there shared. same w there shared)

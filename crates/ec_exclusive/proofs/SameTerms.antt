@@ -13,14 +13,11 @@ use Rattle.ec_numbered.proofs.Numbers.{itself}
 use Rattle.ec_exclusive.proofs.KeptLists.{is_added-neighbours_of, All-neighbours_of}
 use Rattle.ec_exclusive.proofs.Leaving.{list_without, neighbours_of-less}
 use Rattle.ec_lists.proofs.Filters.{filter_agree_at}
+use Rattle.ec_lists.proofs.Options.{is_some-option_map}
 
 -- a property whose term is kept is kept
 kept_by_term : (p : ℕ) (table : List KeptProp) → is_some (term_at p table) ≡ is_some (prop_at p table)
-kept_by_term p table = from (prop_at p table)
-  where
-    from : (o : Option KeptProp) → is_some (option_map (λ (kept : KeptProp). kept.term) o) ≡ is_some o
-    from None = refl
-    from (Some kept) = refl
+kept_by_term p table = is_some-option_map (λ (kept : KeptProp). kept.term) (prop_at p table)
 
 pub read_terms_alone : (theory : Theory) → ReadTermsAlone theory
 read_terms_alone theory table other added keeps are =

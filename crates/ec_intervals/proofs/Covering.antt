@@ -4,6 +4,7 @@ use Rattle.std.specs.Prelude.{int_lt, IsTrue}
 use Rattle.std.specs.List.{list_any, HoldsAt}
 use Rattle.std.proofs.lemmas.List.{map-append}
 use Rattle.std.proofs.lemmas.List.Folds.{list_any-append}
+use Rattle.std.proofs.Math.Bool.{or-true}
 use Rattle.ec_axioms.specs.Timeline.{covers, is_held_at, is_within_end}
 use Rattle.ec_rows.specs.Spans.{is_covering, reaches}
 use Rattle.ec_rows.specs.declared.span.End.{End}
@@ -14,11 +15,7 @@ use Rattle.ec_intervals.specs.Table.{front_members, span_interval, plain_end, pl
 list_any-at : {X : Type 0} (p : X → Bool) (xs : List X) (i : ℕ) → i < length xs → HoldsAt (λ x. IsTrue (p x)) xs i → list_any p xs ≡ true
 list_any-at p [] i within holds = absurd (omega arith)
 list_any-at p (x ∷ xs) zero within holds = ap (λ b. b || list_any p xs) (holds x)
-list_any-at p (x ∷ xs) (suc i) within holds = ap (λ b. p x || b) (list_any-at p xs i (omega arith) (λ d. holds d)) ∙ or_true (p x)
-  where
-    or_true : (b : Bool) → (b || true) ≡ true
-    or_true true = refl
-    or_true false = refl
+list_any-at p (x ∷ xs) (suc i) within holds = ap (λ b. p x || b) (list_any-at p xs i (omega arith) (λ d. holds d)) ∙ or-true (p x)
 
 module _ {T : Type 0} (rank : T → ℤ) (t : ℤ) where
   -- a span covers a time where it does as an interval

@@ -1,7 +1,7 @@
 -- Rows that are kept by number: what the table shows of them, and that they stay few.
-use Rattle.std.proofs.Common.{◌≡◌, ◌≢◌, ℕ, ◌-◌, ◌<◌, zero, suc, ℤ, Bool, true, List, [], ◌∷◌, ◌++◌, length, Option, Some, None, is_some, refl, sym, ap, ap₂, subst, ◌∙◌, ⊎_elim, arith}
+use Rattle.std.proofs.Common.{◌≡◌, ◌≢◌, ℕ, ◌-◌, ◌<◌, zero, suc, ℤ, Bool, List, [], ◌∷◌, ◌++◌, length, Option, Some, None, is_some, refl, sym, ap, ap₂, subst, ◌∙◌, ⊎_elim, arith}
 use Rattle.std.specs.Prelude.{◌==◌, ◌^◌, option_map, map, slice_get, slice_set}
-use Rattle.std.proofs.lemmas.Bool.{cases_Bool, false≢true}
+use Rattle.std.proofs.lemmas.Bool.{cases_Bool, false≢true, eqb-true}
 use Rattle.std.proofs.Math.Numerals.{sub-one}
 use Rattle.std.proofs.lemmas.List.{get_or_past, length-map}
 use Rattle.std.proofs.lemmas.Option.{slice_get-map}
@@ -18,11 +18,6 @@ use Rattle.ec_intervals.specs.RowViews.{seen, seen_at, rows_seen}
 use Rattle.ec_intervals.specs.Table.{IntervalRow, IntervalTable, IsGrown, AreFew, has_row, row_at, members_in, front_in, spans_in, front_members, span_interval, plain_interval, plain_intervals}
 use Rattle.ec_intervals.proofs.Written.{length-spans_of}
 use Rattle.ec_lists.proofs.Numbers.{eqb-apart}
-
--- ---- numbers
-
-pub equal : (m n : ℕ) → (m == n) ≡ true → n ≡ m
-equal m n e = grind arith
 
 -- ---- rows
 
@@ -90,7 +85,7 @@ module _ {T I : Type 0} (spans : I → List (Span T)) (spare : I → ℕ) where
   pub AreFew-each : (now new : List (Option (KeptRow T I))) (m : ℕ) → AreFew (rows_seen spans spare now) →
       ((n : ℕ) → n ≢ m → kept_at n new ≡ kept_at n now) → length (members_in (seen_at spans spare m new)) < 2 ^ 64 → AreFew (rows_seen spans spare new)
   AreFew-each now new m few others here n =
-      ⊎_elim (λ e. subst (λ k. length (members_in (kept_at k (rows_seen spans spare new))) < 2 ^ 64) (sym (equal m n e))
+      ⊎_elim (λ e. subst (λ k. length (members_in (kept_at k (rows_seen spans spare new))) < 2 ^ 64) (eqb-true m n e)
       (subst (λ row. length (members_in row) < 2 ^ 64) (sym (kept_at-seen new m)) here))
       (λ e. subst (λ row. length (members_in row) < 2 ^ 64)
       (kept_at-seen now n ∙ sym (ap (option_map (seen spans spare)) (others n (eqb-apart m n e))) ∙ sym (kept_at-seen new n)) (few n))

@@ -14,6 +14,7 @@ use Rattle.ec_axioms.proofs.Ranks.{int_lt-same, int_lt-not_after, int_eq-same}
 use Rattle.ec_axioms.proofs.Members.{IsMember, IsMember-from_filter, find-map, find-Some, filter-map, list_all-member, find_agree_members}
 use Rattle.ec_rows.specs.Ordered.{is_ascending}
 use Rattle.ec_lists.proofs.Booleans.{and-left, and-right}
+use Rattle.ec_lists.proofs.Integers.{int_eq-from_lt}
 use Rattle.ec_rows.proofs.OrderedLemmas.{ascending-first, ascending-rest}
 use Rattle.ec_intervals.specs.Steps.{first_open, open_behind, ended_by, broken_by, interval_up_to, unended_interval}
 use Rattle.ec_lists.proofs.Filters.{filter-all, filter-each}
@@ -69,10 +70,7 @@ row_mark-member (n ∷ ns) m ascending (inl same) =
     cond-true (int_eq n.instant m.instant) _ _ (ap (λ (k : PlainMark). int_eq k.instant m.instant) same ∙ int_eq-same m.instant) ∙ ap Some same
 row_mark-member (n ∷ ns) m ascending (inr later) =
     let before : int_lt n.instant m.instant ≡ true = list_all-member (plain_before n) ns m (ascending-first plain_before n ns ascending) later in
-    cond-false (int_eq n.instant m.instant) _ _ (apart n.instant m.instant before) ∙ row_mark-member ns m (ascending-rest plain_before n ns ascending) later
-  where
-    apart : (s t : ℤ) → int_lt s t ≡ true → int_eq s t ≡ false
-    apart s t before = grind arith
+    cond-false (int_eq n.instant m.instant) _ _ (int_eq-from_lt n.instant m.instant before) ∙ row_mark-member ns m (ascending-rest plain_before n ns ascending) later
 
 -- ---- the pass
 

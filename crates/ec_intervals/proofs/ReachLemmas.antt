@@ -2,15 +2,16 @@
 use Rattle.std.proofs.Common.{◌≡◌, ◌≢◌, ◌<◌, ◌≤◌, ℕ, zero, suc, ℤ, Bool, true, false, not, ◌&&◌, ◌||◌, List, [], ◌∷◌, ◌++◌, map, length, Option, Some, None, is_some, IsTrue, refl, ap, ap₂, sym, subst, ◌∙◌, ⊎_elim, arith}
 use Rattle.std.specs.Prelude.{◌==◌, ◌^◌, int_lt, int_le, option_map, slice_get, slice_set}
 use Rattle.std.specs.List.{list_any}
-use Rattle.std.proofs.lemmas.Bool.{false≢true, not-true, cases_Bool}
+use Rattle.std.proofs.lemmas.Bool.{false≢true, not-true, cases_Bool, eqb-true}
 use Rattle.std.proofs.lemmas.Int.{ints}
+use Rattle.std.proofs.Math.Bool.{or-false}
 use Rattle.ec_rows.specs.Ordered.{by_time}
 use Rattle.ec_rows.specs.Spans.{IsSpanRow, is_covering, reaches, ends_after, ends_by, is_proper, span_before}
 use Rattle.ec_rows.specs.declared.span.End.{End}
 use Rattle.ec_rows.specs.declared.span.End.TheVariants.{At, Unended}
 use Rattle.ec_rows.specs.declared.span.Span.{Span}
 use Rattle.ec_rows.proofs.OrderedLemmas.{ascending-first}
-use Rattle.ec_rows.proofs.SpanLemmas.{by_time-from_row}
+use Rattle.ec_rows.proofs.SpanLemmas.{by_time-from_row, IsSpanRow-rest}
 use Rattle.ec_numbered.specs.ByNumber.{kept_at}
 use Rattle.ec_axioms.specs.Timeline.{is_held_at}
 use Rattle.ec_intervals.specs.Reach.{AreKept, IsReachOf, IsReachOfSpans, PlacedReaches, is_outside, reach_between}
@@ -19,9 +20,9 @@ use Rattle.ec_intervals.specs.declared.reach.Reach.{Reach}
 use Rattle.ec_intervals.proofs.Covering.{held-none}
 use Rattle.ec_intervals.specs.RowViews.{rows_seen, seen, seen_at}
 use Rattle.ec_intervals.specs.declared.row.KeptRow.{KeptRow}
-use Rattle.ec_intervals.proofs.KeptRows.{AreFew-grown, equal, kept_at-found, kept_at-seen, kept_at-set, kept_at-set_other, members_in-grown}
-use Rattle.ec_intervals.proofs.SpanCuts.{IsSpanRow-rest}
+use Rattle.ec_intervals.proofs.KeptRows.{AreFew-grown, kept_at-found, kept_at-seen, kept_at-set, kept_at-set_other, members_in-grown}
 use Rattle.ec_lists.proofs.Booleans.{or_second}
+use Rattle.ec_lists.proofs.Integers.{int_lt-not_le}
 use Rattle.ec_lists.proofs.Numbers.{eqb-apart}
 use Rattle.ec_lists.proofs.Tests.{list_all-weaker, list_all-slice_get, list_any-none}
 
@@ -80,16 +81,9 @@ module _ {T : Type 0} (rank : T → ℤ) where
       (not-true (reaches rank t last.end) (or_second (int_le t (rank first.from)) (not (reaches rank t last.end)) other (sym (by_end first.from last.end) ∙ out))))
       (cases_Bool (int_le t (rank first.from)))
     where
-      behind : (x t : ℤ) → int_lt x t ≡ not (int_le t x)
-      behind x t = grind (arith, ints)
-
-      alone : (b : Bool) → b ≡ (b || false)
-      alone true = refl
-      alone false = refl
-
       by_end : (from : T) (end : End T) → is_outside rank (Some (reach_between from end)) t ≡ (int_le t (rank from) || not (reaches rank t end))
-      by_end from (At x) = ap (λ b. int_le t (rank from) || b) (behind (rank x) t)
-      by_end from Unended = alone (int_le t (rank from))
+      by_end from (At x) = ap (λ b. int_le t (rank from) || b) (int_lt-not_le (rank x) t)
+      by_end from Unended = sym (or-false (int_le t (rank from)))
 
   -- no spans have no reach
   pub IsReachOfSpans-none : (spans : List (Span T)) → spans ≡ [] → IsReachOfSpans rank None spans
@@ -111,12 +105,12 @@ module _ {T : Type 0} (rank : T → ℤ) where
   AreKept-written reaches new_reaches now new p kept few rows same places here reach = record {
     few = few;
     reached = λ n.
-        ⊎_elim (λ e. subst (λ k. IsReachOf rank (kept_at k new_reaches.items) (members_in (kept_at k new))) (sym (equal p n e)) reach)
+        ⊎_elim (λ e. subst (λ k. IsReachOf rank (kept_at k new_reaches.items) (members_in (kept_at k new))) (eqb-true p n e) reach)
         (λ e. subst (λ row. IsReachOf rank (kept_at n new_reaches.items) (members_in row)) (sym (rows n (eqb-apart p n e)))
         (subst (λ other. IsReachOf rank other (members_in (kept_at n now))) (sym (same n (eqb-apart p n e))) (kept.reached n)))
         (cases_Bool (p == n));
     placed = λ n there.
-        ⊎_elim (λ e. subst (λ k. k < new_reaches.places) (sym (equal p n e)) here)
+        ⊎_elim (λ e. subst (λ k. k < new_reaches.places) (eqb-true p n e) here)
         (λ e. let within : n < reaches.places = kept.placed n (subst (λ row. IsTrue (is_some row)) (rows n (eqb-apart p n e)) there) in omega (arith, within, places))
         (cases_Bool (p == n));
   }

@@ -16,8 +16,9 @@ use Rattle.ec_rows.specs.declared.span.End.{End}
 use Rattle.ec_rows.specs.declared.span.End.TheVariants.{At, Unended}
 use Rattle.ec_rows.specs.declared.span.Span.{Span}
 use Rattle.ec_lists.proofs.Booleans.{and-left, and-right}
+use Rattle.ec_lists.proofs.Integers.{int_le_lt-trans, int_le-from_lt}
 use Rattle.ec_rows.proofs.OrderedLemmas.{ascending-first, ascending-rest}
-use Rattle.ec_rows.proofs.SpanLemmas.{by_time-from_row}
+use Rattle.ec_rows.proofs.SpanLemmas.{by_time-from_row, IsSpanRow-rest}
 use Rattle.ec_intervals.specs.Steps.{ends_before, begins_behind}
 use Rattle.ec_intervals.specs.Table.{plain_spans, plain_interval, plain_end, span_interval, spans_up_to}
 use Rattle.ec_lists.proofs.Tests.{list_any-none, list_all-weaker}
@@ -57,9 +58,6 @@ length-kept p (suc n) (x ∷ xs) within all =
     subst (λ b. suc n ≤ length (cond b (x ∷ filter p xs) (filter p xs))) (sym (and-left (p x) (list_all p (take n xs)) all)) (omega (arith, rest))
 
 module _ {T : Type 0} (rank : T → ℤ) where
-  pub IsSpanRow-rest : (s : Span T) (spans : List (Span T)) → IsSpanRow rank (s ∷ spans) → IsSpanRow rank spans
-  IsSpanRow-rest s spans row = record { proper = and-right (is_proper rank s) (list_all (is_proper rank) spans) row.proper; ascending = ascending-rest (span_before rank) s spans row.ascending }
-
   pub plain-take : (n : ℕ) (spans : List (Span T)) → take n (plain_spans rank spans) ≡ plain_spans rank (take n spans)
   plain-take n spans = take-map (plain_interval rank) n (map span_interval spans) ∙ ap (map (plain_interval rank)) (take-map span_interval n spans)
 
@@ -101,11 +99,8 @@ module _ {T : Type 0} (rank : T → ℤ) where
   ends_by-ends : (a t : ℤ) (span : Span T) → ends_by rank t span.end ≡ true → int_lt t a ≡ true → ends_before a (plain_interval rank (span_interval span)) ≡ true
   ends_by-ends a t span by before = one span.end by
     where
-      between : (x t a : ℤ) → int_le x t ≡ true → int_lt t a ≡ true → int_lt x a ≡ true
-      between x t a by before = grind (arith, ints)
-
       one : (end : End T) → ends_by rank t end ≡ true → option_map_or (λ x. int_lt x a) (plain_end rank end) false ≡ true
-      one (At x) by = between (rank x) t a by before
+      one (At x) by = int_le_lt-trans (rank x) t a by before
       one Unended by = absurd (false≢true by)
 
   -- a span that comes behind one which reaches a starts from a on
@@ -142,7 +137,7 @@ module _ {T : Type 0} (rank : T → ℤ) where
             (ascending-first (span_before rank) s spans row.ascending))),
       )
   covering-cut a (s ∷ spans) (suc i) row within covers =
-      let rest = covering-cut a spans i (IsSpanRow-rest s spans row) (omega arith) (λ d. covers d) in
+      let rest = covering-cut a spans i (IsSpanRow-rest rank s spans row) (omega arith) (λ d. covers d) in
       let by : ends_by rank (rank (get_or spans i s).from) s.end ≡ true =
       AllPass-from_list_all (span_before rank s) spans (ascending-first (span_before rank) s spans row.ascending) i s (omega arith) in
       (ap₂ (λ x y. x && y) (ends_by-ends a (rank (get_or spans i s).from) s by (and-left (int_lt (rank (get_or spans i s).from) a) (reaches rank a (get_or spans i s).end) (covers s))) rest.0, rest.1)
@@ -153,7 +148,7 @@ module _ {T : Type 0} (rank : T → ℤ) where
       × (list_all (λ j. not (ends_before a j)) (drop (length (spans_before rank a spans)) (plain_spans rank spans)) ≡ true)
   uncovered-cut a [] row none = (refl, refl)
   uncovered-cut a (s ∷ spans) row none =
-      let rest = uncovered-cut a spans (IsSpanRow-rest s spans row) (or_parts (is_covering rank a s) (list_any (is_covering rank a) spans) none).1 in
+      let rest = uncovered-cut a spans (IsSpanRow-rest rank s spans row) (or_parts (is_covering rank a s) (list_any (is_covering rank a) spans) none).1 in
       ⊎_elim (λ earlier. subst (Is (s ∷ spans)) (sym (ap (λ b. cond b (s ∷ spans_before rank a spans) (spans_before rank a spans)) earlier))
       (ap₂ (λ x y. x && y) (short-ends a s (short earlier (or_parts (is_covering rank a s) (list_any (is_covering rank a) spans) none).0)) rest.0, rest.1))
       (λ from. subst (Is (s ∷ spans)) (sym (ap (λ b. cond b (s ∷ spans_before rank a spans) (spans_before rank a spans)) from ∙ filter-none (λ (other : Span T). int_lt (rank other.from) a) spans (list_any-none (λ (other : Span T). int_lt (rank other.from) a) spans (later from))))
@@ -187,19 +182,16 @@ module _ {T : Type 0} (rank : T → ℤ) where
       length (spans_up_to rank t spans) ≡ length (spans_before rank t spans) + cond (option_map_or (λ (s : Span T). int_eq (rank s.from) t) (slice_get spans (length (spans_before rank t spans))) false) 1 0
   length-spans_up_to t [] row = refl
   length-spans_up_to t (s ∷ spans) row =
-      ⊎_elim (earlier (length-spans_up_to t spans (IsSpanRow-rest s spans row))) from (cases_Bool (int_lt (rank s.from) t))
+      ⊎_elim (earlier (length-spans_up_to t spans (IsSpanRow-rest rank s spans row))) from (cases_Bool (int_lt (rank s.from) t))
     where
       IsCount : List (Span T) → List (Span T) → Type 0
       IsCount before up_to = length up_to ≡ length before + cond (option_map_or (λ (other : Span T). int_eq (rank other.from) t) (slice_get (s ∷ spans) (length before)) false) 1 0
-
-      up_to_too : (x : ℤ) → int_lt x t ≡ true → int_le x t ≡ true
-      up_to_too x before = grind (arith, ints)
 
       earlier : length (spans_up_to rank t spans) ≡ length (spans_before rank t spans) + cond (option_map_or (λ (other : Span T). int_eq (rank other.from) t) (slice_get spans (length (spans_before rank t spans))) false) 1 0 →
           int_lt (rank s.from) t ≡ true → IsCount (spans_before rank t (s ∷ spans)) (spans_up_to rank t (s ∷ spans))
       earlier rest before =
           subst (λ b. IsCount (cond b (s ∷ spans_before rank t spans) (spans_before rank t spans)) (spans_up_to rank t (s ∷ spans))) (sym before)
-          (subst (λ b. IsCount (s ∷ spans_before rank t spans) (cond b (s ∷ spans_up_to rank t spans) (spans_up_to rank t spans))) (sym (up_to_too (rank s.from) before))
+          (subst (λ b. IsCount (s ∷ spans_before rank t spans) (cond b (s ∷ spans_up_to rank t spans) (spans_up_to rank t spans))) (sym (int_le-from_lt (rank s.from) t before))
           (omega (arith, rest)))
 
       later : int_lt (rank s.from) t ≡ false → list_all (λ (other : Span T). int_lt t (rank other.from)) spans ≡ true

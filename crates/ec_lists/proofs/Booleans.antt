@@ -8,6 +8,18 @@ use Rattle.std.proofs.lemmas.Bool.{false≢true}
 pub or_second : (a b : Bool) → a ≡ false → (a || b) ≡ true → b ≡ true
 or_second a b first some = grind arith
 
+-- and where the second fails, the first holds
+pub or_first : (a b : Bool) → b ≡ false → (a || b) ≡ true → a ≡ true
+or_first a b second some = grind arith
+
+-- of three the first two may change places
+pub or_left_comm : (a b c : Bool) → (a || (b || c)) ≡ (b || (a || c))
+or_left_comm a b c = grind arith
+
+-- and the first may stand behind the second
+pub or_turned : (a b c : Bool) → (a || (b || c)) ≡ ((b || a) || c)
+or_turned a b c = grind arith
+
 -- where both hold, each does
 pub and-left : (a b : Bool) → (a && b) ≡ true → a ≡ true
 and-left a b both = grind arith
@@ -23,6 +35,19 @@ not-or_turned a b = grind arith
 pub not-beq_same : (b : Bool) → not (beq b b) ≡ false
 not-beq_same true = refl
 not-beq_same false = refl
+
+-- of two that are the same, neither holds alone
+pub not-and_same : (a b : Bool) → a ≡ b → (not a && b) ≡ false
+not-and_same a b same = grind arith
+
+pub and-not_same : (a b : Bool) → a ≡ b → (a && not b) ≡ false
+and-not_same a b same = grind arith
+
+-- two tests that pass together are the same
+pub Bool-from_both : (a b : Bool) → (a ≡ true → b ≡ true) → (b ≡ true → a ≡ true) → a ≡ b
+Bool-from_both true b there back = sym (there refl)
+Bool-from_both false true there back = back refl
+Bool-from_both false false there back = refl
 
 -- ---- choices
 

@@ -113,6 +113,10 @@ int_lt_le-trans r s t before within = grind (arith, ints)
 pub int_le-not_before : (s t : ℤ) → int_lt s t ≡ true → int_le t s ≡ false
 int_le-not_before s t before = grind (arith, ints)
 
+-- and what is reached is not before
+pub int_lt-from_le_turned : (s t : ℤ) → int_le s t ≡ true → int_lt t s ≡ false
+int_lt-from_le_turned s t within = grind (arith, ints)
+
 -- ---- the next whole number
 
 -- it is behind

@@ -3,6 +3,7 @@ pub mod Numbers
 pub mod Integers
 pub mod Orderings
 pub mod Options
+pub mod Results
 pub mod Tests
 pub mod Filters
 pub mod Finds

@@ -31,6 +31,11 @@ IfSome-from (Some y) P x is holds = let same : x ≡ y = cc in subst_at same
     subst_at : x ≡ y → P y
     subst_at same = rw (← same) holds
 
+-- what is said of a value, by what is said of it otherwise
+pub IfSome-weaker : {A : Type 0} (o : Option A) (P Q : A → Type 0) → ((x : A) → P x → Q x) → IfSome o P → IfSome o Q
+IfSome-weaker None P Q weaker holds = holds
+IfSome-weaker (Some x) P Q weaker holds = weaker x holds
+
 -- what holds anyway holds where there is none
 pub IfNone-from : {A : Type 0} (o : Option A) (P : Type 0) → P → IfNone o P
 IfNone-from None P holds = holds

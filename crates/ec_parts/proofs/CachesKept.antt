@@ -1,14 +1,14 @@
 -- The caches of a list stay its caches where the table changes in nothing that is live in that list.
-use Rattle.std.proofs.Common.{◌≡◌, ℕ, ℤ, true, false, Bool, List, Option, Some, None, is_some, IsSome, refl, sym, ap, subst, ◌∙◌, inl, inr}
+use Rattle.std.proofs.Common.{◌≡◌, ℕ, ℤ, true, Bool, List, Option, Some, None, is_some, IsSome, refl, sym, ap, subst, ◌∙◌, inl, inr}
 use Rattle.std.specs.Prelude.{◌==◌, option_map, flat_map, find}
-use Rattle.std.proofs.lemmas.Bool.{false≢true, or_right}
+use Rattle.std.proofs.lemmas.Bool.{or_right}
 use Rattle.ec_terms.specs.declared.ids.Slot.{Slot}
 use Rattle.ec_terms.specs.declared.ground.Ground.{Ground}
 use Rattle.ec_terms.specs.declared.theory.Theory.{Theory}
 use Rattle.ec_terms.specs.Term.{term_eq}
 use Rattle.ec_terms.specs.Domain.{GroundLiteral, GroundEntry, entries_of, is_initial}
 use Rattle.ec_terms.proofs.DomainLemmas.{term_eq-refl}
-use Rattle.ec_lists.proofs.Options.{Some-from_is_some, is_some-option_map}
+use Rattle.ec_lists.proofs.Options.{Some-from_is_some, is_some-option_map, None-from_is_some}
 use Rattle.ec_axioms.specs.declared.event.Event.{Event}
 use Rattle.ec_axioms.specs.Calculus.{PlainEvent}
 use Rattle.ec_axioms.specs.Events.{event_of}
@@ -106,12 +106,8 @@ module _ {T : Type 0} (rank : T → ℤ) (theory : Theory) (events : List PlainE
 module _ {T : Type 0} (rank : T → ℤ) (theory : Theory) (events : List PlainEvent) (view : View T) (after : List KeptProp) (same : (id : ℕ) → term_at id after ≡ term_at id view.table) where
   none-same : (id : ℕ) → prop_at id after ≡ None → prop_at id view.table ≡ None
   none-same id none =
-      gone (prop_at id view.table)
+      None-from_is_some (prop_at id view.table)
       (sym (is_some-option_map (λ (kept : KeptProp). kept.term) (prop_at id view.table)) ∙ ap is_some (sym (same id)) ∙ is_some-option_map (λ (kept : KeptProp). kept.term) (prop_at id after) ∙ ap is_some none)
-    where
-      gone : (o : Option KeptProp) → is_some o ≡ false → o ≡ None
-      gone None absent = refl
-      gone (Some k) absent = absurd (false≢true (sym absent))
 
   pub AreCaches-same : AreCaches rank theory events view → AreCaches rank theory events (record view { table = after })
   AreCaches-same caches = record {

@@ -2,7 +2,8 @@
 use Rattle.std.proofs.Common.{◌≡◌, ℕ, ℤ, ◌+◌, ◌<◌, ◌≢◌, true, false, Bool, not, cond, ◌&&◌, ◌||◌, List, [], ◌++◌, map, length, get_or, Some, None, is_some, IsTrue, IsSome, refl, sym, ap, ap₂, subst, ◌∙◌, ⊎_elim, arith}
 use Rattle.std.specs.Prelude.{◌==◌, nat_lt, option_map}
 use Rattle.std.specs.List.{list_any}
-use Rattle.std.proofs.lemmas.Bool.{cases_Bool, false≢true, eqb-true, eq-eqb}
+use Rattle.std.proofs.lemmas.Bool.{cases_Bool, false≢true, eqb-true, eq-eqb, or_parts}
+use Rattle.std.proofs.lemmas.Option.{same_Some}
 use Rattle.ec_terms.specs.declared.ids.PropId.{PropId}
 use Rattle.ec_terms.specs.declared.ground.Ground.{Ground}
 use Rattle.ec_terms.specs.declared.theory.Theory.{Theory}
@@ -57,14 +58,11 @@ pub unmentioned-not_live : (theory : Theory) (events : List PlainEvent) (t : Gro
 unfolding is_live
 unmentioned-not_live theory events t none =
     ap (λ b. is_initial theory t || b) (sym (nat_lt-filter (term_eq t) (mentions_of theory events)))
-    ∙ neither (mention_count theory events t) (is_initial theory t) (some_same 0 _ none)
+    ∙ neither (mention_count theory events t) (is_initial theory t) (same_Some {A = ℕ} 0 _ none)
   where
     neither : (n : ℕ) (b : Bool) → 0 ≡ n + cond b 1 0 → (b || nat_lt 0 n) ≡ false
     neither n true none = absurd (omega arith)
     neither n false none = grind arith
-
-    some_same : (a b : ℕ) → Some a ≡ Some b → a ≡ b
-    some_same a b e = cc
 
 module _ {T : Type 0} (rank : T → ℤ) (theory : Theory) (p : PropId) (before after : View T) (one : IsOneToOne before.table) (out : IsTakenOut theory p before after)
     (unmentioned : mentions_at p.0 before.table ≡ Some 0) where
@@ -139,14 +137,11 @@ module _ {T : Type 0} (rank : T → ℤ) (theory : Theory) (p : PropId) (before 
     none = none-cases {P = λ n. is_initial_at n after.points ≡ false} (initial-same p.0 ∙ own_not_initial) (λ n other none. initial-same n ∙ initials.none n none);
   }
     where
-      left_false : (a b : Bool) → (a || b) ≡ false → a ≡ false
-      left_false a b e = grind arith
-
       kept_own : (t : Ground) × (term_at p.0 before.table ≡ Some t)
       kept_own = Some-from_is_some (term_at p.0 before.table) (is_some-option_map (λ (k : KeptProp). k.term) (prop_at p.0 before.table) ∙ sym (is_some-option_map (λ (k : KeptProp). k.mentions) (prop_at p.0 before.table)) ∙ ap is_some unmentioned)
 
       own_not_initial : is_initial_at p.0 before.points ≡ false
-      own_not_initial = initials.initial p.0 kept_own.0 kept_own.1 ∙ left_false (is_initial theory kept_own.0) _ (not_live kept_own.0 kept_own.1)
+      own_not_initial = initials.initial p.0 kept_own.0 kept_own.1 ∙ (or_parts (is_initial theory kept_own.0) _ (not_live kept_own.0 kept_own.1)).0
 
   -- the parts stand for the same lists
   pub ForgetsOne-out : ForgetsOne rank theory p before after

@@ -2,11 +2,12 @@
 use Rattle.std.proofs.Common.{◌≡◌, ℕ, ◌+◌, true, false, Bool, ◌||◌, ◌<◌, List, [], ◌∷◌, ◌++◌, take, get_or, length, Option, Some, None, is_some, IsTrue, IsSome, IfSome, refl, sym, ap, subst, ◌∙◌, ◌⊎◌, inl, inr, ⊎_elim, arith}
 use Rattle.std.specs.Prelude.{◌==◌, option_map, slice_get}
 use Rattle.std.proofs.lemmas.List.{take_more}
-use Rattle.std.proofs.lemmas.Option.{get_or_from_slice_get}
+use Rattle.std.proofs.lemmas.Option.{get_or_from_slice_get, same_Some}
 use Rattle.std.specs.List.{list_any}
 use Rattle.std.proofs.lemmas.Bool.{cases_Bool, false≢true, eqb-true, eq-eqb, or_left, or_right}
 use Rattle.std.proofs.lemmas.List.Folds.{list_any-append}
 use Rattle.std.proofs.Math.Bool.{or-false}
+use Rattle.ec_lists.proofs.Booleans.{or_first}
 use Rattle.ec_lists.proofs.Finds.{is_some-find}
 use Rattle.ec_lists.proofs.Options.{is_some-option_map}
 use Rattle.ec_terms.specs.declared.ids.PropId.{PropId}
@@ -35,13 +36,10 @@ KeepsOnce-known terms term table after same known once =
     subst (KeepsOnce (terms ++ term ∷ [])) (sym same)
     (record {
       all = λ p any. ⊎_elim (λ own. subst (λ t. IsSome (prop_of t table)) (sym ((term_eq-Decides p term).0 own)) known)
-          (λ other. once.all p (earlier (list_any (term_eq p) terms) (term_eq p term) other (sym (any_more p term terms) ∙ any))) (cases_Bool (term_eq p term));
+          (λ other. once.all p (or_first (list_any (term_eq p) terms) (term_eq p term) other (sym (any_more p term terms) ∙ any))) (cases_Bool (term_eq p term));
       only = λ id p is. any_more p term terms ∙ or_left _ (term_eq p term) (once.only id p is);
       once = once.once;
     })
-  where
-    earlier : (a b : Bool) → b ≡ false → (a || b) ≡ true → a ≡ true
-    earlier a b none any = grind arith
 
 -- a known term is mentioned once
 pub once-known : (terms : List Ground) (term : Ground) (table : List KeptProp) (id : ℕ) → KeepsOnce terms table → term_at id table ≡ Some term → mentions_at id table ≡ Some 1
@@ -57,10 +55,7 @@ module _ (terms : List Ground) (term : Ground) (table more after : List KeptProp
   term-after n = ap (term_at n) is ∙ term_at-with_mentions id 1 n more
 
   own_term : (n : ℕ) (p : Ground) → term_at n more ≡ Some p → n ≡ id → p ≡ term
-  own_term n p there same = some_same p term (sym there ∙ ap (λ m. term_at m more) same ∙ own)
-    where
-      some_same : (a b : Ground) → Some a ≡ Some b → a ≡ b
-      some_same a b e = cc
+  own_term n p there same = same_Some p term (sym there ∙ ap (λ m. term_at m more) same ∙ own)
 
   -- one term more, which is new
   pub KeepsOnce-new : KeepsOnce terms table → KeepsOnce (terms ++ term ∷ []) after
@@ -70,14 +65,11 @@ module _ (terms : List Ground) (term : Ground) (table more after : List KeptProp
     once = λ n p there. counted n p (sym (term-after n) ∙ there) (cases_Bool (n == id));
   }
     where
-      earlier : (a b : Bool) → b ≡ false → (a || b) ≡ true → a ≡ true
-      earlier a b none any = grind arith
-
       all : (p : Ground) → IsTrue (list_any (term_eq p) (terms ++ term ∷ [])) → (term_eq p term ≡ true) ⊎ (term_eq p term ≡ false) → IsSome (prop_of p after)
       all p any (inl same) = prop_of-there after id p (term-after id ∙ own ∙ ap Some (sym ((term_eq-Decides p term).0 same)))
       all p any (inr other) =
           prop_of-moved table after p one (λ n there. term-after n ∙ term_at-kept table more kept n p there)
-          (once.all p (earlier (list_any (term_eq p) terms) (term_eq p term) other (sym (any_more p term terms) ∙ any)))
+          (once.all p (or_first (list_any (term_eq p) terms) (term_eq p term) other (sym (any_more p term terms) ∙ any)))
 
       only : (n : ℕ) (p : Ground) → term_at n more ≡ Some p → ((n == id) ≡ true) ⊎ ((n == id) ≡ false) → list_any (term_eq p) (terms ++ term ∷ []) ≡ true
       only n p there (inl same) = any_more p term terms ∙ or_right (list_any (term_eq p) terms) _ ((term_eq-Decides p term).1 (own_term n p there (eqb-true n id same)))
@@ -113,10 +105,7 @@ module _ (terms : List Ground) (term : Ground) (table more after : List KeptProp
   known-once : IsSome (prop_of term table) → KeepsOnce terms table → count ≡ 1
   known-once known once =
       let here = once.once id term (ap (term_at id) (sym (interned.same known)) ∙ interned.own) in
-      some_same count 1 (sym interned.counted ∙ ap (mentions_at id) (interned.same known) ∙ here)
-    where
-      some_same : (a b : ℕ) → Some a ≡ Some b → a ≡ b
-      some_same a b e = cc
+      same_Some count 1 (sym interned.counted ∙ ap (mentions_at id) (interned.same known) ∙ here)
 
   -- counted 0 times it is new, and is counted once from then on
   pub KeepsOnce-counted : count ≡ 0 → IfSome (mentions_at id more) (λ n. after ≡ with_mentions id (n + 1) more) → KeepsOnce terms table → KeepsOnce (terms ++ term ∷ []) after
@@ -138,10 +127,7 @@ module _ (terms : List Ground) (term : Ground) (table more after : List KeptProp
       of : (o : Option ℕ) → prop_of term table ≡ o → KeepsOnce (terms ++ term ∷ []) after
       of (Some n) there = KeepsOnce-known terms term table after (is ∙ interned.same (ap is_some there)) (ap is_some there) once
       of None unknown =
-          absurd (some (some_same count 0 (sym interned.counted ∙ ap (mentions_at id) (interned.alone unknown) ∙ mentions_at-with_prop id term table interned.one.in_order unknown (interned.free unknown))))
-        where
-          some_same : (a b : ℕ) → Some a ≡ Some b → a ≡ b
-          some_same a b e = cc
+          absurd (some (same_Some count 0 (sym interned.counted ∙ ap (mentions_at id) (interned.alone unknown) ∙ mentions_at-with_prop id term table interned.one.in_order unknown (interned.free unknown))))
 
 -- ---- the numbers of a table
 

@@ -4,6 +4,7 @@ use Rattle.std.specs.Prelude.{◌==◌, nat_lt, option_map, unwrap_or}
 use Rattle.std.specs.List.{list_any, list_all, sum_by, All}
 use Rattle.std.specs.Option.{option_map_or}
 use Rattle.std.proofs.lemmas.Bool.{cases_Bool, and_parts, false≢true, false_from_ne_true, eqb-true, eq-eqb, cond-true, cond-false, or_right}
+use Rattle.std.proofs.lemmas.Option.{same_Some}
 use Rattle.std.proofs.lemmas.List.Sums.{sum_by-cons}
 use Rattle.ec_terms.specs.declared.ids.PropId.{PropId}
 use Rattle.ec_terms.specs.declared.ground.Ground.{Ground}
@@ -150,10 +151,7 @@ module _ (theory : Theory) (table : List KeptProp) (around : Neighbourhoods) (p 
       ∙ sum_by-agree (λ q. length (filter (is_term table q) (filter (are_exclusive theory term) ms))) (λ q. length (filter (is_term table q) ms)) list
       (λ q member. let t = neighbour_term q member in
       ap length (filter-filter_wider (is_term table q) (are_exclusive theory term) ms
-      (λ m same. let term_of : t.0 ≡ m = some_same t.0 m (sym t.1.0 ∙ term-is_term table q m same) in subst (λ x. are_exclusive theory term x ≡ true) term_of t.1.1)))
-    where
-      some_same : (a b : Ground) → Some a ≡ Some b → a ≡ b
-      some_same a b is = cc
+      (λ m same. let term_of : t.0 ≡ m = same_Some t.0 m (sym t.1.0 ∙ term-is_term table q m same) in subst (λ x. are_exclusive theory term x ≡ true) term_of t.1.1)))
 
   -- ---- links by number
 

@@ -6,6 +6,7 @@ use Rattle.std.specs.Ordering.{int_eq}
 use Rattle.std.proofs.lemmas.Bool.{cases_Bool, false≢true, cond-true, cond-false}
 use Rattle.std.proofs.lemmas.List.Sums.{sum_by-cons, sum_by-append}
 use Rattle.ec_lists.proofs.Integers.{int_eq-from_gt, int_eq-from_lt, int_eq-is, int_eq-same}
+use Rattle.ec_lists.proofs.Numbers.{zero-from_not_lt}
 use Rattle.ec_terms.specs.declared.ground.Ground.{Ground}
 use Rattle.ec_terms.specs.declared.theory.Theory.{Theory}
 use Rattle.ec_axioms.specs.Calculus.{PlainEvent}
@@ -89,9 +90,6 @@ sum_at-initiations_of theory events p t history = each (nat_lt 0 (mark_at theory
     marked : (a b c : ℕ) → nat_lt 0 a ≡ true → nat_lt 0 (a + b + c) ≡ true
     marked a b c some = grind arith
 
-    zero_from : (a : ℕ) → nat_lt 0 a ≡ false → a ≡ 0
-    zero_from a none = grind arith
-
     each : (b : Bool) → nat_lt 0 (mark_at theory events p t).inits ≡ b → sum_at (λ m. m.inits) t (initiations_of theory events p) ≡ (mark_at theory events p t).inits
     each true some =
         let own = mark_at theory events p t in
@@ -106,5 +104,5 @@ sum_at-initiations_of theory events p t history = each (nat_lt 0 (mark_at theory
         let listed = (IsMember-from_filter mark_initiates (marks_of theory events p) from.0 from.1).0 in
         let own = (IsMember-from_marks_of theory events p from.0 listed).0 in
         let at_t : from.0.instant ≡ t = ap (λ (x : PlainMark). x.instant) from.2 ∙ there in
-        sym (ap (λ (x : PlainMark). x.inits) from.2) ∙ sym (ap (λ (x : PlainMark). x.inits) own) ∙ ap (λ s. (mark_at theory events p s).inits) at_t ∙ zero_from _ none)
-        ∙ sym (zero_from _ none)
+        sym (ap (λ (x : PlainMark). x.inits) from.2) ∙ sym (ap (λ (x : PlainMark). x.inits) own) ∙ ap (λ s. (mark_at theory events p s).inits) at_t ∙ zero-from_not_lt _ none)
+        ∙ sym (zero-from_not_lt _ none)

@@ -1,6 +1,7 @@
 -- Tables of what is initial, and empty caches, stand for no event.
-use Rattle.std.proofs.Common.{◌≡◌, ℕ, ℤ, ◌+◌, Bool, true, false, cond, ◌||◌, List, [], length, filter, map, Some, None, is_some, IsSome, refl, sym, ap, ap₂, subst, ◌∙◌, arith}
+use Rattle.std.proofs.Common.{◌≡◌, ℕ, ℤ, ◌+◌, true, cond, List, [], length, filter, map, Some, None, is_some, IsSome, refl, sym, ap, ap₂, subst, ◌∙◌}
 use Rattle.std.proofs.lemmas.Bool.{or_left}
+use Rattle.std.proofs.Math.Bool.{or-false}
 use Rattle.ec_lists.proofs.Options.{is_some-option_map}
 use Rattle.ec_terms.specs.declared.ids.PropId.{PropId}
 use Rattle.ec_terms.specs.declared.ground.Ground.{Ground}
@@ -55,10 +56,7 @@ module _ {T : Type 0} (rank : T → ℤ) (theory : Theory) (numbers : List PropI
 
   live-initial : (p : Ground) → is_live theory [] p ≡ true → is_initial theory p ≡ true
   unfolding is_live mentions_of
-  live-initial p live = left_true (is_initial theory p) live
-    where
-      left_true : (a : Bool) → (a || false) ≡ true → a ≡ true
-      left_true a e = grind arith
+  live-initial p live = sym (or-false (is_initial theory p)) ∙ live
 
   initial-live : (p : Ground) → is_initial theory p ≡ true → is_live theory [] p ≡ true
   unfolding is_live mentions_of

@@ -4,6 +4,7 @@ use Rattle.std.specs.Prelude.{◌==◌, option_map, unwrap_or, find}
 use Rattle.std.specs.List.{sum_by, All}
 use Rattle.std.specs.List.Sorted.{IsPermutation}
 use Rattle.std.proofs.lemmas.Bool.{cases_Bool, false≢true, false_from_ne_true, eqb-true, eq-eqb}
+use Rattle.std.proofs.lemmas.Option.{same_Some}
 use Rattle.std.proofs.lemmas.List.Elements.{All-map}
 use Rattle.std.proofs.lemmas.List.Sorted.{sum_by-IsPermutation, list_any-IsPermutation, length_permutation}
 use Rattle.std.proofs.lemmas.List.Sums.{sum_by-cons}
@@ -14,7 +15,7 @@ use Rattle.ec_terms.specs.declared.theory.Theory.{Theory}
 use Rattle.ec_terms.specs.Term.{term_eq}
 use Rattle.ec_terms.specs.Domain.{is_initial}
 use Rattle.ec_terms.proofs.OrderLemmas.{term_eq-Decides}
-use Rattle.ec_lists.proofs.Options.{is_some-option_map}
+use Rattle.ec_lists.proofs.Options.{is_some-option_map, None-from_is_some}
 use Rattle.ec_lists.proofs.Finds.{is_some-find}
 use Rattle.ec_changes.specs.LiveLaws.{ListsInitials}
 use Rattle.ec_changes.specs.LinkLaws.{links_of}
@@ -103,12 +104,8 @@ module _ (theory : Theory) (before after : List KeptProp) (same : (id : ℕ) →
   pub AreInitialsOf-same : {T : Type 0} (points : PointTable T) → AreInitialsOf theory before points → AreInitialsOf theory after points
   AreInitialsOf-same points initials = record {
     initial = λ id q is. initials.initial id q (sym (same id) ∙ is);
-    none = λ id none. initials.none id (gone (prop_at id before) (sym (same_kept id) ∙ ap is_some none));
+    none = λ id none. initials.none id (None-from_is_some (prop_at id before) (sym (same_kept id) ∙ ap is_some none));
   }
-    where
-      gone : (o : Option KeptProp) → is_some o ≡ false → o ≡ None
-      gone None absent = refl
-      gone (Some k) absent = absurd (false≢true (sym absent))
 
 -- ---- one property counted once more
 
@@ -159,10 +156,7 @@ module _ (theory : Theory) (mentions : List Ground) (p : PropId) (term : Ground)
 
   -- the same term is the same one
   own_term : (id : ℕ) (t : Ground) → term_at id less ≡ Some t → id ≡ p.0 → t ≡ term
-  own_term id t is same = some_same t term (sym is ∙ ap (λ n. term_at n less) same ∙ own)
-    where
-      some_same : (a b : Ground) → Some a ≡ Some b → a ≡ b
-      some_same a b e = cc
+  own_term id t is same = same_Some t term (sym is ∙ ap (λ n. term_at n less) same ∙ own)
 
   -- what is kept with one mention more
   pub AreKeptBy-more : AreKeptBy theory mentions less → AreKeptBy theory (term ∷ mentions) more

@@ -1,5 +1,5 @@
 -- A property that the table alone keeps becomes part of the parts: they stand for the same lists.
-use Rattle.std.proofs.Common.{◌≡◌, ℕ, ℤ, ◌+◌, ◌<◌, ◌≢◌, true, false, Bool, not, cond, ◌||◌, List, [], ◌∷◌, map, filter, get_or, Option, Some, None, is_some, IsTrue, IsFalse, IsSome, refl, sym, ap, subst, ◌∙◌, ⊎_elim, arith}
+use Rattle.std.proofs.Common.{◌≡◌, ℕ, ℤ, ◌+◌, ◌≢◌, true, false, Bool, not, cond, ◌||◌, List, [], ◌∷◌, map, filter, get_or, Option, Some, None, is_some, IsTrue, IsFalse, IsSome, refl, sym, ap, subst, ◌∙◌, ⊎_elim, arith}
 use Rattle.std.specs.Prelude.{◌==◌, nat_lt, option_map}
 use Rattle.std.specs.List.{list_any, IsDistinct, cons_option}
 use Rattle.std.specs.Option.{option_map_or}
@@ -8,7 +8,8 @@ use Rattle.std.proofs.lemmas.List.Elements.{All-contains}
 use Rattle.ec_context.specs.Widened.{is_among, without_props}
 use Rattle.ec_context.proofs.Tables.{prop_at-without_props}
 use Rattle.ec_rows.proofs.OrderedLemmas.{is_ascending-filter}
-use Rattle.std.proofs.lemmas.Bool.{cases_Bool, false≢true, false_from_ne_true, eqb-true, eq-eqb, not-true}
+use Rattle.std.proofs.lemmas.Bool.{cases_Bool, false≢true, false_from_ne_true, eqb-true, eq-eqb, not-true, ltb-true}
+use Rattle.std.proofs.lemmas.Option.{same_Some}
 use Rattle.ec_terms.specs.declared.ids.PropId.{PropId}
 use Rattle.ec_terms.specs.declared.ground.Ground.{Ground}
 use Rattle.ec_terms.specs.declared.theory.Theory.{Theory}
@@ -74,10 +75,7 @@ IsDistinct-terms_of : (table : List KeptProp) (ps : List PropId) → IsOneToOne 
 IsDistinct-terms_of table ps one ascend = IsDistinct-from_pairwise term_eq (terms_of table ps) (pairs ps (IsPairwise-ascending comes_before ps ascend))
   where
     apart : (a b : ℕ) → nat_lt a b ≡ true → a ≡ b → ⊥
-    apart a b less same = omega (arith, same, less_is a b less)
-      where
-        less_is : (a b : ℕ) → nat_lt a b ≡ true → a < b
-        less_is a b less = grind arith
+    apart a b less same = omega (arith, same, ltb-true a b less)
 
     pairs : (qs : List PropId) → IsPairwise (λ q r. IsTrue (comes_before q r)) qs → IsPairwise (λ t u. IsFalse (term_eq t u)) (terms_of table qs)
     pairs [] tt = tt
@@ -128,10 +126,7 @@ module _ (theory : Theory) (p : PropId) (term : Ground) (before after : List Kep
   by_number P itself other n = ⊎_elim (λ same. subst P (sym (eqb-true n p.0 same)) itself) (λ differs. other n (λ same. false≢true (sym differs ∙ eq-eqb n p.0 same))) (cases_Bool (n == p.0))
 
   own_term : (t : Ground) → term_at p.0 after ≡ Some t → term ≡ t
-  own_term t is = some_same term t (sym new.own ∙ is)
-    where
-      some_same : (a b : Ground) → Some a ≡ Some b → a ≡ b
-      some_same a b e = cc
+  own_term t is = same_Some term t (sym new.own ∙ is)
 
   none_before : (n : ℕ) → prop_at n after ≡ None → prop_at n before ≡ None
   none_before = by_number (λ n. prop_at n after ≡ None → prop_at n before ≡ None) (λ _. prop_at-before) (λ n other none. sym (prop_at-other n other) ∙ none)

@@ -10,6 +10,7 @@ use Rattle.std.proofs.lemmas.Bool.{cases_Bool, eqb-true}
 use Rattle.std.proofs.lemmas.Cmp.{int_cmp_total, nat_cmp_total, on_total, then_total}
 use Rattle.std.proofs.lemmas.Int.{ints}
 use Rattle.std.proofs.lemmas.Option.{get_or_from_slice_get}
+use Rattle.ec_lists.proofs.Booleans.{and-left, and-right, or_left_comm}
 use Rattle.ec_lists.proofs.Integers.{int_eq-is, int_lt-not_le}
 use Rattle.ec_lists.proofs.Partitions.{IsCut, take-partition, drop-partition}
 use Rattle.ec_lists.proofs.Tests.{list_any-same}
@@ -24,10 +25,7 @@ pub list_any-insert : {X : Type 0} (test : X → Bool) (x : X) (xs : List X) (i 
 list_any-insert test x [] zero = refl
 list_any-insert test x [] (suc i) = refl
 list_any-insert test x (y ∷ xs) zero = refl
-list_any-insert test x (y ∷ xs) (suc i) = ap (λ b. test y || b) (list_any-insert test x xs i) ∙ swap (test y) (test x) (list_any test xs)
-  where
-    swap : (a b c : Bool) → (a || (b || c)) ≡ (b || (a || c))
-    swap a b c = grind arith
+list_any-insert test x (y ∷ xs) (suc i) = ap (λ b. test y || b) (list_any-insert test x xs i) ∙ or_left_comm (test y) (test x) (list_any test xs)
 
 -- ---- the order
 
@@ -135,15 +133,9 @@ module _ {T : Type 0} (rank : T → ℤ) where
       where
         same : is_clash_of rank n t x ≡ true → has_clash rank n t cs ≡ true
         same e =
-            let number : x.p.0 ≡ n = eqb-true x.p.0 n (first (x.p.0 == n) (int_eq (rank x.at) t) e) in
-            let time : rank x.at ≡ t = int_eq-is (rank x.at) t (second (x.p.0 == n) (int_eq (rank x.at) t) e) in
+            let number : x.p.0 ≡ n = eqb-true x.p.0 n (and-left (x.p.0 == n) (int_eq (rank x.at) t) e) in
+            let time : rank x.at ≡ t = int_eq-is (rank x.at) t (and-right (x.p.0 == n) (int_eq (rank x.at) t) e) in
             sym (ap₂ (λ m u. has_clash rank m u cs) number time) ∙ there
-          where
-            first : (a b : Bool) → (a && b) ≡ true → a ≡ true
-            first a b = grind arith
-
-            second : (a b : Bool) → (a && b) ≡ true → b ≡ true
-            second a b = grind arith
 
         from_case : (a b : Bool) → (a ≡ true → b ≡ true) → b ≡ (a || b)
         from_case true b f = f refl
@@ -156,15 +148,9 @@ module _ {T : Type 0} (rank : T → ℤ) where
       where
         same : is_clash_of rank n t x ≡ true → has_clash rank n t cs ≡ false
         same e =
-            let number : x.p.0 ≡ n = eqb-true x.p.0 n (first (x.p.0 == n) (int_eq (rank x.at) t) e) in
-            let time : rank x.at ≡ t = int_eq-is (rank x.at) t (second (x.p.0 == n) (int_eq (rank x.at) t) e) in
+            let number : x.p.0 ≡ n = eqb-true x.p.0 n (and-left (x.p.0 == n) (int_eq (rank x.at) t) e) in
+            let time : rank x.at ≡ t = int_eq-is (rank x.at) t (and-right (x.p.0 == n) (int_eq (rank x.at) t) e) in
             sym (ap₂ (λ m u. has_clash rank m u cs) number time) ∙ absent
-          where
-            first : (a b : Bool) → (a && b) ≡ true → a ≡ true
-            first a b = grind arith
-
-            second : (a b : Bool) → (a && b) ≡ true → b ≡ true
-            second a b = grind arith
 
         from_case : (a b : Bool) → (a ≡ true → b ≡ false) → b ≡ (not a && b)
         from_case true b f = f refl

@@ -31,13 +31,13 @@ find-filtered_all p q always xs = find-filter p q xs ∙ find_agree (λ x. q x &
 before-not_same : (a b t : ℤ) → int_eq b t ≡ true → (int_lt a b && int_eq a t) ≡ false
 before-not_same a b t = grind (arith, ints)
 
-before-all_same : (a b t : ℤ) → int_lt t b ≡ true → (int_lt a b && int_eq a t) ≡ int_eq a t
+pub before-all_same : (a b t : ℤ) → int_lt t b ≡ true → (int_lt a b && int_eq a t) ≡ int_eq a t
 before-all_same a b t = grind (arith, ints)
 
 behind-none_earlier : (a b t : ℤ) → int_lt t b ≡ true → (int_lt b a && int_eq a t) ≡ false
 behind-none_earlier a b t = grind (arith, ints)
 
-before-none_later : (a b t : ℤ) → int_lt t b ≡ false → (int_lt a b && int_eq a t) ≡ false
+pub before-none_later : (a b t : ℤ) → int_lt t b ≡ false → (int_lt a b && int_eq a t) ≡ false
 before-none_later a b t = grind (arith, ints)
 
 behind-all_later : (a b t : ℤ) → int_eq b t ≡ false → int_lt t b ≡ false → (int_lt b a && int_eq a t) ≡ int_eq a t

@@ -11,6 +11,7 @@ use Rattle.std.proofs.lemmas.List.Sums.{list_all-from_AllPass}
 use Rattle.std.proofs.Math.ListN.{drop_of_length-le}
 use Rattle.ec_lists.proofs.Fronts.{drop-slice_get}
 use Rattle.ec_lists.proofs.Integers.{int_eq-is, int_eq-same}
+use Rattle.ec_lists.proofs.Numbers.{eqb-same}
 use Rattle.ec_lists.proofs.Tests.{list_any-same, list_any-filter, list_any-none, list_all-weaker}
 use Rattle.ec_rows.proofs.OrderedLemmas.{ascending-first}
 use Rattle.ec_points.specs.declared.clashes.Clash.{Clash}
@@ -56,11 +57,8 @@ module _ {T : Type 0} (rank : T → ℤ) (after : Option T) (cs : List (Clash T)
     pub next-there : has_clash rank c.p.0 (rank c.at) cs ≡ true
     next-there =
         any-behind c.p.0 (rank c.at) next-behind ∙ ap (has_clash rank c.p.0 (rank c.at)) rest
-        ∙ here (c.p.0 == c.p.0) (int_eq (rank c.at) (rank c.at)) (has_clash rank c.p.0 (rank c.at) (drop (suc i) cs)) (same c.p.0) (int_eq-same (rank c.at))
+        ∙ here (c.p.0 == c.p.0) (int_eq (rank c.at) (rank c.at)) (has_clash rank c.p.0 (rank c.at) (drop (suc i) cs)) (eqb-same c.p.0) (int_eq-same (rank c.at))
       where
-        same : (m : ℕ) → (m == m) ≡ true
-        same m = grind arith
-
         here : (a b r : Bool) → a ≡ true → b ≡ true → ((a && b) || r) ≡ true
         here a b r = grind arith
 

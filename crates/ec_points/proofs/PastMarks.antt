@@ -1,10 +1,9 @@
 -- What is known of a row and of its currency from the marks before a time.
-use Rattle.std.proofs.Common.{◌≡◌, ℤ, true, false, cond, ◌&&◌, List, None, sym, ap, ◌∙◌, ⊎_elim, arith}
+use Rattle.std.proofs.Common.{◌≡◌, ℤ, true, false, cond, ◌&&◌, List, None, sym, ap, ◌∙◌, ⊎_elim}
 use Rattle.std.specs.Prelude.{int_le, int_lt}
 use Rattle.std.specs.List.{last_or}
 use Rattle.std.specs.Ordering.{int_eq}
 use Rattle.std.proofs.lemmas.Bool.{cases_Bool}
-use Rattle.std.proofs.lemmas.Int.{ints}
 use Rattle.ec_lists.proofs.Filters.{filter-filter_wider}
 use Rattle.ec_lists.proofs.Finds.{find-filter, find_agree}
 use Rattle.ec_lists.proofs.Integers.{int_lt_le-trans}
@@ -15,7 +14,7 @@ use Rattle.ec_rows.specs.PlainMarks.{plain_marks}
 use Rattle.ec_rows.proofs.KnownByTimes.{by_time-ext}
 use Rattle.ec_rows.proofs.OrderedLemmas.{is_ascending-filter}
 use Rattle.ec_points.proofs.LastMarks.{before-plain}
-use Rattle.ec_points.proofs.MadeChanges.{find-never}
+use Rattle.ec_points.proofs.MadeChanges.{find-never, before-all_same, before-none_later}
 
 module _ {T : Type 0} (rank : T → ℤ) where
   -- the marks before u are among those before t, where u is not after t
@@ -31,22 +30,14 @@ module _ {T : Type 0} (rank : T → ℤ) where
       sym (marks_before-past t u marks past) ∙ ap (marks_before rank u) same ∙ marks_before-past t u others past in
       ap (last_or None) (before-plain rank u marks ∙ ap (λ ms. plain_marks rank ms) before ∙ sym (before-plain rank u others))
 
-  -- a mark before t at u, where u is before t
-  both-here : (a t u : ℤ) → int_lt u t ≡ true → (int_lt a t && int_eq a u) ≡ int_eq a u
-  both-here a t u = grind (arith, ints)
-
-  -- and where it is not
-  both-later : (a t u : ℤ) → int_lt u t ≡ false → (int_lt a t && int_eq a u) ≡ false
-  both-later a t u = grind (arith, ints)
-
   -- the mark at u among those before t
   mark_at-before : (t u : ℤ) (marks : List (Mark T)) → mark_at rank u (marks_before rank t marks) ≡ cond (int_lt u t) (mark_at rank u marks) None
   mark_at-before t u marks =
       find-filter (λ (m : Mark T). int_eq (rank m.at) u) (λ m. int_lt (rank m.at) t) marks
       ∙ ⊎_elim
-      (λ here. find_agree (λ (m : Mark T). int_lt (rank m.at) t && int_eq (rank m.at) u) (λ m. int_eq (rank m.at) u) (λ m. both-here (rank m.at) t u here) marks
+      (λ here. find_agree (λ (m : Mark T). int_lt (rank m.at) t && int_eq (rank m.at) u) (λ m. int_eq (rank m.at) u) (λ m. before-all_same (rank m.at) t u here) marks
       ∙ sym (ap (λ b. cond b (mark_at rank u marks) None) here))
-      (λ later. find_agree (λ (m : Mark T). int_lt (rank m.at) t && int_eq (rank m.at) u) (λ m. false) (λ m. both-later (rank m.at) t u later) marks
+      (λ later. find_agree (λ (m : Mark T). int_lt (rank m.at) t && int_eq (rank m.at) u) (λ m. false) (λ m. before-none_later (rank m.at) t u later) marks
       ∙ find-never marks ∙ sym (ap (λ b. cond b (mark_at rank u marks) None) later))
       (cases_Bool (int_lt u t))
 

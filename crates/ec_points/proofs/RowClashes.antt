@@ -8,8 +8,9 @@ use Rattle.std.proofs.lemmas.Bool.{cases_Bool, eqb-true}
 use Rattle.std.proofs.lemmas.Option.{slice_get_within, get_or_from_slice_get}
 use Rattle.std.proofs.lemmas.List.Elements.{filter_agree}
 use Rattle.std.proofs.lemmas.List.Folds.{find-append, list_any_more}
+use Rattle.std.proofs.Math.Bool.{or-true}
 use Rattle.ec_lists.proofs.Finds.{find-none}
-use Rattle.ec_lists.proofs.Numbers.{eqb-apart}
+use Rattle.ec_lists.proofs.Numbers.{eqb-apart, eqb-same}
 use Rattle.ec_numbered.specs.ByNumber.{kept_at}
 use Rattle.ec_rows.specs.declared.mark.Mark.{Mark}
 use Rattle.ec_rows.specs.Marks.{has_mark, is_counted, mark_at}
@@ -77,10 +78,7 @@ pub list_any-row : {X : Type 0} (test : Option X → Bool) → test None ≡ fal
 list_any-row test none [] zero here = absurd (let no = none in cc)
 list_any-row test none [] (suc n) here = absurd (let no = none in cc)
 list_any-row test none (row ∷ rows) zero here = ap (λ b. b || list_any test rows) here
-list_any-row test none (row ∷ rows) (suc n) here = ap (λ b. test row || b) (list_any-row test none rows n here) ∙ or_true (test row)
-  where
-    or_true : (b : Bool) → (b || true) ≡ true
-    or_true b = grind arith
+list_any-row test none (row ∷ rows) (suc n) here = ap (λ b. test row || b) (list_any-row test none rows n here) ∙ or-true (test row)
 
 module _ {T M : Type 0} (marks : M → List (Mark T)) (spare : M → ℕ) (rank : T → ℤ) where
   -- the table tells the same clashes
@@ -124,16 +122,13 @@ module _ {T M : Type 0} (marks : M → List (Mark T)) (spare : M → ℕ) (rank 
         ∙ are n t ∙ sym (ap (λ row. clashes_in rank t (marks_in (option_map (row_of marks spare) row))) (others n (eqb-apart m n e))))
         (cases_Bool (m == n))
       where
-        same : (k : ℕ) → (k == k) ≡ true
-        same k = grind arith
-
         gone : (b c : Bool) → (b ≡ false → c ≡ false) → (not b && c) ≡ false
         gone true c f = refl
         gone false c f = f refl
 
         mine : (t : ℤ) → has_clash rank m t left ≡ clashes_in rank t (marks_in (seen_at marks spare m new))
         mine t =
-            has m t ∙ ap (λ b. not (b && has_mark rank t (marks_in (seen_at marks spare m old))) && has_clash rank m t clashes) (same m)
+            has m t ∙ ap (λ b. not (b && has_mark rank t (marks_in (seen_at marks spare m old))) && has_clash rank m t clashes) (eqb-same m)
             ∙ gone (has_mark rank t (marks_in (seen_at marks spare m old))) (has_clash rank m t clashes)
             (λ none. are m t ∙ clashes_in-none rank t (marks_in (seen_at marks spare m old)) none)
             ∙ sym (ap (clashes_in rank t) empty)

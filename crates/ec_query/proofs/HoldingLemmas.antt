@@ -13,7 +13,7 @@ use Rattle.ec_terms.specs.declared.ground.Ground.{Ground}
 use Rattle.ec_terms.specs.declared.ids.PropId.{PropId}
 use Rattle.ec_terms.specs.declared.theory.Theory.{Theory}
 use Rattle.ec_terms.specs.Term.{term_cmp, term_eq, term_text}
-use Rattle.ec_terms.proofs.OrderLemmas.{term_cmp-total, term_eq-Decides}
+use Rattle.ec_terms.proofs.OrderLemmas.{term_eq-Decides}
 use Rattle.ec_axioms.specs.Calculus.{PlainEvent, holds_at}
 use Rattle.ec_axioms.specs.Links.{initial_properties, is_live, live_properties, mentions_of}
 use Rattle.ec_axioms.specs.QueryTexts.{at_reply, counted_text, holding_at}
@@ -23,7 +23,7 @@ use Rattle.ec_changes.specs.LiveLaws.{ListsInitials}
 use Rattle.ec_changes.proofs.KeptEvents.{same_from_members}
 use Rattle.ec_changes.proofs.LiveLists.{LiveIsListed-law}
 use Rattle.ec_changes.proofs.LiveMarks.{NotLiveIsUnknown-law}
-use Rattle.ec_changes.proofs.TermOrder.{IsBelow, IsBelow-itself, IsMember-from_test, IsPairwise-in_term_order}
+use Rattle.ec_changes.proofs.TermOrder.{IsBelow, IsBelow-itself, IsMember-from_test, IsPairwise-in_term_order, IsBelow-one_way}
 use Rattle.ec_store.specs.Table.{KeptProp, is_in_order, number_of, prop_at, prop_before, term_at}
 use Rattle.ec_rows.specs.Ordered.{is_ascending}
 use Rattle.ec_intervals.specs.Table.{IntervalTable, members_at, plain_intervals}
@@ -67,9 +67,6 @@ IsPairwise-from_order (k ∷ table) order =
     let parts = and_parts (list_all (prop_before k) table) (is_ascending prop_before table) order in
     (λ b member. Less-from_is_lt (term_cmp k.term b.term) (list_all-member (prop_before k) table b parts.0 member), IsPairwise-from_order table parts.1)
 
-IsBelow-other_way : (p q : Ground) → IsBelow p q → IsBelow q p → ⊥
-IsBelow-other_way p q below above = IsBelow-itself p (term_cmp-total.trans p q p below above)
-
 -- what all members are, each is
 pub All-member : {X : Type 0} (P : X → Type 0) (xs : List X) (x : X) → All P xs → IsMember xs x → P x
 All-member P [] x all member = absurd member
@@ -111,7 +108,7 @@ module _ {T : Type 0} (rank : T → ℤ) (theory : Theory) (events : List PlainE
   holding-terms : IsTrue (is_in_order table) → ListsInitials theory → holding_at theory events t ≡ map (λ kept. kept.term) (filter holds table)
   unfolding holding_at live_properties
   holding-terms order lists =
-      same_from_members IsBelow IsBelow-itself IsBelow-other_way (filter (λ p. holds_at theory events p t) (live_properties theory events)) (map (λ kept. kept.term) (filter holds table))
+      same_from_members IsBelow IsBelow-itself IsBelow-one_way (filter (λ p. holds_at theory events p t) (live_properties theory events)) (map (λ kept. kept.term) (filter holds table))
       (IsPairwise-filter IsBelow (λ p. holds_at theory events p t) (live_properties theory events) (IsPairwise-in_term_order (initial_properties theory ++ mentions_of theory events)))
       (IsPairwise-map IsBelow (λ (kept : KeptProp). kept.term) (filter holds table) (IsPairwise-filter (λ a b. IsBelow a.term b.term) holds table (IsPairwise-from_order table order)))
       into back

@@ -6,6 +6,7 @@ use Rattle.std.specs.Ordering.{int_cmp, int_eq, is_le}
 use Rattle.std.proofs.lemmas.Bool.{false≢true}
 use Rattle.std.proofs.lemmas.List.Folds.{list_any-append}
 use Rattle.std.proofs.lemmas.Option.{get_or_from_slice_get}
+use Rattle.std.proofs.Math.Bool.{or-false}
 use Rattle.ec_axioms.specs.Timeline.{Interval, before_all, begins_at, covers, has_begin, is_held_at, is_within_end}
 use Rattle.ec_axioms.proofs.Members.{IsMember, list_all-member, Contains-from_member, IsMember-from_contains, IsMember-map, IsMember-append_right, IsMember-slice_get}
 use Rattle.ec_rows.specs.Spans.{IsSpanRow, is_covering, is_proper, reaches, ends_after, spans_before}
@@ -22,11 +23,7 @@ use Rattle.ec_lists.proofs.Tests.{list_all-weaker}
 use Rattle.std.proofs.lemmas.Int.{ints}
 use Rattle.ec_query.specs.Stretches.{IsEndOver, IsEndFrom}
 
--- what is said of a value, by what is said of it otherwise
-pub IfSome-weaker : {X : Type 0} (o : Option X) (P Q : X → Type 0) → ((x : X) → P x → Q x) → IfSome o P → IfSome o Q
-IfSome-weaker None P Q weaker holds = holds
-IfSome-weaker (Some x) P Q weaker holds = weaker x holds
-
+-- what is said where there is no value, by what is said of it otherwise
 pub IfNone-weaker : {X P Q : Type 0} (o : Option X) → (P → Q) → IfNone o P → IfNone o Q
 IfNone-weaker None weaker holds = weaker holds
 IfNone-weaker (Some x) weaker holds = holds
@@ -92,13 +89,9 @@ module _ {T : Type 0} (rank : T → ℤ) where
   over-front (Some end) spans t held = record {
     interval = record { from = before_all; until = plain_end rank end };
     member = Contains-from_member (plain_intervals rank (front_members (Some end) ++ map span_interval spans)) (record { from = before_all; until = plain_end rank end }) (inl refl);
-    covering = first (is_within_end (plain_end rank end) t) held;
+    covering = sym (or-false (is_within_end (plain_end rank end) t)) ∙ held;
     until = refl;
   }
-    where
-      first : (b : Bool) → (b || false) ≡ true → b ≡ true
-      first true held = refl
-      first false held = held
 
   pub held-parts : (front : Option (End T)) (spans : List (Span T)) (t : ℤ) → is_held_at (plain_intervals rank (front_members front)) t ≡ false
       → is_held_at (plain_spans rank spans) t ≡ false → is_held_at (plain_intervals rank (front_members front ++ map span_interval spans)) t ≡ false

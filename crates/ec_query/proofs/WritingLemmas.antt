@@ -3,6 +3,7 @@ use Rattle.std.proofs.Common.{◌≡◌, ℕ, ◌+◌, ◌≤◌, suc, List, [],
 use Rattle.std.specs.Prelude.{ℤ, Option, flat_map, slice_get, decimal}
 use Rattle.std.proofs.lemmas.List.{drop-drop, drop_all, length-map}
 use Rattle.ec_lists.proofs.Fronts.{drop-slice_get}
+use Rattle.ec_lists.proofs.Results.{OnErr-anyway}
 use Rattle.ec_outside.specs.Counts.{Rose}
 use Rattle.ec_outside.specs.Streams.{Appended, AppendedPart}
 use Rattle.ec_outside.proofs.Streams.{Appended-nil, Appended-then, Appended-then-part, AppendedPart-longer, Kept-refl}
@@ -60,11 +61,6 @@ module _ {S : Type 0} {stands : S → List ℕ → Type 0} {faults : S → ℕ} 
   IsLeft-last_part {before = before} after (Err e) bytes left is part =
       subst (λ (all : List ℕ). AppendedPart stands before after all) (sym (left.split ∙ ap (λ all. left.done ++ all) is)) (Appended-then-part left.appended part)
   IsLeft-last_part after (Ok x) bytes left is part = part
-
--- what holds anyway holds of a failure
-pub OnErr-anyway : {X E P : Type 0} (r : Result X E) → P → OnErr r P
-OnErr-anyway (Ok x) holds = tt
-OnErr-anyway (Err e) holds = holds
 
 -- what rose from a count that is as before rose from that before
 pub OnErr-rose : {X E : Type 0} (r : Result X E) {before middle : ℕ} (after : ℕ) → middle ≡ before → Rose middle after → OnErr r (Rose before after)

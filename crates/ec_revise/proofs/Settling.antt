@@ -1,9 +1,9 @@
 -- What a visit settles: the marks at its instant, what is dirty behind it, and what may have changed intervals.
-use Rattle.std.proofs.Common.{◌≡◌, ◌⊎◌, ℕ, ℤ, pos, ◌+ℤ◌, Bool, false, ◌||◌, nat_lt, List, Some, None, IsTrue, IsFalse, refl, sym, ap, ap₂, ◌∙◌, inl, inr, ⊎_elim, arith}
+use Rattle.std.proofs.Common.{◌≡◌, ◌⊎◌, ℤ, pos, ◌+ℤ◌, Bool, false, ◌||◌, nat_lt, List, Some, None, IsTrue, IsFalse, refl, sym, ap, ap₂, ◌∙◌, inl, inr, ⊎_elim, arith}
 use Rattle.std.specs.Prelude.{unwrap_or, is_some}
 use Rattle.std.proofs.lemmas.Bool.{and_parts, cases_Bool, cond-false, cond-true, eqb-true, false≢true, false_from_ne_true, or_parts}
-use Rattle.std.proofs.lemmas.Bool.Decides.{nat_tests}
 use Rattle.std.proofs.lemmas.Int.{ints}
+use Rattle.ec_lists.proofs.Numbers.{zero-from_not_lt}
 use Rattle.ec_terms.specs.declared.ground.Ground.{Ground}
 use Rattle.ec_terms.specs.declared.theory.Theory.{Theory}
 use Rattle.ec_axioms.specs.Calculus.{PlainEvent, is_current}
@@ -143,11 +143,8 @@ module _ (theory : Theory) (old new : List PlainEvent) (kept : Ground → Bool) 
       let rest : (b || c || nat_lt 0 mark.inits || nat_lt 0 other.inits) ≡ false = grind arith in
       let last = or_parts (b || c || nat_lt 0 mark.inits) (nat_lt 0 other.inits) rest in
       let third = or_parts (b || c) (nat_lt 0 mark.inits) last.0 in
-      let two = or_parts b c third.0 in inr (two.0, two.1, empty mark.inits third.1, empty other.inits last.1))
+      let two = or_parts b c third.0 in inr (two.0, two.1, zero-from_not_lt mark.inits third.1, zero-from_not_lt other.inits last.1))
       (cases_Bool (counts_same mark other))
-    where
-      empty : (n : ℕ) → nat_lt 0 n ≡ false → n ≡ 0
-      empty n none = grind (arith, nat_tests)
 
   pub inert_here : (p : Ground) → IsTrue (kept p) → IsFalse (after.matters p)
       → (mark_at theory old p (r +ℤ pos 1) ≡ mark_at theory new p (r +ℤ pos 1)) ⊎ IsInert theory old new p (r +ℤ pos 1)

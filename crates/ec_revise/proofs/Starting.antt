@@ -5,6 +5,7 @@ use Rattle.std.specs.Ordering.{int_eq}
 use Rattle.std.specs.Bool.{beq}
 use Rattle.std.proofs.lemmas.Bool.{false≢true, false_from_ne_true}
 use Rattle.std.proofs.lemmas.Int.{ints}
+use Rattle.ec_lists.proofs.Booleans.{not-and_same, and-not_same}
 use Rattle.ec_lists.proofs.Integers.{int_lt-is}
 use Rattle.ec_terms.specs.declared.theory.Theory.{Theory}
 use Rattle.ec_axioms.specs.Plain.{events_at}
@@ -54,8 +55,8 @@ SweepStarts-law theory old new kept r found compared late nothing = record {
   not_yet = λ effect t after contained. nothing.active effect t contained;
   inert = λ p t keeps within unmattered. inl (past.marks p t (omega (arith, ints)));
   seen = nothing.seen ∙ sym (kept_count-before theory old new (sees theory old new) (r +ℤ pos 1) unseen);
-  on = nothing.on ∙ sym (kept_count-before theory old new (turns_on theory old new) (r +ℤ pos 1) (λ effect before. not_on _ _ (active effect before)));
-  off = nothing.off ∙ sym (kept_count-before theory old new (turns_off theory old new) (r +ℤ pos 1) (λ effect before. not_off _ _ (active effect before)));
+  on = nothing.on ∙ sym (kept_count-before theory old new (turns_on theory old new) (r +ℤ pos 1) (λ effect before. not-and_same _ _ (active effect before)));
+  off = nothing.off ∙ sym (kept_count-before theory old new (turns_off theory old new) (r +ℤ pos 1) (λ effect before. and-not_same _ _ (active effect before)));
   due = λ p u dirty after bears. absurd (false≢true (sym (ap is_some (nothing.dirty p)) ∙ dirty));
   ahead = λ p t due. absurd (false≢true (sym (nothing.agenda p t) ∙ due));
 }
@@ -80,9 +81,3 @@ SweepStarts-law theory old new kept r found compared late nothing = record {
         never : (b c : Bool) → b ≡ c → not (beq b c) ≡ true → ⊥
         never true c same differ = false≢true (grind arith)
         never false c same differ = false≢true (grind arith)
-
-    not_on : (before after : Bool) → before ≡ after → (not before && after) ≡ false
-    not_on before after same = grind arith
-
-    not_off : (before after : Bool) → before ≡ after → (before && not after) ≡ false
-    not_off before after same = grind arith

@@ -5,7 +5,7 @@ use Rattle.std.proofs.lemmas.Bool.{cases_Bool, cond-false, cond-true, eqb-true, 
 use Rattle.std.proofs.lemmas.List.Folds.{list_any-append}
 use Rattle.std.proofs.Math.Bool.{or-false}
 use Rattle.std.proofs.Math.Seq.{take-suc}
-use Rattle.ec_lists.proofs.Booleans.{is_some-cond}
+use Rattle.ec_lists.proofs.Booleans.{is_some-cond, or_turned}
 use Rattle.ec_terms.specs.declared.ids.PropId.{PropId}
 use Rattle.ec_numbered.specs.PropSet.{are_ascending, has_number}
 use Rattle.ec_exclusive.proofs.InTurn.{not-yet}
@@ -62,15 +62,12 @@ CountsEach-more ps i d part up first before after ascending below done more = re
   rows = λ q.
       more.rows q
       ∙ ap₂ (λ b c. b || c) (or-false ((get_or ps i d).0 == q.0)) (done.rows q)
-      ∙ turned ((get_or ps i d).0 == q.0) (has_number q.0 (take i ps)) (is_some (row_at q.0 first))
+      ∙ or_turned ((get_or ps i d).0 == q.0) (has_number q.0 (take i ps)) (is_some (row_at q.0 first))
       ∙ ap (λ b. b || is_some (row_at q.0 first)) (sym (has_number-more ps i d q.0 below));
 }
   where
     left_alone : (b c : Bool) → c ≡ false → (b || c) ≡ b
     left_alone b c fails = grind arith
-
-    turned : (b c d : Bool) → (b || (c || d)) ≡ ((c || b) || d)
-    turned b c d = grind arith
 
 -- counting none leaves all
 pub CountsEach-none : (part : Part) (up : Bool) (rows : List (ℕ × Tallied)) → CountsEach [] part up rows rows

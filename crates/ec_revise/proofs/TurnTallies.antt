@@ -6,6 +6,7 @@ use Rattle.std.proofs.lemmas.List.Filters.{length-filter_more}
 use Rattle.std.proofs.lemmas.List.Folds.{list_any-append}
 use Rattle.std.proofs.Math.Bool.{or-false}
 use Rattle.std.proofs.Math.Seq.{take-suc}
+use Rattle.ec_lists.proofs.Booleans.{or_turned}
 use Rattle.ec_lists.proofs.Filters.{length-filter_le}
 use Rattle.ec_terms.specs.declared.ids.PropId.{PropId}
 use Rattle.ec_exclusive.specs.Added.{Added}
@@ -70,10 +71,7 @@ pub list_any-turn_more : (test : Turn → Bool) (turns : List Turn) (i : ℕ) (d
     → after ≡ (test (get_or turns i d) || before) → before ≡ (list_any test (take i turns) || rest) → after ≡ (list_any test (take (i + 1) turns) || rest)
 list_any-turn_more test turns i d rest before after below more done =
     more ∙ ap (λ b. test (get_or turns i d) || b) done
-    ∙ swapped (test (get_or turns i d)) (list_any test (take i turns)) rest
+    ∙ or_turned (test (get_or turns i d)) (list_any test (take i turns)) rest
     ∙ ap (λ b. b || rest)
     (sym (ap (λ j. list_any test (take j turns)) (add-one i) ∙ ap (list_any test) (take-suc turns i d below) ∙ list_any-append test (take i turns) (get_or turns i d ∷ [])
     ∙ ap (λ b. list_any test (take i turns) || b) (or-false (test (get_or turns i d)))))
-  where
-    swapped : (b c d : Bool) → (b || (c || d)) ≡ ((c || b) || d)
-    swapped b c d = grind arith

@@ -26,7 +26,7 @@ module _ {T : Type 0} (rank : T → ℤ) where
   IsSpanRow-nil spans empty = subst (IsSpanRow rank) (sym empty) (record { proper = refl; ascending = refl })
 
   -- the rest of a row
-  IsSpanRow-rest : (span : Span T) (spans : List (Span T)) → IsSpanRow rank (span ∷ spans) → IsSpanRow rank spans
+  pub IsSpanRow-rest : (span : Span T) (spans : List (Span T)) → IsSpanRow rank (span ∷ spans) → IsSpanRow rank spans
   IsSpanRow-rest span spans row = record {
     proper = and-right (is_proper rank span) (list_all (is_proper rank) spans) row.proper;
     ascending = ascending-rest (span_before rank) span spans row.ascending;

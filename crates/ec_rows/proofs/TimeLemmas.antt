@@ -19,6 +19,7 @@ use Rattle.ec_rows.proofs.OrderedLemmas.{IsPlace-by_key, IsOrder-by_key, is_at, 
 use Rattle.ec_lists.proofs.Integers.{int_eq-is}
 use Rattle.ec_lists.proofs.Orderings.{is_eq-then}
 use Rattle.ec_lists.proofs.Tests.{list_any-same}
+use Rattle.ec_lists.proofs.Booleans.{and-left, and-right}
 
 -- places are in a total order
 pub place_cmp-total : IsTotalOrder place_cmp
@@ -117,12 +118,6 @@ module _ {T : Type 0} (rank : T → ℤ) where
       let not_before : is_before (rank at, id) entry ≡ false = ap (is_before (rank at, id)) is ∙ cut.1 i entry (omega arith) there.0 in
       let here : is_entry rank (rank at) id entry ≡ true =
       is_entry-is_at (rank at) id entry ∙ ap₂ (λ a b. not a && not b) not_before not_behind in
-      let same_time : entry.0 ≡ at = same_moment entry.0 at (int_eq-is (rank entry.0) (rank at) (both-left (int_eq (rank entry.0) (rank at)) (bytes_eq entry.1 id) here)) in
-      let same_id : entry.1 ≡ id = (bytes_eq-Decides entry.1 id).0 (both-right (int_eq (rank entry.0) (rank at)) (bytes_eq entry.1 id) here) in
+      let same_time : entry.0 ≡ at = same_moment entry.0 at (int_eq-is (rank entry.0) (rank at) (and-left (int_eq (rank entry.0) (rank at)) (bytes_eq entry.1 id) here)) in
+      let same_id : entry.1 ≡ id = (bytes_eq-Decides entry.1 id).0 (and-right (int_eq (rank entry.0) (rank at)) (bytes_eq entry.1 id) here) in
       (i, there.0, sym (get_or_read times i entry there.0 is (at, id, entry.2)) ∙ ap₂ (λ a b. (a, b, entry.2)) same_time same_id)
-    where
-      both-left : (a b : Bool) → (a && b) ≡ true → a ≡ true
-      both-left a b = grind arith
-
-      both-right : (a b : Bool) → (a && b) ≡ true → b ≡ true
-      both-right a b = grind arith

@@ -2,6 +2,7 @@
 use Rattle.std.proofs.Common.{◌≡◌, ◌+◌, ℕ, Bool, true, false, cond, ◌||◌, List, [], ◌∷◌, ◌++◌, map, ℤ, Option, None, min, refl, sym, ap, ap₂, ◌∙◌, subst, inl, inr, append-nil, true≢false, arith}
 use Rattle.std.specs.Prelude.{count_by}
 use Rattle.std.specs.List.{list_any}
+use Rattle.std.proofs.lemmas.Bool.{or_parts}
 use Rattle.std.proofs.lemmas.List.Folds.{list_any-append}
 use Rattle.std.proofs.lemmas.List.Sums.{sum_by-cons}
 use Rattle.ec_terms.specs.Pieces.{pieces_between}
@@ -46,12 +47,8 @@ HasNoRefusal-of out none = none_counted is_memory (cut_of out).ended (below (cou
 -- what stands behind an ended text has none where both together have none
 behind_text : (text rest : List ℕ) → IsEnded text → HasNoRefusal (text ++ rest) → HasNoRefusal rest
 behind_text text rest is none =
-    second (list_any is_memory (cut_of text).ended) (list_any is_memory (cut_of rest).ended)
-    (sym (list_any-append is_memory (cut_of text).ended (cut_of rest).ended) ∙ ap (list_any is_memory) (sym (ended-append text rest is)) ∙ none)
-  where
-    second : (a b : Bool) → (a || b) ≡ false → b ≡ false
-    second true b none = absurd (true≢false none)
-    second false b none = none
+    (or_parts (list_any is_memory (cut_of text).ended) (list_any is_memory (cut_of rest).ended)
+    (sym (list_any-append is_memory (cut_of text).ended (cut_of rest).ended) ∙ ap (list_any is_memory) (sym (ended-append text rest is)) ∙ none)).1
 
 -- the refusal in front is seen
 seen_in_front : (rest : List ℕ) → list_any is_memory (cut_of (reply_line None (answer_text refused_memory) ++ rest)).ended ≡ true

@@ -1,7 +1,6 @@
 mod DraftLists
 mod AnsweredLines
 mod Drafted
-mod Failures
 mod Revisions
 mod Standings
 mod StepCounts

@@ -12,7 +12,8 @@ use Rattle.std.proofs.lemmas.Cmp.{nat_cmp_total, on_total, then_total, tied_itse
 use Rattle.std.proofs.lemmas.List.{get_or-map, length-map}
 use Rattle.std.proofs.lemmas.List.Elements.{filter_agree}
 use Rattle.std.proofs.lemmas.Map.Lookups.{CmpEqualImpliesEq}
-use Rattle.ec_lists.proofs.Booleans.{cond_comm, option_map-cond}
+use Rattle.std.proofs.Math.Bool.{not-and_self}
+use Rattle.ec_lists.proofs.Booleans.{cond_comm, option_map-cond, or_second}
 use Rattle.ec_lists.proofs.Finds.{find_agree, find-filter, is_some-find, find-None_cons}
 use Rattle.ec_lists.proofs.Options.{is_some-option_map, None-from_option_map}
 use Rattle.ec_lists.proofs.Orderings.{Equal-from_is_eq, is_eq-then}
@@ -200,11 +201,7 @@ module _ {M : Type 0} (key : M → ℕ) (cmp : M → M → Ordering) (total : Is
   -- a name that is another one is found as that one
   both-named : (name sought : M) (h : ℕ × M) → is_eq (cmp name sought) ≡ true → (not (named name h) && named sought h) ≡ false
   both-named name sought h same =
-      ap (λ m. not (is_eq (cmp h.1 m)) && named sought h) (exact name sought (Equal-from_is_eq (cmp name sought) same)) ∙ never (named sought h)
-    where
-      never : (b : Bool) → (not b && b) ≡ false
-      never true = refl
-      never false = refl
+      ap (λ m. not (is_eq (cmp h.1 m)) && named sought h) (exact name sought (Equal-from_is_eq (cmp name sought) same)) ∙ not-and_self (named sought h)
 
   other-named : (name sought : M) (h : ℕ × M) → is_eq (cmp name sought) ≡ false → (not (named name h) && named sought h) ≡ named sought h
   other-named name sought h other =
@@ -284,12 +281,9 @@ module _ {M : Type 0} (key : M → ℕ) (cmp : M → M → Ordering) (total : Is
         let front : before sought x ≡ true =
         ⊎_elim
         (λ e. (place sought).keeps x y first e)
-        (λ e. ap (λ m. is_lt (keyed_cmp key cmp x.1 m)) (sym (exact y.1 sought (Equal-from_is_eq (cmp y.1 sought) (second_true (before sought y) (named sought y) e second)))) ∙ first)
+        (λ e. ap (λ m. is_lt (keyed_cmp key cmp x.1 m)) (sym (exact y.1 sought (Equal-from_is_eq (cmp y.1 sought) (or_second (before sought y) (named sought y) e second)))) ∙ first)
         (cases_Bool (before sought y)) in
         ap (λ b. b || named sought x) front
-      where
-        second_true : (a b : Bool) → a ≡ false → (a || b) ≡ true → b ≡ true
-        second_true a b none either = grind arith
 
     -- a name before another one has no greater key
     least-key : (a b : ℕ) (o : Ordering) → is_lt (ordering_then (nat_cmp a b) o) ≡ true → nat_lt b a ≡ false

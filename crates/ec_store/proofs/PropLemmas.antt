@@ -1,11 +1,11 @@
 -- Kept properties: what is found among them, and what a property more, a property less, or other mentions leave.
-use Rattle.std.proofs.Common.{◌≡◌, ℕ, zero, suc, Bool, true, false, cond, not, ◌&&◌, ◌||◌, List, [], ◌∷◌, map, Option, Some, None, refl, sym, ap, ap₂, subst, ◌∙◌, ⊎_elim, slice_get, is_some, arith}
+use Rattle.std.proofs.Common.{◌≡◌, ℕ, zero, suc, Bool, true, false, cond, not, ◌&&◌, ◌||◌, List, [], ◌∷◌, map, Option, Some, None, refl, sym, ap, ap₂, subst, ◌∙◌, ⊎_elim, slice_get, is_some}
 use Rattle.std.specs.Prelude.{find, option_map, ◌==◌, if◌then◌else◌}
 use Rattle.std.specs.List.{list_any, list_all, insert, remove}
 use Rattle.std.specs.declared.cmp.Ordering.{Ordering}
 use Rattle.std.specs.declared.cmp.Ordering.TheVariants.{Less, Equal, Greater}
 use Rattle.std.specs.Ordering.{is_lt, is_eq}
-use Rattle.std.proofs.lemmas.Bool.{cases_Bool, false≢true}
+use Rattle.std.proofs.lemmas.Bool.{cases_Bool, false≢true, eqb-true, or_parts}
 use Rattle.ec_terms.specs.declared.ground.Ground.{Ground}
 use Rattle.ec_terms.specs.declared.ids.PropId.{PropId}
 use Rattle.ec_terms.specs.Term.{term_cmp, term_eq}
@@ -16,22 +16,10 @@ use Rattle.ec_rows.proofs.OrderedLemmas.{IsOrder, IsOrder-by_key, ascending-firs
 use Rattle.ec_store.specs.Table.{KeptProp, prop_at, term_at, mentions_at, prop_of, prop_before, is_in_order, without_prop, mentioned, with_mentions, number_of}
 use Rattle.ec_lists.proofs.Booleans.{option_map-cond, cond_comm, cond-same, cond-again}
 use Rattle.ec_lists.proofs.Finds.{find-none, is_some-find}
+use Rattle.ec_lists.proofs.Numbers.{eqb-same}
+use Rattle.ec_lists.proofs.Options.{is_some-option_map}
 use Rattle.ec_lists.proofs.Orderings.{Equal-from_is_eq}
 use Rattle.ec_lists.proofs.Tests.{list_all-slice_get}
-
--- ---- tests and answers
-
-pub same_number : (a b : ℕ) → (a == b) ≡ true → a ≡ b
-same_number a b e = grind arith
-
-pub itself : (n : ℕ) → (n == n) ≡ true
-itself n = grind arith
-
-or_left-false : (a b : Bool) → (a || b) ≡ false → a ≡ false
-or_left-false a b = grind arith
-
-or_right-false : (a b : Bool) → (a || b) ≡ false → b ≡ false
-or_right-false a b = grind arith
 
 -- ---- the property of a number
 
@@ -46,7 +34,7 @@ prop_at-id id [] k is = cc
 prop_at-id id (j ∷ js) k is =
     ⊎_elim
     (λ e. let found : Some j ≡ Some k = sym (ap (λ b. cond b (Some j) (prop_at id js)) e) ∙ is in
-    let same : j ≡ k = cc in ap (λ (x : KeptProp). x.id) (sym same) ∙ same_number j.id id e)
+    let same : j ≡ k = cc in ap (λ (x : KeptProp). x.id) (sym same) ∙ eqb-true j.id id e)
     (λ e. prop_at-id id js k (sym (ap (λ b. cond b (Some j) (prop_at id js)) e) ∙ is))
     (cases_Bool (j.id == id))
 
@@ -66,7 +54,7 @@ prop_at-insert k [] (suc i) id none = refl
 prop_at-insert k (j ∷ js) zero id none = refl
 prop_at-insert k (j ∷ js) (suc i) id none =
     let apart : (k.id == id) ≡ true → (j.id == id) ≡ false =
-    λ e. subst (λ n. (j.id == n) ≡ false) (same_number k.id id e) (absent-first k.id j js none) in
+    λ e. subst (λ n. (j.id == n) ≡ false) (eqb-true k.id id e) (absent-first k.id j js none) in
     ap (λ o. cond (j.id == id) (Some j) o) (prop_at-insert k js i id (absent-rest k.id j js none))
     ∙ cond_comm (j.id == id) (k.id == id) (Some j) (Some k) (prop_at id js) apart
 
@@ -77,11 +65,11 @@ prop_at-without p id (k ∷ ks) =
     let rest : List KeptProp = without_prop p ks in
     let ih : prop_at id rest ≡ cond (p == id) None (prop_at id ks) = prop_at-without p id ks in
     ⊎_elim
-    (λ e. let same : (k.id == id) ≡ (p == id) = ap (λ n. n == id) (same_number k.id p e) in
+    (λ e. let same : (k.id == id) ≡ (p == id) = ap (λ n. n == id) (eqb-true k.id p e) in
     ap (λ b. prop_at id (cond (not b) (k ∷ rest) rest)) e ∙ ih
     ∙ cond-again (p == id) None (Some k) (prop_at id ks)
     ∙ ap (λ b. cond (p == id) None (cond b (Some k) (prop_at id ks))) (sym same))
-    (λ e. let apart : (p == id) ≡ true → (k.id == id) ≡ false = λ is. subst (λ n. (k.id == n) ≡ false) (same_number p id is) e in
+    (λ e. let apart : (p == id) ≡ true → (k.id == id) ≡ false = λ is. subst (λ n. (k.id == n) ≡ false) (eqb-true p id is) e in
     ap (λ b. prop_at id (cond (not b) (k ∷ rest) rest)) e
     ∙ ap (λ o. cond (k.id == id) (Some k) o) ih
     ∙ cond_comm (k.id == id) (p == id) (Some k) None (prop_at id ks) apart)
@@ -189,11 +177,11 @@ numbers-with_mentions p count (k ∷ ks) =
 -- a property less leaves the others under their numbers
 pub prop_at-without_other : (p id : ℕ) (ks : List KeptProp) → (id ≡ p → ⊥) → prop_at id (without_prop p ks) ≡ prop_at id ks
 prop_at-without_other p id ks other =
-    ⊎_elim (λ e. absurd (other (sym (same_number p id e)))) (λ e. prop_at-without p id ks ∙ ap (λ b. cond b None (prop_at id ks)) e) (cases_Bool (p == id))
+    ⊎_elim (λ e. absurd (other (sym (eqb-true p id e)))) (λ e. prop_at-without p id ks ∙ ap (λ b. cond b None (prop_at id ks)) e) (cases_Bool (p == id))
 
 -- and none under its own
 pub prop_at-without_itself : (p : ℕ) (ks : List KeptProp) → prop_at p (without_prop p ks) ≡ None
-prop_at-without_itself p ks = prop_at-without p p ks ∙ ap (λ b. cond b None (prop_at p ks)) (itself p)
+prop_at-without_itself p ks = prop_at-without p p ks ∙ ap (λ b. cond b None (prop_at p ks)) (eqb-same p)
 
 -- what a number finds stands at some place
 pub place-prop_at : (id : ℕ) (ks : List KeptProp) (k : KeptProp) → prop_at id ks ≡ Some k → (i : ℕ) × (slice_get ks i ≡ Some k)
@@ -211,11 +199,8 @@ same-places ks i j k l ordered at there same =
 
 -- a number that finds the same term in two tables is kept in both
 pub kept-same_term : (id : ℕ) (ks js : List KeptProp) → term_at id ks ≡ term_at id js → is_some (prop_at id js) ≡ true → is_some (prop_at id ks) ≡ true
-kept-same_term id ks js same kept = sym (is_some-term (prop_at id ks)) ∙ ap is_some same ∙ is_some-term (prop_at id js) ∙ kept
-  where
-    is_some-term : (o : Option KeptProp) → is_some (option_map (λ (k : KeptProp). k.term) o) ≡ is_some o
-    is_some-term None = refl
-    is_some-term (Some k) = refl
+kept-same_term id ks js same kept =
+    sym (is_some-option_map (λ (k : KeptProp). k.term) (prop_at id ks)) ∙ ap is_some same ∙ is_some-option_map (λ (k : KeptProp). k.term) (prop_at id js) ∙ kept
 
 -- the mentions that were set
 pub mentions_at-with_mentions : (p count : ℕ) (ks : List KeptProp) → is_some (prop_at p ks) ≡ true → mentions_at p (with_mentions p count ks) ≡ Some count
@@ -223,7 +208,7 @@ mentions_at-with_mentions p count ks kept =
     let found = some-kept (prop_at p ks) kept in
     ap (option_map (λ (k : KeptProp). k.mentions)) (prop_at-with_mentions p count p ks ∙ ap (option_map (mentioned p count)) found.1)
     ∙ ap (λ b. Some (if b then record (found.0) { mentions = count } else found.0).mentions)
-    (ap (λ n. n == p) (prop_at-id p ks found.0 found.1) ∙ itself p)
+    (ap (λ n. n == p) (prop_at-id p ks found.0 found.1) ∙ eqb-same p)
 
 -- and those under other numbers
 pub prop_at-with_other_mentions : (p count id : ℕ) (ks : List KeptProp) → (id ≡ p → ⊥) → prop_at id (with_mentions p count ks) ≡ prop_at id ks
@@ -232,7 +217,7 @@ prop_at-with_other_mentions p count id ks other = prop_at-with_mentions p count 
     of : (o : Option KeptProp) → prop_at id ks ≡ o → option_map (mentioned p count) o ≡ o
     of None is = refl
     of (Some k) is =
-        ⊎_elim (λ e. absurd (other (sym (prop_at-id id ks k is) ∙ same_number k.id p e)))
+        ⊎_elim (λ e. absurd (other (sym (prop_at-id id ks k is) ∙ eqb-true k.id p e)))
         (λ e. ap (λ b. Some (if b then record k { mentions = count } else k)) e) (cases_Bool (k.id == p))
 
 -- ---- what a test finds, with a member more and with one less
@@ -243,8 +228,8 @@ find-insert p x [] zero alone = refl
 find-insert p x [] (suc i) alone = refl
 find-insert p x (y ∷ ys) zero alone = refl
 find-insert p x (y ∷ ys) (suc i) alone =
-    ap (λ o. cond (p y) (Some y) o) (find-insert p x ys i (λ e. or_right-false (p y) (list_any p ys) (alone e)))
-    ∙ cond_comm (p y) (p x) (Some y) (Some x) (find p ys) (λ e. or_left-false (p y) (list_any p ys) (alone e))
+    ap (λ o. cond (p y) (Some y) o) (find-insert p x ys i (λ e. (or_parts (p y) (list_any p ys) (alone e)).1))
+    ∙ cond_comm (p y) (p x) (Some y) (Some x) (find p ys) (λ e. (or_parts (p y) (list_any p ys) (alone e)).0)
 
 -- with the member at a place less, for which a test does not ask
 pub find-remove : {A : Type 0} (p : A → Bool) (xs : List A) (i : ℕ) (x : A) → slice_get xs i ≡ Some x → p x ≡ false → find p (remove xs i) ≡ find p xs

@@ -5,7 +5,7 @@ use Rattle.std.specs.List.Sorted.{IsPartitionPoint}
 use Rattle.std.specs.declared.cmp.Ordering.{Ordering}
 use Rattle.std.specs.declared.cmp.Ordering.TheVariants.{Less, Equal, Greater}
 use Rattle.std.specs.Ordering.{is_lt, is_eq}
-use Rattle.std.proofs.lemmas.Bool.{cases_Bool, cases_lt, eqb-true, false≢true}
+use Rattle.std.proofs.lemmas.Bool.{cases_Bool, cases_lt, eqb-true, false≢true, or_parts}
 use Rattle.std.proofs.lemmas.List.Folds.{list_any_none}
 use Rattle.std.proofs.lemmas.Option.{get_or_from_slice_get, slice_get_within}
 use Rattle.ec_lists.proofs.Finds.{find-none}
@@ -50,9 +50,6 @@ module _ (key : ℕ) (place : ℕ → Ordering) where
   neither : (a b : Bool) → a ≡ false → b ≡ false → (a || b) ≡ false
   neither a b first second = grind arith
 
-  second_false : (a b : Bool) → (a || b) ≡ false → b ≡ false
-  second_false a b none = grind arith
-
   -- behind a slot that is not there none is
   none-behind : (slots : List KeyedSlot) (i : ℕ) (member : KeyedSlot) → IsInOrder key place slots → IsCut slots i → i < length slots → get_or slots i member ≡ member →
       is_there key place member ≡ false → (j : ℕ) (d : KeyedSlot) → j < length slots → is_there key place (get_or slots j d) ≡ false
@@ -61,7 +58,7 @@ module _ (key : ℕ) (place : ℕ → Ordering) where
       (λ less. apart (get_or slots j d) (cut.0 j d (omega arith) (omega arith)))
       (λ more. ⊎_elim
       (λ e. absurd (true≢false (sym (order.up_to i j d (omega arith) within e) ∙ here)))
-      (λ e. second_false (is_in_front key place (get_or slots j d)) (is_there key place (get_or slots j d)) e)
+      (λ e. (or_parts (is_in_front key place (get_or slots j d)) (is_there key place (get_or slots j d)) e).1)
       (cases_Bool (is_in_front key place (get_or slots j d) || is_there key place (get_or slots j d))))
       (cases_lt j i)
     where

@@ -3,7 +3,7 @@ use Rattle.std.proofs.Common.{◌≡◌, ℕ, zero, suc, true, false, cond, not,
 use Rattle.std.specs.Prelude.{option_map, ◌==◌, if◌then◌else◌}
 use Rattle.std.specs.List.{list_all, insert, remove}
 use Rattle.std.specs.Ordering.{is_lt}
-use Rattle.std.proofs.lemmas.Bool.{cases_Bool, false≢true}
+use Rattle.std.proofs.lemmas.Bool.{cases_Bool, false≢true, eqb-true}
 use Rattle.ec_terms.specs.declared.ground.Ground.{Ground}
 use Rattle.ec_terms.specs.declared.ids.PropId.{PropId}
 use Rattle.ec_terms.specs.Term.{term_cmp, term_eq}
@@ -12,11 +12,11 @@ use Rattle.ec_rows.proofs.OrderedLemmas.{ascending-first, ascending-rest, is_asc
 use Rattle.ec_store.specs.Table.{KeptProp, prop_at, term_at, prop_of, prop_before, is_in_order, unmentioned, with_prop, without_prop, mentioned, with_mentions, kept_as, number_of, kept_of, IsTable}
 use Rattle.ec_store.specs.declared.property.Property.{Property}
 use Rattle.ec_store.proofs.HeldLemmas.{map-insert, map-remove}
-use Rattle.ec_store.proofs.PropLemmas.{same_number, itself, by_term, prop_at-insert, prop_at-without, prop_at-with_mentions, term_at-with_mentions, in_order-with_mentions, prop_of-insert, prop_of-remove, prop_of-with_mentions, numbers-with_mentions}
+use Rattle.ec_store.proofs.PropLemmas.{by_term, prop_at-insert, prop_at-without, prop_at-with_mentions, term_at-with_mentions, in_order-with_mentions, prop_of-insert, prop_of-remove, prop_of-with_mentions, numbers-with_mentions}
 use Rattle.ec_store.proofs.TableLemmas.{property_of, AllHeld, AllHeld-kept_of, AllHeld-slice_get, kept_of-numbers, prop_of-kept}
 use Rattle.ec_lists.proofs.Filters.{filter-all}
 use Rattle.ec_lists.proofs.Tests.{list_all-slice_get}
-use Rattle.ec_lists.proofs.Numbers.{eqb-turned}
+use Rattle.ec_lists.proofs.Numbers.{eqb-turned, eqb-same}
 
 -- ---- properties that are held
 
@@ -38,7 +38,7 @@ other_number : (property_at : ℕ → Option Property) (k j : KeptProp) → prop
     prop_before k j ≡ true → (j.id == k.id) ≡ false
 other_number property_at k j here there before =
     ⊎_elim
-    (λ e. let both : Some (property_of k) ≡ Some (property_of j) = sym here ∙ ap property_at (sym (same_number j.id k.id e)) ∙ there in
+    (λ e. let both : Some (property_of k) ≡ Some (property_of j) = sym here ∙ ap property_at (sym (eqb-true j.id k.id e)) ∙ there in
     let same : property_of k ≡ property_of j = cc in
     let itself : prop_before k k ≡ true = ap (λ (r : Property). is_lt (term_cmp k.term r.term)) same ∙ before in
     absurd (false≢true (sym (by_term.one_way k k itself) ∙ itself)))
@@ -59,7 +59,7 @@ remove-without property_at (j ∷ js) zero k held ordered is =
     let same : j ≡ k = cc in
     subst (λ (x : KeptProp). js ≡ without_prop x.id (j ∷ js)) same
     (sym (filter-all (λ (x : KeptProp). not (x.id == j.id)) js (other_numbers property_at j js held.0 held.1 (ascending-first prop_before j js ordered)))
-    ∙ ap (λ b. cond (not b) (j ∷ without_prop j.id js) (without_prop j.id js)) (sym (itself j.id)))
+    ∙ ap (λ b. cond (not b) (j ∷ without_prop j.id js) (without_prop j.id js)) (sym (eqb-same j.id)))
 remove-without property_at (j ∷ js) (suc i) k held ordered is =
     let there = AllHeld-slice_get property_at js i k held.1 is in
     let before : prop_before j k ≡ true = list_all-slice_get (prop_before j) js i k (ascending-first prop_before j js ordered) is in
@@ -77,7 +77,7 @@ AllHeld-without property_at new p (k ∷ ks) held others =
     ⊎_elim
     (λ e. subst (λ b. AllHeld new (cond (not b) (k ∷ rest) rest)) (sym e) ih)
     (λ e. subst (λ b. AllHeld new (cond (not b) (k ∷ rest) rest)) (sym e)
-    (others k.id (λ is. false≢true (sym e ∙ ap (λ n. n == p) is ∙ itself p)) ∙ held.0, ih))
+    (others k.id (λ is. false≢true (sym e ∙ ap (λ n. n == p) is ∙ eqb-same p)) ∙ held.0, ih))
     (cases_Bool (k.id == p))
 
 -- the property of a number with another count
@@ -86,13 +86,13 @@ AllHeld-mentions : (property_at new : ℕ → Option Property) (p count : ℕ) (
 AllHeld-mentions property_at new p count property [] held is there others = tt
 AllHeld-mentions property_at new p count property (k ∷ ks) held is there others = (
   ⊎_elim
-      (λ e. let number : k.id ≡ p = same_number k.id p e in
+      (λ e. let number : k.id ≡ p = eqb-true k.id p e in
       let both : Some property ≡ Some (property_of k) = sym is ∙ ap property_at (sym number) ∙ held.0 in
       let same : property ≡ property_of k = cc in
       subst (λ b. new (if b then record k { mentions = count } else k).id ≡ Some (property_of (if b then record k { mentions = count } else k))) (sym e)
       (ap new number ∙ there ∙ ap (λ (r : Property). Some (with_count r)) same))
       (λ e. subst (λ b. new (if b then record k { mentions = count } else k).id ≡ Some (property_of (if b then record k { mentions = count } else k))) (sym e)
-      (others k.id (λ same. false≢true (sym e ∙ ap (λ n. n == p) same ∙ itself p)) ∙ held.0))
+      (others k.id (λ same. false≢true (sym e ∙ ap (λ n. n == p) same ∙ eqb-same p)) ∙ held.0))
       (cases_Bool (k.id == p)),
   AllHeld-mentions property_at new p count property ks held.1 is there others,
 )
@@ -125,11 +125,11 @@ module _ (property_at new_property : ℕ → Option Property) (order new : List 
     found-inserted : (id : ℕ) → cond (p.0 == id) (Some (unmentioned p.0 term)) (prop_at id (kept_of property_at order)) ≡ option_map (kept_as id) (new_property id)
     found-inserted id =
         ⊎_elim
-        (λ e. let same : p.0 ≡ id = same_number p.0 id e in
+        (λ e. let same : p.0 ≡ id = eqb-true p.0 id e in
         ap (λ b. cond b (Some (unmentioned p.0 term)) (prop_at id (kept_of property_at order))) e
         ∙ subst (λ n. Some (unmentioned p.0 term) ≡ option_map (kept_as n) (new_property n)) same (ap (option_map (kept_as p.0)) (sym there)))
         (λ e. ap (λ b. cond b (Some (unmentioned p.0 term)) (prop_at id (kept_of property_at order))) e ∙ table.found id
-        ∙ ap (option_map (kept_as id)) (sym (others id (λ same. false≢true (sym e ∙ ap (λ n. p.0 == n) same ∙ itself p.0)))))
+        ∙ ap (option_map (kept_as id)) (sym (others id (λ same. false≢true (sym e ∙ ap (λ n. p.0 == n) same ∙ eqb-same p.0)))))
         (cases_Bool (p.0 == id))
 
     pub IsTable-insert : IsTable new_property new
@@ -152,13 +152,13 @@ module _ (property_at new_property : ℕ → Option Property) (order new : List 
     prop_at-rest id other =
         ap (prop_at id) inserted ∙ prop_at-insert (unmentioned p.0 term) (kept_of property_at order) i id prop_at-free
         ∙ ap (λ b. cond b (Some (unmentioned p.0 term)) (prop_at id (kept_of property_at order)))
-        (⊎_elim (λ e. absurd (other (sym (same_number p.0 id e)))) (λ e. e) (cases_Bool (p.0 == id)))
+        (⊎_elim (λ e. absurd (other (sym (eqb-true p.0 id e)))) (λ e. e) (cases_Bool (p.0 == id)))
 
     pub prop_at-others : (id : ℕ) → is_some (prop_at id (kept_of property_at order)) ≡ true → prop_at id (kept_of new_property new) ≡ prop_at id (kept_of property_at order)
     prop_at-others id some =
         ap (prop_at id) inserted ∙ prop_at-insert (unmentioned p.0 term) (kept_of property_at order) i id prop_at-free
         ∙ ⊎_elim
-        (λ e. let same : p.0 ≡ id = same_number p.0 id e in
+        (λ e. let same : p.0 ≡ id = eqb-true p.0 id e in
         absurd (false≢true (sym (ap (λ n. is_some (prop_at n (kept_of property_at order))) (sym same) ∙ ap is_some prop_at-free) ∙ some)))
         (λ e. ap (λ b. cond b (Some (unmentioned p.0 term)) (prop_at id (kept_of property_at order))) e)
         (cases_Bool (p.0 == id))
@@ -190,9 +190,9 @@ module _ (property_at new_property : ℕ → Option Property) (order new : List 
     found-removed id =
         ⊎_elim
         (λ e. ap (λ b. cond b None (prop_at id (kept_of property_at order))) e
-        ∙ subst (λ n. None ≡ option_map (kept_as n) (new_property n)) (same_number p.0 id e) (ap (option_map (kept_as p.0)) (sym gone)))
+        ∙ subst (λ n. None ≡ option_map (kept_as n) (new_property n)) (eqb-true p.0 id e) (ap (option_map (kept_as p.0)) (sym gone)))
         (λ e. ap (λ b. cond b None (prop_at id (kept_of property_at order))) e ∙ table.found id
-        ∙ ap (option_map (kept_as id)) (sym (others id (λ is_it. false≢true (sym e ∙ ap (λ n. p.0 == n) is_it ∙ itself p.0)))))
+        ∙ ap (option_map (kept_as id)) (sym (others id (λ is_it. false≢true (sym e ∙ ap (λ n. p.0 == n) is_it ∙ eqb-same p.0)))))
         (cases_Bool (p.0 == id))
 
     pub IsTable-remove : IsTable new_property new
@@ -227,12 +227,12 @@ module _ (property_at new_property : ℕ → Option Property) (order new : List 
     found-mentioned id =
         ap (option_map (mentioned p.0 count)) (table.found id)
         ∙ ⊎_elim
-        (λ e. subst (λ n. option_map (mentioned p.0 count) (option_map (kept_as n) (property_at n)) ≡ option_map (kept_as n) (new_property n)) (sym (same_number id p.0 e))
+        (λ e. subst (λ n. option_map (mentioned p.0 count) (option_map (kept_as n) (property_at n)) ≡ option_map (kept_as n) (new_property n)) (sym (eqb-true id p.0 e))
         (ap (λ o. option_map (mentioned p.0 count) (option_map (kept_as p.0) o)) was
-        ∙ ap (λ b. Some (if b then record (kept_as p.0 property) { mentions = count } else kept_as p.0 property)) (itself p.0)
+        ∙ ap (λ b. Some (if b then record (kept_as p.0 property) { mentions = count } else kept_as p.0 property)) (eqb-same p.0)
         ∙ ap (option_map (kept_as p.0)) (sym there)))
         (λ e. other-mentioned id (property_at id) e
-        ∙ ap (option_map (kept_as id)) (sym (others id (λ same. false≢true (sym e ∙ ap (λ n. n == p.0) same ∙ itself p.0)))))
+        ∙ ap (option_map (kept_as id)) (sym (others id (λ same. false≢true (sym e ∙ ap (λ n. n == p.0) same ∙ eqb-same p.0)))))
         (cases_Bool (id == p.0))
 
     pub IsTable-mentions : IsTable new_property new

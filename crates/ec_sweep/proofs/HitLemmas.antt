@@ -3,10 +3,11 @@ use Rattle.std.proofs.Common.{◌≡◌, ◌≢◌, ℕ, ℤ, ◌+◌, ◌<◌, 
 use Rattle.std.specs.Prelude.{◌==◌, option_map, option_and_then, slice_get, unwrap_or}
 use Rattle.std.specs.Bool.{beq}
 use Rattle.std.specs.Option.{option_map_or, option_to_list}
-use Rattle.std.proofs.lemmas.Bool.{cases_Bool, cond-true, cond-false, eqb-true, false≢true}
+use Rattle.std.proofs.lemmas.Bool.{cases_Bool, cond-true, cond-false, eqb-true, false≢true, or_parts}
 use Rattle.std.proofs.lemmas.List.{take_more}
 use Rattle.std.proofs.lemmas.List.Folds.{list_any-append}
 use Rattle.std.proofs.lemmas.Option.{none-some, get_or_from_slice_get, slice_get_within}
+use Rattle.ec_lists.proofs.Numbers.{eqb-same}
 use Rattle.ec_terms.specs.declared.ids.Slot.{Slot}
 use Rattle.ec_numbered.specs.ByNumber.{kept_at}
 use Rattle.ec_context.specs.declared.entry.Entry.{Entry}
@@ -124,12 +125,9 @@ module _ {T : Type 0} (current : NumberCurrency) (t : ℤ) (slots : Slots T) whe
       other : (slot k : ℕ) → (hit.slot.0 == slot) ≡ false
           → is_bit_set (word_found slots new slot) k ≡ cond (is_hit slot k hit || false) (acts_at current t slots (record { slot = record { 0 = slot }; place = k })) (is_bit_set (word_found slots old slot) k)
       other slot k apart =
-          ap (λ o. is_bit_set (unwrap_or o (active_of (kept_at slot slots))) k) (others slot (λ same. false≢true (sym apart ∙ ap (λ n. hit.slot.0 == n) (sym same) ∙ alike hit.slot.0)))
+          ap (λ o. is_bit_set (unwrap_or o (active_of (kept_at slot slots))) k) (others slot (λ same. false≢true (sym apart ∙ ap (λ n. hit.slot.0 == n) (sym same) ∙ eqb-same hit.slot.0)))
           ∙ sym (cond-false (is_hit slot k hit || false) _ _ (fails (hit.slot.0 == slot) (hit.place == k) apart))
         where
-          alike : (n : ℕ) → (n == n) ≡ true
-          alike n = grind arith
-
           fails : (a b : Bool) → a ≡ false → ((a && b) || false) ≡ false
           fails a b none = grind arith
 
@@ -145,18 +143,12 @@ module _ {T : Type 0} (current : NumberCurrency) (t : ℤ) (slots : Slots T) whe
         ∙ either (has_hit slot k hits) (has_hit slot k (hit ∷ [])) _ _
         ∙ ap (λ b. cond b (acts_at current t slots (record { slot = record { 0 = slot }; place = k })) (is_bit_set (word_found slots first slot) k)) (sym (list_any-append (is_hit slot k) hits (hit ∷ [])));
     others = λ slot none.
-        let both : (has_hit_in slot hits || has_hit_in slot (hit ∷ [])) ≡ false = sym (list_any-append (λ (h : Hit). h.slot.0 == slot) hits (hit ∷ [])) ∙ none in
-        after.others slot (right _ _ both) ∙ before.others slot (left _ _ both);
+        let parts = or_parts (has_hit_in slot hits) (has_hit_in slot (hit ∷ [])) (sym (list_any-append (λ (h : Hit). h.slot.0 == slot) hits (hit ∷ [])) ∙ none) in
+        after.others slot parts.1 ∙ before.others slot parts.0;
   }
     where
       either : (a b x y : Bool) → cond b x (cond a x y) ≡ cond (a || b) x y
       either a b x y = grind arith
-
-      left : (a b : Bool) → (a || b) ≡ false → a ≡ false
-      left a b none = grind arith
-
-      right : (a b : Bool) → (a || b) ≡ false → b ≡ false
-      right a b none = grind arith
 
   -- so they do of the first hits with the next
   pub WordsHit-next : (hits : List Hit) (i : ℕ) (hit : Hit) (first second third : List (ℕ × ℕ)) → slice_get hits i ≡ Some hit

@@ -1,15 +1,15 @@
 -- The changes of one property among those of all.
 use Rattle.std.proofs.Common.{◌≡◌, ℕ, ◌+◌, ℤ, Bool, true, false, ◌&&◌, List, [], ◌∷◌, ◌++◌, length, filter, Option, Some, None, IsTrue, refl, sym, ap, ◌∙◌, arith}
-use Rattle.std.specs.Prelude.{◌==◌, ◌||◌, find, is_some, if◌then◌else◌}
+use Rattle.std.specs.Prelude.{◌==◌, ◌||◌, find, if◌then◌else◌}
 use Rattle.std.specs.List.{list_any}
 use Rattle.std.specs.Option.{option_or}
 use Rattle.std.specs.Ordering.{int_eq}
-use Rattle.std.proofs.lemmas.Bool.{false≢true}
 use Rattle.std.proofs.lemmas.List.Folds.{list_any-append, find-append}
 use Rattle.std.proofs.lemmas.List.{length_push}
 use Rattle.ec_lists.proofs.Filters.{filter-filter, length-filter_le}
 use Rattle.ec_lists.proofs.Integers.{int_eq-same}
 use Rattle.ec_lists.proofs.Finds.{find-filter, is_some-find}
+use Rattle.ec_lists.proofs.Options.{None-from_is_some}
 use Rattle.ec_lists.proofs.Tests.{list_any-filter}
 use Rattle.ec_points.specs.Changes.{Change as MarkChange, change_at, count_of, growth_of, has_change, is_new}
 use Rattle.ec_rows.specs.declared.mark.Mark.{Mark}
@@ -60,11 +60,7 @@ has_change-same rank n t changes more same =
 
 -- where a property has no change at a time, it has none there
 pub change_at-none : {T : Type 0} (rank : T → ℤ) (n : ℕ) (t : ℤ) (changes : List (MarkChange T)) → has_change rank n t changes ≡ false → change_at rank n t changes ≡ None
-change_at-none rank n t changes none = none_of (change_at rank n t changes) (is_some-find (λ (c : MarkChange _). c.0.0 == n && int_eq (rank c.1.at) t) changes ∙ none)
-  where
-    none_of : {X : Type 0} (o : Option X) → is_some o ≡ false → o ≡ None
-    none_of None is = refl
-    none_of (Some x) is = absurd (false≢true (sym is))
+change_at-none rank n t changes none = None-from_is_some (change_at rank n t changes) (is_some-find (λ (c : MarkChange _). c.0.0 == n && int_eq (rank c.1.at) t) changes ∙ none)
 
 module _ {T : Type 0} (rank : T → ℤ) (n : ℕ) (so : Bool) (change : MarkChange T) (changes more : List (MarkChange T))
     (with_it : own_changes n more ≡ with_if so change (own_changes n changes)) where

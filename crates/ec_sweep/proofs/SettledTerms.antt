@@ -9,6 +9,7 @@ use Rattle.std.proofs.lemmas.Bool.Decides.{nat_tests}
 use Rattle.std.proofs.lemmas.List.Elements.{All-contains, All-contains_itself, All-weaker}
 use Rattle.std.proofs.lemmas.Option.{none-some}
 use Rattle.std.proofs.lemmas.Int.{by_lt_z, ints}
+use Rattle.std.proofs.Math.Bool.{or-false}
 use Rattle.ec_lists.proofs.Integers.{int_eq-is, int_eq-same}
 use Rattle.ec_lists.proofs.Finds.{is_some-find}
 use Rattle.ec_lists.proofs.Options.{None-from_is_some}
@@ -91,10 +92,7 @@ matters-touched : {T : Type 0} (so : Bool) (touch : Touch T) (touched : Option (
 matters-touched true touch None = refl
 matters-touched true touch (Some touched) = refl
 matters-touched false touch None = refl
-matters-touched false touch (Some touched) = or_false touched.matters
-  where
-    or_false : (b : Bool) → b ≡ (b || false)
-    or_false b = grind arith
+matters-touched false touch (Some touched) = sym (or-false touched.matters)
 
 module _ {T : Type 0} (rank : T → ℤ) (theory : Theory) (new : List PlainEvent) (view : View T) (parts : PartsTally) (change : Change T) (r : ℤ) (at : T)
     (dirty : DirtyRows) (agenda later : List (Due T)) (due : List PropId) (turns : List Turn) (plains : List PlainTurn) (was_looked : Looked) (planned : Planned T) (was_active : Effect → Bool)

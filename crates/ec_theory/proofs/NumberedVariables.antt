@@ -7,6 +7,7 @@ use Rattle.std.proofs.lemmas.List.Elements.{All-nil, All-cons}
 use Rattle.std.proofs.lemmas.List.Folds.{list_any-append}
 use Rattle.std.proofs.lemmas.Slice.Eq.{bytes_eq-Decides}
 use Rattle.std.proofs.Math.Bool.{or_assoc, or-false, or-true}
+use Rattle.ec_lists.proofs.Booleans.{or_left_comm}
 use Rattle.ec_terms.specs.declared.pattern.PatArg.{PatArg}
 use Rattle.ec_terms.specs.declared.pattern.PatArg.TheVariants.{Var, Any, Fixed}
 use Rattle.ec_terms.specs.declared.ground.Arg.TheVariants.{Int, Word as Named}
@@ -28,13 +29,6 @@ use Rattle.ec_theory.specs.declared.sign.Symbol.{Symbol}
 use Rattle.ec_theory.specs.declared.sign.Symbol.TheVariants.{If, Not, Anything, Open, Close, Comma, Dot, Slash}
 use Rattle.ec_theory.specs.Sign.{Sign, Word, Variable, Number, Given, Compare, argument_of, is_given, with_variable, with_sign, variables_from, variables_of, number_of}
 use Rattle.ec_theory.specs.Grammar.{TakesArguments, last, more, TakesPattern, alone, applied, TakesCondition, current, not_current, test, TakesConditions, final, further, TakesBody, empty, conditions, tests_of, literals_of, TakesClause, rule, exclusive, strong, initially, ReadsFrom, no_more, one_more, with_clause}
-
--- ---- truth values
-or-swap : (a b c : Bool) → (a || (b || c)) ≡ (b || (a || c))
-or-swap true true c = refl
-or-swap true false c = refl
-or-swap false true c = refl
-or-swap false false c = refl
 
 -- ---- the variables up to the next dot
 
@@ -120,7 +114,7 @@ module _ (names : List (List ℕ)) (q : ℕ) where
       let tests = list_any (stands_at q) (flat_map (λ (t : Test). t.left ∷ t.right ∷ []) (tests_of cs)) in
       let later = flat_map (λ (l : Literal). l.prop.args) (literals_of cs) in
       ap (λ b. list_any (stands_at q) l.prop.args || b) (conditions_places cs)
-      ∙ or-swap (list_any (stands_at q) l.prop.args) tests (list_any (stands_at q) later)
+      ∙ or_left_comm (list_any (stands_at q) l.prop.args) tests (list_any (stands_at q) later)
       ∙ ap (λ b. tests || b) (sym (list_any-append (stands_at q) l.prop.args later))
 
 -- the places of a clause

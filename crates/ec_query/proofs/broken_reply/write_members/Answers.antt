@@ -1,6 +1,7 @@
 -- Each begin that is found is the first of those that are left.
 use Rattle.std.proofs.Common.{◌++◌, length, option_map, None, Some, sym, ap, ◌∙◌, arith}
 use Rattle.std.proofs.lemmas.Grind.{common_steps}
+use Rattle.ec_lists.proofs.Results.{OnErr-anyway}
 use Rattle.ec_axioms.specs.Marks.{broken_spans_of}
 use Rattle.ec_axioms.specs.QueryTexts.{broken_text}
 use Rattle.ec_rows.specs.PlainMarks.{plain_marks}
@@ -8,7 +9,7 @@ use Rattle.ec_intervals.specs.Table.{plain_begin, plain_broken}
 use Rattle.ec_query.specs.Members.{members_text}
 use Rattle.ec_query.proofs.BrokenLemmas.{left_behind, left_behind-all, left_behind-next, left_behind-none}
 use Rattle.ec_query.proofs.NextOfOrder.{fewer_left}
-use Rattle.ec_query.proofs.WritingLemmas.{IsLeft-start, IsLeft-next, IsLeft-part, IsLeft-end, OnErr-anyway}
+use Rattle.ec_query.proofs.WritingLemmas.{IsLeft-start, IsLeft-next, IsLeft-part, IsLeft-end}
 use Rattle.ec_query.proofs.broken_reply.write_members.Goals as goal
 
 pub loop-found-init : goal.loop-found-init

@@ -1,9 +1,10 @@
 -- Each clash that is found is the first of those that are left.
 use Rattle.std.proofs.Common.{◌++◌, None, Some, refl, sym, ap, ◌∙◌, arith}
 use Rattle.std.proofs.lemmas.Grind.{common_steps}
+use Rattle.ec_lists.proofs.Results.{OnErr-anyway}
 use Rattle.ec_query.specs.Members.{members_text}
 use Rattle.ec_query.proofs.ClashSearch.{left_behind, left_behind-all, left_behind-next, left_behind-none, fewer_behind}
-use Rattle.ec_query.proofs.WritingLemmas.{IsLeft-start, IsLeft-next, IsLeft-part, IsLeft-end, OnErr-anyway}
+use Rattle.ec_query.proofs.WritingLemmas.{IsLeft-start, IsLeft-next, IsLeft-part, IsLeft-end}
 use Rattle.ec_query.proofs.clash_reply.write_members.Goals as goal
 
 pub loop-at-init : goal.loop-at-init

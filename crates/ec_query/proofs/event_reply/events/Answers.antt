@@ -2,13 +2,14 @@
 use Rattle.std.proofs.Common.{◌+◌, ◌++◌, drop, length, map, refl, sym, ap, ap₂, subst, ◌∙◌, arith}
 use Rattle.std.proofs.lemmas.Grind.{common_steps}
 use Rattle.std.specs.Prelude.{decimal}
+use Rattle.ec_lists.proofs.Results.{OnErr-anyway}
 use Rattle.ec_outside.specs.Streams.{Appended}
 use Rattle.ec_axioms.specs.QueryTexts.{counted_text, event_text}
 use Rattle.ec_store.specs.Store.{history_of, plain_of}
 use Rattle.ec_query.specs.Members.{members_text, kept_text}
 use Rattle.ec_query.proofs.EventLemmas.{events_reply-of}
 use Rattle.ec_query.proofs.KeptWalks.{IsNext, next-found, next-none, next-read, next_leaves, next_within, read_places, read_places_within}
-use Rattle.ec_query.proofs.WritingLemmas.{IsLeft-start, IsLeft-next, IsLeft-part, IsLeft-end, OnErr-anyway, OnErr-renamed, OnErr-rose, counted_text-map, members_text-next, members_text-end}
+use Rattle.ec_query.proofs.WritingLemmas.{IsLeft-start, IsLeft-next, IsLeft-part, IsLeft-end, OnErr-renamed, OnErr-rose, counted_text-map, members_text-next, members_text-end}
 use Rattle.ec_query.proofs.event_reply.events.Goals as goal
 
 pub returns-in_err-write_count-clause-part : goal.returns-in_err-write_count-clause-part

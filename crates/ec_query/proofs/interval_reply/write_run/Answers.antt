@@ -2,8 +2,9 @@
 use Rattle.std.proofs.Common.{◌+◌, ◌++◌, length, drop, refl, sym, ap, ◌∙◌, arith}
 use Rattle.std.proofs.lemmas.Grind.{common_steps}
 use Rattle.std.proofs.lemmas.Option.{slice_get_read}
+use Rattle.ec_lists.proofs.Results.{OnErr-anyway}
 use Rattle.ec_query.specs.Members.{members_text, span_text}
-use Rattle.ec_query.proofs.WritingLemmas.{IsLeft-next, IsLeft-part, OnErr-anyway, members_text-next}
+use Rattle.ec_query.proofs.WritingLemmas.{IsLeft-next, IsLeft-part, members_text-next}
 use Rattle.ec_query.proofs.interval_reply.write_run.Goals as goal
 
 pub returns-in_err-write_all-clause-part : goal.returns-in_err-write_all-clause-part

@@ -1,8 +1,9 @@
 -- Each run is the next of what is left.
 use Rattle.std.proofs.Common.{◌+◌, length, drop, arith}
 use Rattle.std.proofs.lemmas.Grind.{common_steps}
+use Rattle.ec_lists.proofs.Results.{OnErr-anyway}
 use Rattle.ec_query.specs.Members.{members_text, span_text}
-use Rattle.ec_query.proofs.WritingLemmas.{IsLeft-next, IsLeft-part, OnErr-anyway, members_text-run}
+use Rattle.ec_query.proofs.WritingLemmas.{IsLeft-next, IsLeft-part, members_text-run}
 use Rattle.ec_query.proofs.interval_reply.write_spans.Goals as goal
 
 pub returns-in_err-write_run-clause-part : goal.returns-in_err-write_run-clause-part

@@ -2,11 +2,12 @@
 use Rattle.std.proofs.Common.{◌++◌, length, map, refl, sym, ap, ◌∙◌, arith}
 use Rattle.std.proofs.lemmas.Grind.{common_steps}
 use Rattle.std.specs.Prelude.{decimal}
+use Rattle.ec_lists.proofs.Results.{OnErr-anyway}
 use Rattle.ec_store.specs.Table.{number_of}
 use Rattle.ec_query.specs.Holding.{held_numbers, number_text}
 use Rattle.ec_query.specs.Members.{members_text}
 use Rattle.ec_query.proofs.HoldingLemmas.{at_reply-held}
-use Rattle.ec_query.proofs.WritingLemmas.{IsLeft-start, IsLeft-next, IsLeft-part, IsLeft-last, IsLeft-last_part, OnErr-anyway, OnErr-renamed, OnOk-renamed}
+use Rattle.ec_query.proofs.WritingLemmas.{IsLeft-start, IsLeft-next, IsLeft-part, IsLeft-last, IsLeft-last_part, OnErr-renamed, OnOk-renamed}
 use Rattle.ec_query.proofs.property_reply.at.Goals as goal
 
 pub returns-in_err-write_count-clause-part : goal.returns-in_err-write_count-clause-part

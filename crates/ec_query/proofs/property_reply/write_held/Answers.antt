@@ -1,13 +1,14 @@
 -- Each run is the next of what is left.
 use Rattle.std.proofs.Common.{◌+◌, drop, length, map, ap, ◌∙◌, arith}
 use Rattle.std.proofs.lemmas.Grind.{common_steps}
+use Rattle.ec_lists.proofs.Results.{OnErr-anyway}
 use Rattle.ec_axioms.specs.Timeline.{is_held_at}
 use Rattle.ec_intervals.specs.Table.{members_at, plain_intervals}
 use Rattle.ec_store.specs.Table.{number_of}
 use Rattle.ec_query.specs.Holding.{held_numbers, number_text}
 use Rattle.ec_query.specs.Members.{members_text}
 use Rattle.ec_query.proofs.HoldingLemmas.{filter-next_run}
-use Rattle.ec_query.proofs.WritingLemmas.{IsLeft-next, IsLeft-part, OnErr-anyway, members_text-append}
+use Rattle.ec_query.proofs.WritingLemmas.{IsLeft-next, IsLeft-part, members_text-append}
 use Rattle.ec_query.proofs.property_reply.write_held.Goals as goal
 
 pub returns-in_err-write_run-clause-part : goal.returns-in_err-write_run-clause-part

@@ -2,10 +2,11 @@
 use Rattle.std.proofs.Common.{◌+◌, ◌∷◌, [], ◌++◌, drop, get_or, ap, sym, ◌∙◌, append-nil, arith}
 use Rattle.std.proofs.lemmas.Grind.{common_steps}
 use Rattle.std.proofs.lemmas.Option.{slice_get-get_or}
+use Rattle.ec_lists.proofs.Results.{OnErr-anyway}
 use Rattle.ec_terms.specs.declared.ids.PropId.{PropId}
 use Rattle.ec_query.specs.Holding.{number_text}
 use Rattle.ec_query.specs.Members.{members_text}
-use Rattle.ec_query.proofs.WritingLemmas.{IsLeft-next, IsLeft-part, OnErr-anyway, members_text-next}
+use Rattle.ec_query.proofs.WritingLemmas.{IsLeft-next, IsLeft-part, members_text-next}
 use Rattle.ec_query.proofs.property_reply.write_members.Goals as goal
 
 pub returns-in_err-write_member-clause-part : goal.returns-in_err-write_member-clause-part

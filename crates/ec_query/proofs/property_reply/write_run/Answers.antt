@@ -2,13 +2,14 @@
 use Rattle.std.proofs.Common.{◌+◌, ◌∷◌, [], drop, get_or, ap, ◌∙◌, arith}
 use Rattle.std.proofs.lemmas.Grind.{common_steps}
 use Rattle.std.proofs.lemmas.Option.{slice_get-get_or}
+use Rattle.ec_lists.proofs.Results.{OnErr-anyway}
 use Rattle.ec_terms.specs.declared.ids.PropId.{PropId}
 use Rattle.ec_axioms.specs.Timeline.{is_held_at}
 use Rattle.ec_intervals.specs.Table.{members_at, plain_intervals}
 use Rattle.ec_query.specs.Holding.{held_numbers, number_text}
 use Rattle.ec_query.specs.Members.{members_text}
 use Rattle.ec_query.proofs.HoldingLemmas.{filter-next_place}
-use Rattle.ec_query.proofs.WritingLemmas.{IsLeft-next, IsLeft-part, OnErr-anyway, members_text-append}
+use Rattle.ec_query.proofs.WritingLemmas.{IsLeft-next, IsLeft-part, members_text-append}
 use Rattle.ec_query.proofs.property_reply.write_run.Goals as goal
 
 pub returns-in_err-write_one-clause-part : goal.returns-in_err-write_one-clause-part

@@ -2,10 +2,11 @@
 use Rattle.std.proofs.Common.{sym, ap, ◌∙◌, subst, arith}
 use Rattle.std.proofs.lemmas.Grind.{common_steps}
 use Rattle.std.specs.Prelude.{IfSome}
+use Rattle.ec_lists.proofs.Options.{IfSome-weaker}
 use Rattle.ec_axioms.specs.Timeline.{is_held_at}
 use Rattle.ec_intervals.specs.Table.{front_at, front_members, members_at, plain_end, plain_intervals, spans_at, plain_spans}
 use Rattle.ec_query.specs.Stretches.{IsEndOver}
-use Rattle.ec_query.proofs.SpanLemmas.{IfSome-weaker, IfNone-weaker, over-front, over-later, held-parts}
+use Rattle.ec_query.proofs.SpanLemmas.{IfNone-weaker, over-front, over-later, held-parts}
 use Rattle.ec_query.proofs.stretches.end_over.Goals as goal
 
 pub returns-then-front_covers-clause-some : goal.returns-then-front_covers-clause-some

@@ -1,17 +1,14 @@
 -- One property more is in the tally.
-use Rattle.std.proofs.Common.{◌≡◌, Bool, ◌||◌, get_or, take, sym, ap, subst, ◌∙◌, arith}
+use Rattle.std.proofs.Common.{◌||◌, get_or, take, sym, ap, subst, ◌∙◌, arith}
 use Rattle.std.specs.Prelude.{◌==◌}
 use Rattle.std.specs.List.{list_any}
 use Rattle.std.proofs.lemmas.Grind.{common_steps}
+use Rattle.ec_lists.proofs.Booleans.{or_turned}
 use Rattle.ec_terms.specs.declared.ids.PropId.{PropId}
 use Rattle.ec_numbered.specs.PropSet.{has_number}
 use Rattle.ec_exclusive.proofs.InTurn.{has_number-more}
 use Rattle.ec_revise.specs.TurnCounts.{IsTallyAt, counts_at}
 use Rattle.ec_sweep.proofs.settle_rows.tally_of.Goals as goal
-
--- one property more, in front or behind
-one_more : (now before other : Bool) → (now || (before || other)) ≡ ((before || now) || other)
-one_more now before other = grind arith
 
 pub returns-clause-rows : goal.returns-clause-rows
 returns-clause-rows c = grind (arith, common_steps)
@@ -28,6 +25,6 @@ loop-p-preserved c =
       rows = λ q.
           c.in_ok-note.ensures.rows q
           ∙ ap (λ b. (p.0 == q.0) || b) (c.loop-p.invariant.rows q)
-          ∙ one_more (p.0 == q.0) (has_number q.0 (take c.loop-p.p-index c.args.due.now)) (list_any (counts_at c.args.neighbours.now.rows q) c.args.turns.now)
+          ∙ or_turned (p.0 == q.0) (has_number q.0 (take c.loop-p.p-index c.args.due.now)) (list_any (counts_at c.args.neighbours.now.rows q) c.args.turns.now)
           ∙ ap (λ b. b || list_any (counts_at c.args.neighbours.now.rows q) c.args.turns.now) (sym (has_number-more q c.args.due.now c.loop-p.p-index none c.loop-p-test.true));
     }

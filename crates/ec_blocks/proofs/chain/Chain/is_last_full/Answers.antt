@@ -1,21 +1,19 @@
 -- The last block is full, or has fewer.
-use Rattle.std.proofs.Common.{◌≡◌, ℕ, ◌-◌, ◌<◌, ◌≤◌, true, false, length, sym, ap, ◌∙◌, arith}
+use Rattle.std.proofs.Common.{◌≡◌, ℕ, ◌-◌, ◌<◌, ◌≤◌, false, length, sym, ap, ◌∙◌, arith}
 use Rattle.std.proofs.lemmas.Grind.{common_steps}
 use Rattle.std.specs.Prelude.{◌==◌}
+use Rattle.std.proofs.lemmas.Bool.{eqb-true}
 use Rattle.std.proofs.lemmas.Bool.Decides.{nat_tests}
 use Rattle.ec_blocks.specs.Chain.{block_at}
 use Rattle.ec_blocks.proofs.ChainLemmas.{is_block-most}
 use Rattle.ec_blocks.proofs.chain.Chain.is_last_full.Goals as goal
-
-equal : (m n : ℕ) → (m == n) ≡ true → m ≡ n
-equal m n test = grind (arith, nat_tests)
 
 less : (m n : ℕ) → (m == n) ≡ false → m ≤ n → m < n
 less m n test most = grind (arith, nat_tests)
 
 pub returns-clause-full : goal.returns-clause-full
 returns-clause-full g c is_full k last =
-    ap (λ n. length (block_at n c.args.self.now.blocks)) (omega arith) ∙ ap length (sym c.block.ensures.block) ∙ equal (length c.block.result.now) 128 is_full
+    ap (λ n. length (block_at n c.args.self.now.blocks)) (omega arith) ∙ ap length (sym c.block.ensures.block) ∙ eqb-true (length c.block.result.now) 128 is_full
 
 pub returns-clause-free : goal.returns-clause-free
 returns-clause-free g c not_full =

@@ -2,7 +2,8 @@
 -- stands in the groups of its keys.
 use Rattle.std.proofs.Common.{◌≡◌, ◌&&◌, ◌||◌, Some, filter, sym, ap, subst, IsTrue, ◌∙◌, arith}
 use Rattle.std.proofs.lemmas.Grind.{common_steps}
-use Rattle.std.specs.Prelude.{◌==◌, option_map, Result, Ok, Err, OnErr}
+use Rattle.std.specs.Prelude.{◌==◌, option_map}
+use Rattle.ec_lists.proofs.Results.{OnErr-anyway}
 use Rattle.ec_terms.specs.declared.ids.PropId.{PropId}
 use Rattle.ec_terms.specs.Term.{ground_of}
 use Rattle.ec_numbered.specs.PropSet.{has_number}
@@ -17,11 +18,6 @@ use Rattle.ec_exclusive.proofs.Grouped.{in_group-absent, in_group-kept, own-foun
 use Rattle.ec_exclusive.proofs.NewRow.{added-own, added_props-with, AreMutual-with, AreNeighbours-with}
 use Rattle.ec_exclusive.proofs.neighbours.Neighbours.add.Goals as goal
 use Rattle.ec_exclusive.proofs.neighbours.Neighbours.add.Goals.{After-as_slice, After-add_row}
-
--- what holds in any case holds after an error
-on_err : {A E P : Type 0} (r : Result A E) → P → OnErr r P
-on_err (Ok x) holds = tt
-on_err (Err e) holds = holds
 
 pub find_neighbours-requires-clause-kept : goal.find_neighbours-requires-clause-kept
 find_neighbours-requires-clause-kept c =
@@ -47,17 +43,17 @@ with_own c q = c.add_row.ensures q ∙ ap (list_with c.args.p c.in_ok-neighbours
 
 pub returns-in_err-place-clause-err : goal.returns-in_err-place-clause-err
 returns-in_err-place-clause-err c =
-    on_err c.from_residual-in_err-place.result
+    OnErr-anyway c.from_residual-in_err-place.result
     (view-same c.self.inside.rows c.make_room.new.rows c.self.inside.forms c.place.new.self c.in_ok-make_room.ensures.same c.place.ensures.same ∙ c.self.view_is)
 
 pub returns-in_err-form-clause-err : goal.returns-in_err-form-clause-err
 returns-in_err-form-clause-err c =
-    on_err c.from_residual-in_err-form.result
+    OnErr-anyway c.from_residual-in_err-form.result
     (view-same c.self.inside.rows c.make_room.new.rows c.self.inside.forms c.place.new.self c.in_ok-make_room.ensures.same c.place.ensures.same ∙ c.self.view_is)
 
 pub returns-in_err-enter-clause-err : goal.returns-in_err-enter-clause-err
 returns-in_err-enter-clause-err c =
-    on_err c.from_residual-in_err-enter.result
+    OnErr-anyway c.from_residual-in_err-enter.result
     (view-same c.self.inside.rows c.make_room.new.rows c.self.inside.forms c.place.new.self c.in_ok-make_room.ensures.same c.place.ensures.same ∙ c.self.view_is)
 
 pub returns-clause-added : goal.returns-clause-added

@@ -1,9 +1,9 @@
 -- What was written is a first part of the line.
 use Rattle.std.proofs.Common.{◌∷◌, []}
 use Rattle.std.proofs.lemmas.Result.{on_err_weaker}
+use Rattle.ec_lists.proofs.Results.{OnErr-anyway}
 use Rattle.ec_axioms.specs.Lines.{line_feed}
 use Rattle.ec_outside.proofs.Streams.{Appended-then, Appended-then-part, AppendedPart-longer}
-use Rattle.ec_sessions.proofs.Failures.{OnErr-anyway}
 use Rattle.ec_sessions.proofs.sessions.Sessions.write_line.Goals as goal
 
 pub returns-in_err-write_text-clause-part : goal.returns-in_err-write_text-clause-part

@@ -1,4 +1,4 @@
--- What is known of a failure.
+-- What is said of a result where it is an error.
 use Rattle.std.proofs.Common.{Result, Ok, Err, OnErr}
 
 -- what holds anyway
