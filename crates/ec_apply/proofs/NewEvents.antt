@@ -26,7 +26,7 @@ use Rattle.ec_changes.proofs.KeptEvents.{IsMember-from_has_event, SameEventsSame
 use Rattle.ec_rows.specs.Ordered.{is_ascending}
 use Rattle.ec_rows.proofs.OrderedLemmas.{ascending-first, ascending-rest, is_ascending-filter}
 use Rattle.ec_store.specs.Store.{Kept, Store, event_at, history_of, plain_of, slot_of}
-use Rattle.ec_store.proofs.EventLemmas.{has_id-slot_of}
+use Rattle.ec_store.proofs.EventLemmas.{has_id-slot_of, kept_under}
 use Rattle.ec_store.specs.Table.{KeptProp}
 use Rattle.ec_numbered.specs.ByNumber.{kept_at}
 use Rattle.ec_context.specs.Entries.{shown_entries}
@@ -42,7 +42,6 @@ use Rattle.ec_delta.specs.declared.flips.Flip.{Flip}
 use Rattle.ec_delta.specs.Looked.{active_found}
 use Rattle.ec_delta.specs.Ready.{AreBitsOf}
 use Rattle.ec_apply.specs.Events.{AreAligned, AreFresh, IsAdded, StaysOrIsAdded, are_slots_apart, with_flips, without_slots}
-use Rattle.ec_apply.proofs.TakenOut.{kept_under}
 
 -- ---- events of a history
 
@@ -307,9 +306,9 @@ module _ {T : Type 0} (rank : T → ℤ) (theory : Theory) (table : List KeptPro
               where
                 in_new : IsTrue (has_event new (event_of rank e))
                 in_new =
-                    let under = kept_under slot e store.events is_event in
+                    let under = kept_under store.events slot e is_event in
                     ap (λ (f : Event T). has_event new (event_of rank f)) (sym under.3) ∙ sym (left under.0 under.1)
-                    ∙ ap not (has_slot-number under.0.0 slot change.remove (eqb-true under.0.0.0 slot.0 under.2) ∙ stays)
+                    ∙ ap not (has_slot-number under.0.0 slot change.remove under.2 ∙ stays)
 
         -- the entries are those of the new list
         pub entries-new : AreEntriesOf rank theory new table store' entered'

@@ -15,9 +15,10 @@ use Rattle.ec_lists.proofs.Finds.{find-filter, find_agree}
 use Rattle.ec_terms.specs.declared.ids.Slot.{Slot}
 use Rattle.ec_axioms.specs.declared.event.Event.{Event}
 use Rattle.ec_axioms.specs.Changes.{is_history, has_id, comes_before}
-use Rattle.ec_axioms.proofs.Members.{IsMember, Contains-from_member, IsMember-map, filter_agree, find-Some, member-list_any}
+use Rattle.ec_axioms.proofs.Members.{IsMember, Contains-from_member, IsMember-map, filter_agree, member-list_any}
 use Rattle.ec_rows.specs.Ordered.{is_ascending}
 use Rattle.ec_store.specs.Store.{Kept, event_at, history_of, plain_of, without_kept}
+use Rattle.ec_store.proofs.EventLemmas.{kept_under}
 use Rattle.ec_numbered.specs.ByNumber.{kept_at}
 use Rattle.ec_revise.specs.declared.change.Removal.{Removal}
 use Rattle.ec_revise.specs.Change.{has_slot}
@@ -54,15 +55,6 @@ module _ {T : Type 0} where
       absurd (own_id rank h events k history later (ap (λ (i : Kept T). i.1.id) first ∙ sym same))
   same_kept rank (h ∷ events) k j history (inr left) (inr right) same = same_kept rank events k j (history-rest rank h events history) left right same
 
-  -- the event under a slot stands among the events
-  pub kept_under : (slot : Slot) (event : Event T) (events : List (Kept T)) → event_at slot events ≡ Some event → (k : Kept T) × IsMember events k × ((k.0.0 == slot.0) ≡ true) × (k.1 ≡ event)
-  kept_under slot event events found = by_find (find (λ (k : Kept T). k.0.0 == slot.0) events) refl found
-    where
-      by_find : (o : Option (Kept T)) → find (λ (k : Kept T). k.0.0 == slot.0) events ≡ o → option_map (λ (k : Kept T). k.1) o ≡ Some event
-          → (k : Kept T) × IsMember events k × ((k.0.0 == slot.0) ≡ true) × (k.1 ≡ event)
-      by_find None is there = cc
-      by_find (Some k) is there = let member = find-Some (λ (k : Kept T). k.0.0 == slot.0) events k is in let same : k.1 ≡ event = cc in (k, member.0, member.1, same)
-
   -- what is told of a slot is told of its number
   event_at-number : (slot other : Slot) (events : List (Kept T)) → slot.0 ≡ other.0 → event_at slot events ≡ event_at other events
   event_at-number slot other events same = ap (λ n. option_map (λ (k : Kept T). k.1) (find (λ (k : Kept T). k.0.0 == n) events)) same
@@ -82,9 +74,9 @@ module _ {T : Type 0} where
         (λ elsewhere.
         ⊎_elim
         (λ same.
-        let under = kept_under slot event events found in
+        let under = kept_under events slot event found in
         let one : k ≡ under.0 = same_kept rank events k under.0 history member under.1 ((bytes_eq-Decides k.1.id event.id).0 same ∙ ap (λ (e : Event T). e.id) (sym under.3)) in
-        let number : k.0.0 ≡ slot.0 = ap (λ (j : Kept T). j.0.0) one ∙ eqb-true under.0.0.0 slot.0 under.2 in
+        let number : k.0.0 ≡ slot.0 = ap (λ (j : Kept T). j.0.0) one ∙ under.2 in
         absurd (false≢true (sym elsewhere ∙ eq-eqb slot.0 k.0.0 (sym number))))
         (λ apart. apart ∙ sym elsewhere) (cases_Bool (bytes_eq k.1.id event.id)))
         (cases_Bool (slot.0 == k.0.0))

@@ -104,7 +104,7 @@ unfolding has_id
 filter_absent_id id q events none = list_any-filter_none (λ f. bytes_eq f.id id) q events none
 
 -- the three parts of a history
-history_parts : (e : PlainEvent) (events : List PlainEvent) → IsTrue (is_history (e ∷ events))
+pub history_parts : (e : PlainEvent) (events : List PlainEvent) → IsTrue (is_history (e ∷ events))
     → IsTrue (list_all (comes_before e) events) × IsFalse (has_id e.id events) × IsTrue (is_history events)
 unfolding is_history
 history_parts e events history =

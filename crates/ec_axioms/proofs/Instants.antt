@@ -9,6 +9,7 @@ use Rattle.ec_axioms.specs.Calculus.{PlainEvent, with_instant, instants_of}
 use Rattle.ec_axioms.specs.Changes.{comes_before, is_history}
 use Rattle.ec_lists.proofs.Integers.{int_lt-trans, int_le-same, int_le-from_lt, int_lt-from_le}
 use Rattle.ec_axioms.proofs.Members.{IsMember, IsMember-from_filter, IsPairwise, list_all-member, list_all-from_members}
+use Rattle.ec_axioms.proofs.Histories.{history_parts}
 
 -- each instant is before all that stand behind it
 abbrev pub is_ascending : List ℤ → Bool
@@ -89,19 +90,13 @@ pub int_le-comes_before : (e f : PlainEvent) → IsTrue (comes_before e f) → I
 unfolding comes_before
 int_le-comes_before e f before = grind (arith, ints)
 
--- the parts of the test of a history
-is_history-parts : (e : PlainEvent) (events : List PlainEvent) → IsTrue (is_history (e ∷ events))
-    → IsTrue (list_all (comes_before e) events) × IsTrue (is_history events)
-unfolding is_history
-is_history-parts e events history = (grind arith, grind arith)
-
 -- the instants of a history ascend
 pub is_ascending-instants_of : (events : List PlainEvent) → IsTrue (is_history events) → IsTrue (is_ascending (instants_of events))
 unfolding instants_of
 is_ascending-instants_of [] history = refl
 is_ascending-instants_of (e ∷ events) history =
-    let parts = is_history-parts e events history in
-    is_ascending-with_instant e.rank (instants_of events) (is_ascending-instants_of events parts.1)
+    let parts = history_parts e events history in
+    is_ascending-with_instant e.rank (instants_of events) (is_ascending-instants_of events parts.2)
     (λ u member.
     let found = IsMember-instants_of events u member in
     subst (λ t. IsTrue (int_le e.rank t)) found.2 (int_le-comes_before e found.0 (list_all-member (comes_before e) events found.0 parts.0 found.1)))

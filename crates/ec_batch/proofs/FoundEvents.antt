@@ -1,24 +1,16 @@
 -- What is found in a list of events by identity, once an event is put in or taken out.
-use Rattle.std.proofs.Common.{◌≡◌, ◌+◌, ℕ, Bool, true, false, not, cond, ◌&&◌, suc, List, [], ◌∷◌, length, Option, Some, None, is_some, IsTrue, IsFalse, refl, sym, ap, subst, ◌∙◌, ⊎_elim, arith}
+use Rattle.std.proofs.Common.{◌≡◌, ◌+◌, ℕ, Bool, true, false, not, cond, suc, List, [], ◌∷◌, length, Option, Some, None, is_some, IsTrue, IsFalse, refl, sym, ap, subst, ◌∙◌, ⊎_elim, arith}
 use Rattle.std.specs.Prelude.{bytes_eq}
-use Rattle.std.specs.List.{list_all}
-use Rattle.std.proofs.lemmas.Bool.{cases_Bool, and_parts, not-true, cond-true, cond-false, false≢true, false_from_ne_true}
+use Rattle.std.proofs.lemmas.Bool.{cases_Bool, cond-true, cond-false, false≢true, false_from_ne_true}
 use Rattle.std.proofs.lemmas.Slice.Eq.{bytes_eq-Decides}
 use Rattle.ec_lists.proofs.Finds.{is_some-find}
 use Rattle.ec_lists.proofs.Booleans.{cond_comm, or_second}
 use Rattle.ec_axioms.specs.Calculus.{PlainEvent}
 use Rattle.ec_axioms.specs.Changes.{has_id, comes_before, is_history, has_event, with_event, without_event}
-use Rattle.ec_axioms.proofs.Histories.{comes_before-trans, is_history-with_event, is_history-without_event, absent_parts}
+use Rattle.ec_axioms.proofs.Histories.{history_parts, comes_before-trans, is_history-with_event, is_history-without_event, absent_parts}
 use Rattle.ec_axioms.proofs.Members.{IsMember, find-Some, list_any-false}
 use Rattle.ec_changes.proofs.KeptEvents.{IsPairwise-from_history, comes_before-itself, same_from_members, has_event-member}
 use Rattle.ec_batch.specs.Walk.{event_with}
-
--- the parts of a history
-history_parts : (e : PlainEvent) (events : List PlainEvent) → IsTrue (is_history (e ∷ events)) → IsFalse (has_id e.id events) × IsTrue (is_history events)
-unfolding is_history
-history_parts e events history =
-    let outer = and_parts (list_all (comes_before e) events && not (has_id e.id events)) (is_history events) history in
-    (not-true (has_id e.id events) (and_parts (list_all (comes_before e) events) (not (has_id e.id events)) outer.0).1, outer.1)
 
 -- an identity is present exactly where an event is found
 pub has_id-found : (id : List ℕ) (events : List PlainEvent) → has_id id events ≡ is_some (event_with id events)
@@ -80,8 +72,8 @@ event_with-member (f ∷ events) e history member =
     (λ later.
     let other : bytes_eq f.id e.id ≡ false =
     false_from_ne_true (bytes_eq f.id e.id)
-    (λ same. false≢true (sym (list_any-false (λ (g : PlainEvent). bytes_eq g.id f.id) events e parts.0 later) ∙ (bytes_eq-Decides e.id f.id).1 (sym ((bytes_eq-Decides f.id e.id).0 same)))) in
-    cond-false (bytes_eq f.id e.id) _ _ other ∙ event_with-member events e parts.1 later)
+    (λ same. false≢true (sym (list_any-false (λ (g : PlainEvent). bytes_eq g.id f.id) events e parts.1 later) ∙ (bytes_eq-Decides e.id f.id).1 (sym ((bytes_eq-Decides f.id e.id).0 same)))) in
+    cond-false (bytes_eq f.id e.id) _ _ other ∙ event_with-member events e parts.2 later)
     member
 
 -- what is found by an identity is a member that has it
@@ -118,13 +110,13 @@ length-without_event id (f ∷ events) history there =
     let parts = history_parts f events history in
     ⊎_elim
     (λ own.
-    let gone : IsFalse (has_id id events) = subst (λ i. IsFalse (has_id i events)) ((bytes_eq-Decides f.id id).0 own) parts.0 in
+    let gone : IsFalse (has_id id events) = subst (λ i. IsFalse (has_id i events)) ((bytes_eq-Decides f.id id).0 own) parts.1 in
     ap (λ b. length (cond (not b) (f ∷ without_event id events) (without_event id events)) + 1) own
     ∙ ap (λ es. length es + 1) (without_event-absent id events gone) ∙ one_more (length events))
     (λ other.
     let rest : IsTrue (has_id id events) = or_second (bytes_eq f.id id) (has_id id events) other there in
     ap (λ b. length (cond (not b) (f ∷ without_event id events) (without_event id events)) + 1) other
-    ∙ behind (length (without_event id events)) (length events) (length-without_event id events parts.1 rest))
+    ∙ behind (length (without_event id events)) (length events) (length-without_event id events parts.2 rest))
     (cases_Bool (bytes_eq f.id id))
   where
     one_more : (n : ℕ) → n + 1 ≡ suc n

@@ -1,10 +1,10 @@
 -- The lists on the way back from a change.
-use Rattle.std.proofs.Common.{◌≡◌, ◌+◌, ℕ, ℤ, zero, suc, Bool, true, false, not, ◌&&◌, List, [], ◌∷◌, length, map, filter, take, Option, Some, None, All, IsTrue, IsFalse, is_some, refl, sym, ap, subst, ◌∙◌, ⊎_elim, arith}
+use Rattle.std.proofs.Common.{◌≡◌, ◌+◌, ℕ, ℤ, zero, suc, Bool, true, false, not, List, [], ◌∷◌, length, map, filter, take, Option, Some, None, All, IsTrue, IsFalse, is_some, refl, sym, ap, subst, ◌∙◌, ⊎_elim, arith}
 use Rattle.std.specs.Prelude.{bytes_eq, find, nat_lt, option_map, slice_get, ◌==◌}
-use Rattle.std.specs.List.{IsDistinct, list_all, list_any}
+use Rattle.std.specs.List.{IsDistinct, list_any}
 use Rattle.std.specs.Map.{keys_of}
 use Rattle.std.specs.Option.{option_map_or}
-use Rattle.std.proofs.lemmas.Bool.{and_parts, cases_Bool, cond-false, eq-eqb, eqb-true, false≢true, false_from_ne_true, not-true}
+use Rattle.std.proofs.lemmas.Bool.{cases_Bool, cond-false, eq-eqb, eqb-true, false≢true, false_from_ne_true}
 use Rattle.std.proofs.lemmas.List.{length-map}
 use Rattle.std.proofs.lemmas.List.Elements.{All-contains}
 use Rattle.std.proofs.lemmas.Slice.Eq.{bytes_eq-Decides}
@@ -18,7 +18,8 @@ use Rattle.ec_terms.specs.declared.theory.Theory.{Theory}
 use Rattle.ec_terms.specs.Domain.{entries_of}
 use Rattle.ec_axioms.specs.declared.event.Event.{Event}
 use Rattle.ec_axioms.specs.Calculus.{PlainEvent}
-use Rattle.ec_axioms.specs.Changes.{comes_before, events_only_in, has_event, has_id, is_history, kept_events, without_event}
+use Rattle.ec_axioms.specs.Changes.{events_only_in, has_event, has_id, is_history, kept_events, without_event}
+use Rattle.ec_axioms.proofs.Histories.{history_parts}
 use Rattle.ec_axioms.specs.Events.{event_of}
 use Rattle.ec_axioms.proofs.Members.{Contains-from_member, IsMember, IsMember-filter, IsMember-from_filter, IsMember-from_map, IsMember-map, IsPairwise, IsPairwise-map, IsPairwise-weaker, filter_agree, find-Some, list_any-false, list_any-member, list_any_agree, member-list_any, IsMember-slice_get}
 use Rattle.ec_axioms.proofs.OrderedEvents.{is_history-filter}
@@ -50,10 +51,9 @@ identities_apart : (events : List PlainEvent) → IsTrue (is_history events) →
 unfolding is_history has_id
 identities_apart [] history = tt
 identities_apart (e ∷ events) history =
-    let outer = and_parts (list_all (comes_before e) events && not (has_id e.id events)) (is_history events) history in
-    let absent = not-true (has_id e.id events) (and_parts (list_all (comes_before e) events) (not (has_id e.id events)) outer.0).1 in (
-      λ f later. bytes_eq_comm e.id f.id ∙ list_any-false (λ g. bytes_eq g.id e.id) events f absent later,
-      identities_apart events outer.1,
+    let parts = history_parts e events history in (
+      λ f later. bytes_eq_comm e.id f.id ∙ list_any-false (λ g. bytes_eq g.id e.id) events f parts.1 later,
+      identities_apart events parts.2,
     )
 
 -- an identity stays where its event passes

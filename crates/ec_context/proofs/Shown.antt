@@ -9,6 +9,7 @@ use Rattle.ec_terms.specs.declared.ground.Ground.{Ground}
 use Rattle.ec_terms.specs.Domain.{GroundLiteral, GroundEntry}
 use Rattle.ec_axioms.specs.Calculus.{Currency, agrees, is_active}
 use Rattle.ec_store.specs.Table.{KeptProp, prop_at, term_at}
+use Rattle.ec_store.proofs.FoundLemmas.{is_some-kept}
 use Rattle.ec_context.specs.declared.entry.Entry.{Entry}
 use Rattle.ec_context.specs.declared.entry.EntryLiteral.{EntryLiteral}
 use Rattle.ec_context.specs.Entries.{each_of, shown_literal, shown_literals, shown_entry, shown_entries, IsKeptEntry}
@@ -107,18 +108,10 @@ literals_agree-is_active table by_number by_term event says entry shown is =
 
 -- ---- a table that keeps more
 
--- a number that shows a term is kept
-is_some-shown : (id : ℕ) (term : Ground) (table : List KeptProp) → term_at id table ≡ Some term → is_some (prop_at id table) ≡ true
-is_some-shown id term table is = of (prop_at id table) is
-  where
-    of : (o : Option KeptProp) → option_map (λ (k : KeptProp). k.term) o ≡ Some term → is_some o ≡ true
-    of None none = cc
-    of (Some k) there = refl
-
 module _ (before after : List KeptProp) (kept : KeepsAll before after) where
   -- a term stays under its number
   pub term_at-kept : (id : ℕ) (term : Ground) → term_at id before ≡ Some term → term_at id after ≡ Some term
-  term_at-kept id term is = ap (option_map (λ (k : KeptProp). k.term)) (kept id (is_some-shown id term before is)) ∙ is
+  term_at-kept id term is = ap (option_map (λ (k : KeptProp). k.term)) (kept id (is_some-kept id before term is)) ∙ is
 
   shown_literal-kept : (literal : EntryLiteral) (shown : GroundLiteral) → shown_literal before literal ≡ Some shown → shown_literal after literal ≡ Some shown
   shown_literal-kept literal shown is =
@@ -169,11 +162,11 @@ shown_literals-more before after kept literals more literal f items i item withi
 -- ---- what shown entries are
 
 literal-kept : (table : List KeptProp) (literal : EntryLiteral) (shown : GroundLiteral) → shown_literal table literal ≡ Some shown → is_some (prop_at literal.prop.0 table) ≡ true
-literal-kept table literal shown is = is_some-shown literal.prop.0 shown.prop table (IsLiteralShownAs-literal table literal shown is).prop
+literal-kept table literal shown is = is_some-kept literal.prop.0 table shown.prop (IsLiteralShownAs-literal table literal shown is).prop
 
 entry-kept : (table : List KeptProp) (entry : Entry) (shown : GroundEntry) → shown_entry table entry ≡ Some shown → IsKeptEntry table entry
 entry-kept table entry shown is = record {
-  head = is_some-shown entry.head.0 shown.head table (IsShownAs-entry table entry shown is).head;
+  head = is_some-kept entry.head.0 table shown.head (IsShownAs-entry table entry shown is).head;
   literals = All-each_of (shown_literal table) (λ (literal : EntryLiteral). IsSome (prop_at literal.prop.0 table)) (literal-kept table) entry.literals shown.literals
       (IsShownAs-entry table entry shown is).literals;
 }

@@ -1,18 +1,20 @@
 -- Events with their slots: what is found among them, and what one more or one less leaves.
 use Rattle.std.proofs.Common.{◌≡◌, ℕ, ◌≤◌, zero, suc, Bool, true, false, cond, not, ◌&&◌, ◌||◌, List, [], ◌∷◌, ℤ, Option, Some, None, refl, sym, ap, ap₂, subst, ◌∙◌, ⊎_elim, length, map, is_some, slice_get, arith}
-use Rattle.std.specs.Prelude.{int_lt, find, option_map, bytes_eq, ◌==◌, if◌then◌else◌}
+use Rattle.std.specs.Prelude.{int_lt, find, option_map, unwrap_or, bytes_eq, ◌==◌, if◌then◌else◌}
 use Rattle.std.specs.List.{list_any, list_all}
 use Rattle.std.specs.Ordering.{int_cmp, int_eq, is_lt, is_eq, ordering_then}
 use Rattle.std.specs.declared.cmp.Ordering.{Ordering}
 use Rattle.std.specs.declared.cmp.Ordering.TheVariants.{Less, Equal, Greater}
-use Rattle.std.proofs.lemmas.Bool.{cases_Bool, false≢true, and_parts, and_right, or_right, or_parts, not-true}
+use Rattle.std.proofs.lemmas.Bool.{cases_Bool, false≢true, and_parts, and_right, or_right, or_parts, not-true, eqb-true}
 use Rattle.std.proofs.lemmas.Slice.Eq.{bytes_eq-Decides}
+use Rattle.std.proofs.lemmas.Option.{none-some}
 use Rattle.ec_terms.specs.declared.ids.Slot.{Slot}
 use Rattle.ec_terms.specs.Term.{name_cmp}
 use Rattle.ec_axioms.specs.Calculus.{PlainEvent}
 use Rattle.ec_axioms.specs.Changes.{is_history, comes_before, has_id, with_event, without_event}
 use Rattle.ec_axioms.specs.declared.event.Event.{Event}
 use Rattle.ec_axioms.proofs.Histories.{comes_before-total}
+use Rattle.ec_axioms.proofs.Members.{IsMember, find-Some}
 use Rattle.ec_rows.specs.Ordered.{is_ascending}
 use Rattle.ec_rows.specs.Times.{Entry, entry_before, entries_before, is_entry, has_entry, with_entry, without_entry, place_cmp, place_of}
 use Rattle.ec_rows.proofs.OrderedLemmas.{IsOrder, IsOrder-by_key, with_member-front, with_member-later}
@@ -23,6 +25,18 @@ use Rattle.ec_lists.proofs.Integers.{int_eq-same}
 use Rattle.ec_lists.proofs.Booleans.{option_map-cond, is_some-cond, map-cond, cond_comm, cond-same, cond-again}
 use Rattle.ec_lists.proofs.Filters.{filter-not_any, filter-map}
 use Rattle.ec_lists.proofs.Numbers.{bytes_eq-turned}
+
+-- what is under a slot is a member with that slot
+pub kept_under : {T : Type 0} (events : List (Kept T)) (slot : Slot) (event : Event T) → event_at slot events ≡ Some event
+    → (k : Kept T) × IsMember events k × (k.0.0 ≡ slot.0) × (k.1 ≡ event)
+kept_under {T} events slot event there = of (find (λ (k : Kept T). k.0.0 == slot.0) events) refl there
+  where
+    of : (o : Option (Kept T)) → find (λ (k : Kept T). k.0.0 == slot.0) events ≡ o → option_map (λ (k : Kept T). k.1) o ≡ Some event
+        → (k : Kept T) × IsMember events k × (k.0.0 ≡ slot.0) × (k.1 ≡ event)
+    of None none both = absurd (none-some event both)
+    of (Some kept) found both =
+        let member = find-Some (λ (k : Kept T). k.0.0 == slot.0) events kept found in
+        (kept, member.0, eqb-true kept.0.0 slot.0 member.1, ap (λ o. unwrap_or o event) both)
 
 -- ---- tests
 

@@ -35,7 +35,7 @@ found_own term id all (k ∷ ks) own is =
     (cases_Bool (term_eq k.term term))
 
 -- a number that has a term is kept
-is_some-kept : (id : ℕ) (ks : List KeptProp) (term : Ground) → term_at id ks ≡ Some term → is_some (prop_at id ks) ≡ true
+pub is_some-kept : (id : ℕ) (ks : List KeptProp) (term : Ground) → term_at id ks ≡ Some term → is_some (prop_at id ks) ≡ true
 is_some-kept id ks term has = from (prop_at id ks) has
   where
     from : (o : Option KeptProp) → option_map (λ (k : KeptProp). k.term) o ≡ Some term → is_some o ≡ true

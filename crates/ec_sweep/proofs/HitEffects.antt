@@ -25,6 +25,7 @@ use Rattle.ec_changes.proofs.JoinedMembers.{IsMember-flat_map, IsMember-from_fla
 use Rattle.ec_changes.proofs.KeptEvents.{event_eq-is}
 use Rattle.ec_numbered.specs.Due.{Due, has_due}
 use Rattle.ec_store.specs.Table.{KeptProp, prop_of, term_at}
+use Rattle.ec_store.proofs.EventLemmas.{kept_under}
 use Rattle.ec_store.specs.Store.{Kept, event_at, history_of, plain_of}
 use Rattle.ec_numbered.specs.PropSet.{has_number}
 use Rattle.ec_entries.specs.declared.event_entries.Dependent.{Dependent}
@@ -47,7 +48,7 @@ use Rattle.ec_sweep.specs.Hits.{AreHits, depends_at, depends_on_due, is_hit, sam
 use Rattle.ec_sweep.proofs.HitEntries.{hit-by}
 use Rattle.ec_parts.proofs.LinksByNumber.{IsOneToOne, term_at-prop_of}
 use Rattle.ec_lists.proofs.Tests.{list_any-filter_none}
-use Rattle.ec_sweep.proofs.PlacesApart.{kept_under, places_apart, slots_apart}
+use Rattle.ec_sweep.proofs.PlacesApart.{places_apart, slots_apart}
 use Rattle.ec_sweep.proofs.ReadingEntries.{AreAtSlots, StandsAt, StandsAt-member, dependent-kept, dependent-reads, event-member, reads-dependent}
 use Rattle.ec_sweep.proofs.KeptTerms.{prop_of-term_at}
 

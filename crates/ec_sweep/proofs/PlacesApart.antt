@@ -1,8 +1,7 @@
 -- Entries of a store's events stand each at one place of one slot.
-use Rattle.std.proofs.Common.{◌≡◌, ◌<◌, ℕ, ℤ, List, [], ◌∷◌, map, find, get_or, Option, Some, None, IsTrue, refl, sym, ap, subst, ◌∙◌, ◌⊎◌, inl, inr, ⊎_elim, arith}
-use Rattle.std.specs.Prelude.{◌==◌, option_map, slice_get, unwrap_or}
+use Rattle.std.proofs.Common.{◌≡◌, ◌<◌, ℕ, ℤ, List, [], ◌∷◌, map, get_or, Option, Some, None, IsTrue, refl, sym, ap, subst, ◌∙◌, ◌⊎◌, inl, inr, ⊎_elim, arith}
+use Rattle.std.specs.Prelude.{option_map, slice_get, unwrap_or}
 use Rattle.std.specs.List.Sorted.{IsStrictlyIncreasing}
-use Rattle.std.proofs.lemmas.Bool.{eqb-true}
 use Rattle.std.proofs.lemmas.List.Kept.{AllPairs-from_increasing}
 use Rattle.std.proofs.lemmas.Option.{none-some, slice_get-map, slice_get_within, get_or_from_slice_get}
 use Rattle.ec_terms.specs.declared.ids.Slot.{Slot}
@@ -13,9 +12,10 @@ use Rattle.ec_axioms.specs.declared.event.Event.{Event}
 use Rattle.ec_axioms.specs.Calculus.{PlainEvent, Effect, effects_of}
 use Rattle.ec_axioms.specs.Changes.{comes_before, is_history}
 use Rattle.ec_axioms.specs.Events.{event_of}
-use Rattle.ec_axioms.proofs.Members.{IsMember, IsMember-map, IsPairwise, find-Some}
+use Rattle.ec_axioms.proofs.Members.{IsMember, IsMember-map, IsPairwise}
 use Rattle.ec_changes.proofs.KeptEvents.{IsPairwise-from_history, comes_before-itself}
 use Rattle.ec_store.specs.Store.{Kept, event_at, history_of, plain_of}
+use Rattle.ec_store.proofs.EventLemmas.{kept_under}
 
 -- ---- places in a list
 
@@ -80,18 +80,6 @@ same_member rank (m ∷ events) pairs k l (inr a) (inl b) same =
     absurd (comes_before-itself (plain_of rank k)
     (subst (λ e. IsTrue (comes_before e (plain_of rank k))) (ap (plain_of rank) b ∙ sym same) (pairs.0 (plain_of rank k) (IsMember-map (plain_of rank) events k a))))
 same_member rank (m ∷ events) pairs k l (inr a) (inr b) same = same_member rank events pairs.1 k l a b same
-
--- what is under a slot is a member with that slot
-pub kept_under : {T : Type 0} (events : List (Kept T)) (slot : Slot) (event : Event T) → event_at slot events ≡ Some event
-    → (k : Kept T) × IsMember events k × (k.0.0 ≡ slot.0) × (k.1 ≡ event)
-kept_under {T} events slot event there = of (find (λ (k : Kept T). k.0.0 == slot.0) events) refl there
-  where
-    of : (o : Option (Kept T)) → find (λ (k : Kept T). k.0.0 == slot.0) events ≡ o → option_map (λ (k : Kept T). k.1) o ≡ Some event
-        → (k : Kept T) × IsMember events k × (k.0.0 ≡ slot.0) × (k.1 ≡ event)
-    of None none both = absurd (none-some event both)
-    of (Some kept) found both =
-        let member = find-Some (λ (k : Kept T). k.0.0 == slot.0) events kept found in
-        (kept, member.0, eqb-true kept.0.0 slot.0 member.1, ap (λ o. unwrap_or o event) both)
 
 -- two slots whose events look the same are the same slot
 pub slots_apart : {T : Type 0} (rank : T → ℤ) (events : List (Kept T)) → IsTrue (is_history (history_of rank events)) → (s t : Slot) (e f : Event T)

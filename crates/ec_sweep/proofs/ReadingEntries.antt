@@ -1,6 +1,6 @@
 -- What an entry of a store's event reads, by terms and by the dependents that stand under the numbers of a table.
-use Rattle.std.proofs.Common.{◌≡◌, ℕ, ℤ, Bool, ◌||◌, List, [], ◌∷◌, find, Option, Some, None, IsTrue, refl, sym, ap, ap₂, subst, ◌∙◌, inl, ⊎_elim}
-use Rattle.std.specs.Prelude.{◌==◌, unwrap_or, option_map, option_and_then, slice_get}
+use Rattle.std.proofs.Common.{◌≡◌, ℕ, ℤ, Bool, ◌||◌, List, [], ◌∷◌, Option, Some, None, IsTrue, refl, sym, ap, ap₂, subst, ◌∙◌, inl, ⊎_elim}
+use Rattle.std.specs.Prelude.{unwrap_or, option_map, option_and_then, slice_get}
 use Rattle.std.specs.List.{list_any, All}
 use Rattle.std.specs.Option.{option_to_list}
 use Rattle.std.specs.Ordering.{int_eq}
@@ -16,10 +16,11 @@ use Rattle.ec_axioms.specs.declared.event.Event.{Event}
 use Rattle.ec_axioms.specs.Calculus.{PlainEvent, Effect, effects_of}
 use Rattle.ec_axioms.specs.Events.{event_of}
 use Rattle.ec_axioms.specs.Plain.{events_at}
-use Rattle.ec_axioms.proofs.Members.{Contains-from_member, IsMember, IsMember-filter, IsMember-from_filter, IsMember-from_map, IsMember-map, find-Some, list_any-member, member-list_any, IsMember-slice_get, slice_get-member}
+use Rattle.ec_axioms.proofs.Members.{Contains-from_member, IsMember, IsMember-filter, IsMember-from_filter, IsMember-from_map, IsMember-map, list_any-member, member-list_any, IsMember-slice_get, slice_get-member}
 use Rattle.ec_changes.specs.Differences.{entries_at, reads}
 use Rattle.ec_changes.proofs.JoinedMembers.{IsMember-flat_map, IsMember-from_flat_map}
 use Rattle.ec_store.specs.Table.{KeptProp, term_at}
+use Rattle.ec_store.proofs.EventLemmas.{kept_under}
 use Rattle.ec_store.specs.Store.{Kept, Store, event_at, history_of, plain_of}
 use Rattle.ec_numbered.specs.ByNumber.{kept_at}
 use Rattle.ec_context.specs.declared.entry.Entry.{Entry}
@@ -83,14 +84,8 @@ pub record StandsAt {T : Type 0} (rank : T → ℤ) (theory : Theory) (events : 
 -- the event under a slot is one of the history
 pub event-member : {T : Type 0} (rank : T → ℤ) (events : List (Kept T)) (slot : Slot) (event : Event T) → event_at slot events ≡ Some event
     → IsMember (history_of rank events) (event_of rank event)
-event-member {T} rank events slot event there = of (find (λ (k : Kept T). k.0.0 == slot.0) events) refl there
-  where
-    of : (o : Option (Kept T)) → find (λ (k : Kept T). k.0.0 == slot.0) events ≡ o → option_map (λ (k : Kept T). k.1) o ≡ Some event
-        → IsMember (history_of rank events) (event_of rank event)
-    of None none both = absurd (none-some event both)
-    of (Some kept) found both =
-        subst (λ e. IsMember (history_of rank events) (event_of rank e)) (ap (λ o. unwrap_or o event) both)
-        (IsMember-map (plain_of rank) events kept (find-Some (λ (k : Kept T). k.0.0 == slot.0) events kept found).0)
+event-member rank events slot event there =
+    let k = kept_under events slot event there in subst (λ e. IsMember (history_of rank events) (event_of rank e)) k.3 (IsMember-map (plain_of rank) events k.0 k.1)
 
 -- each entry of an event stands at a place
 pub StandsAt-member : {T : Type 0} (rank : T → ℤ) (theory : Theory) (events : List (Kept T)) → AreAtSlots events → (e : PlainEvent) (effect : Effect)

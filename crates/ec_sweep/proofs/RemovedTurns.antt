@@ -23,6 +23,7 @@ use Rattle.ec_changes.specs.Differences.{entries_at}
 use Rattle.ec_changes.proofs.KeptEvents.{IsPairwise-from_history, comes_before-itself}
 use Rattle.ec_changes.proofs.Tallies.{length-filter-flat_map}
 use Rattle.ec_store.specs.Store.{Kept, event_at, history_of, plain_of}
+use Rattle.ec_store.proofs.EventLemmas.{kept_under}
 use Rattle.ec_numbered.specs.ByNumber.{kept_at}
 use Rattle.ec_parts.specs.declared.tally.Tally.{Tally}
 use Rattle.ec_parts.specs.Activity.{is_bit_set}
@@ -44,7 +45,7 @@ use Rattle.ec_sweep.specs.Visiting.{CanLook}
 use Rattle.ec_sweep.proofs.HitActivity.{was-found}
 use Rattle.ec_sweep.proofs.HitTurns.{AreShown-append}
 use Rattle.ec_sweep.proofs.PlainTurns.{turns_from-shown}
-use Rattle.ec_sweep.proofs.PlacesApart.{kept_under, slots_apart}
+use Rattle.ec_sweep.proofs.PlacesApart.{slots_apart}
 use Rattle.ec_sweep.proofs.ReadingEntries.{AreAtSlots, effect_by, entered-event}
 use Rattle.ec_sweep.proofs.SameMembers.{AreApart, sum-same_members}
 
