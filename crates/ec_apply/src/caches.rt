@@ -23,7 +23,7 @@ pub fn apply<T: Moment, M: MarkRow<T>, I: SpanRow<T>, X: TimeRow<T>, L: Ledger>(
     spent: &mut Planned<T>,
     steps: &mut Steps<L>,
 ) -> Seen
-    requires { IsAimed T.rank parts.old.checked (view_of parts.old) delta }
+    requires aimed { IsAimed T.rank parts.old.checked (view_of parts.old) delta }
     ensures stands { StandForNew T.rank parts.old.checked (view_of parts.old) delta (view_of parts.new) }
     ensures counts { AreCountsOf T.rank parts.old.checked (view_of parts.old) delta result }
     ensures checked { parts.new.checked ≡ parts.old.checked }

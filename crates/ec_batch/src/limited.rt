@@ -31,7 +31,7 @@ pub(crate) fn take_in<T: Moment, M: MarkRow<T>, I: SpanRow<T>, X: TimeRow<T>>(
     tally: &mut Tally,
     list: &EntryList,
 ) -> Result<(), Cut>
-    requires { MayComeIn T.rank parts.old.checked list.now (view_of parts.old) tally.old }
+    requires coming { MayComeIn T.rank parts.old.checked list.now (view_of parts.old) tally.old }
     ensures limits { (now soon : List PlainEvent) (event : PlainEvent) → ComesIn T.rank parts.old.checked list.now (view_of parts.old) tally.old now soon event →
         IsLetIn T.rank parts.old.checked now soon event (view_of parts.new) tally.new result }
     ensures terms { (id : ℕ) → term_at id parts.new.props ≡ term_at id parts.old.props }

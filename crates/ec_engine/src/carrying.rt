@@ -34,7 +34,7 @@ fn make_change<T: Moment, M: MarkRow<T>, I: SpanRow<T>, X: TimeRow<T>, L: Ledger
     change: Change<T>,
     steps: &mut Steps<L>,
 ) -> Result<Seen, Change<T>>
-    requires { LeadsSomewhere T.rank parts.old.checked (view_of parts.old) change }
+    requires leads { LeadsSomewhere T.rank parts.old.checked (view_of parts.old) change }
     ensures made { IfOk result (IsMade T.rank parts.old.checked change (view_of parts.old) (view_of parts.new)) }
     ensures back { IfErr result (λ back. back ≡ change) }
     ensures stands { OnErr result (StandAsBefore T.rank parts.old.checked (view_of parts.old) (view_of parts.new)) }
@@ -58,7 +58,7 @@ fn forget_listed<T: Moment, M: MarkRow<T>, I: SpanRow<T>, X: TimeRow<T>>(
     fresh: &[PropId],
     dying: &[PropId],
 )
-    requires { StandForSome T.rank parts.old.checked (view_of parts.old) }
+    requires stand { StandForSome T.rank parts.old.checked (view_of parts.old) }
     ensures stands { (events : List PlainEvent) (tally : PartsTally) → StandForBoth T.rank parts.old.checked events events (view_of parts.old) tally →
         AreLiveOrListed parts.old.checked events parts.old.props (λ id. has_number id fresh.now || has_number id dying.now) →
         StandFor T.rank parts.old.checked events (view_of parts.new) tally }

@@ -13,13 +13,13 @@ pub switch_events-requires-clause-switch : goal.switch_events-requires-clause-sw
 switch_events-requires-clause-switch g c = record {
   theory = c.args.parts.now.checked;
   table = c.args.parts.now.props;
-  new = c.requires.new;
-  switch = record { is_change = c.requires.ready.change; bits = c.requires.ready.bits; entries = c.requires.stands.caches.entries_of };
+  new = c.requires.aimed.new;
+  switch = record { is_change = c.requires.aimed.ready.change; bits = c.requires.aimed.ready.bits; entries = c.requires.aimed.stands.caches.entries_of };
 }
 
 pub apply-requires-2-clause-clash_room : goal.apply-requires-2-clause-clash_room
 apply-requires-2-clause-clash_room g c =
-    let none = no_clashes g.T.Moment.rank c.changes_are_made.ensures c.args.parts.now.checked c.requires.new (view_of c.args.parts.now) c.requires.tally c.args.delta c.requires.stands c.requires.ready
+    let none = no_clashes g.T.Moment.rank c.changes_are_made.ensures c.args.parts.now.checked c.requires.aimed.new (view_of c.args.parts.now) c.requires.aimed.tally c.args.delta c.requires.aimed.stands c.requires.aimed.ready
     c.len-3.ensures.apart (λ n t. clashes_at g.T.Moment.rank n t c.args.parts.now.initiations) in
     omega (arith, none)
 
@@ -28,7 +28,7 @@ mend-props-requires-clause-once g c = c.len-4.ensures.once
 
 pub mend-props-requires-clause-mendable : goal.mend-props-requires-clause-mendable
 mend-props-requires-clause-mendable g c =
-    mendable-new g.T.Moment.rank c.changes_are_made.ensures c.args.parts.now.checked c.requires.new (view_of c.args.parts.now) c.requires.tally c.args.delta c.requires.stands c.requires.ready
+    mendable-new g.T.Moment.rank c.changes_are_made.ensures c.args.parts.now.checked c.requires.aimed.new (view_of c.args.parts.now) c.requires.aimed.tally c.args.delta c.requires.aimed.stands c.requires.aimed.ready
     c.growth_is_bounded_law.ensures c.len-2.ensures.apart c.len-4.ensures.once c.apply.new.self c.apply.ensures.initials c.apply.ensures.rows c.apply.ensures.marks c.apply.ensures.others
 
 pub returns-clause-stands : goal.returns-clause-stands

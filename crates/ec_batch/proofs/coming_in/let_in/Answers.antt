@@ -57,16 +57,18 @@ take_in-requires g c =
     let mentions = c.requires.within.few_mentions in
     let few = few-mentions mentions in
     record {
-      now = hist;
-      soon = hist;
-      event = event_of rank c.args.event.now;
-      comes = record {
-        both = subst (λ t. StandForBoth rank t hist hist (view_of c.enter.new.parts) c.args.tally.now) (sym c.enter.ensures.theory)
-            (c.enter.ensures.both hist hist c.args.tally.now few c.requires.stand.both);
-        history = c.requires.stand.both.caches.history;
-        few = subst (λ t. length (mentions_of t hist) ≤ most_mentions) (sym c.enter.ensures.theory) mentions;
-        absent = c.requires.absent;
-        shown = c.in-Ok.ensures.entries ∙ ap (λ t. Some (entries_of t c.args.event.now.term)) (sym c.enter.ensures.theory);
+      coming = record {
+        now = hist;
+        soon = hist;
+        event = event_of rank c.args.event.now;
+        comes = record {
+          both = subst (λ t. StandForBoth rank t hist hist (view_of c.enter.new.parts) c.args.tally.now) (sym c.enter.ensures.theory)
+              (c.enter.ensures.both hist hist c.args.tally.now few c.requires.stand.both);
+          history = c.requires.stand.both.caches.history;
+          few = subst (λ t. length (mentions_of t hist) ≤ most_mentions) (sym c.enter.ensures.theory) mentions;
+          absent = c.requires.absent;
+          shown = c.in-Ok.ensures.entries ∙ ap (λ t. Some (entries_of t c.args.event.now.term)) (sym c.enter.ensures.theory);
+        };
       };
     }
 

@@ -9,23 +9,23 @@ use Rattle.ec_batch.proofs.LetIn.{many_mentions, many_links, few_of_both, AreOfE
 use Rattle.ec_batch.proofs.limited.take_in.Goals as goal
 
 pub mention_all-requires-clause-kept : goal.mention_all-requires-clause-kept
-mention_all-requires-clause-kept g c = IsKeptEntry-shown c.args.parts.now.props c.args.list.now _ c.requires.comes.shown
+mention_all-requires-clause-kept g c = IsKeptEntry-shown c.args.parts.now.props c.args.list.now _ c.requires.coming.comes.shown
 
 pub mention_all-requires-clause-tables : goal.mention_all-requires-clause-tables
-mention_all-requires-clause-tables g c = record { events = c.requires.soon; tables = c.requires.comes.both.tables }
+mention_all-requires-clause-tables g c = record { events = c.requires.coming.soon; tables = c.requires.coming.comes.both.tables }
 
 pub returns-then-tally-mention_count-gt-MOST_MENTIONS-clause-limits : goal.returns-then-tally-mention_count-gt-MOST_MENTIONS-clause-limits
 returns-then-tally-mention_count-gt-MOST_MENTIONS-clause-limits g c now soon event comes = (many_mentions comes (omega arith), comes.both)
 
 pub release_all-requires-clause-kept : goal.release_all-requires-clause-kept
-release_all-requires-clause-kept g c = IsKeptEntry-shown c.mention_all.new.parts.props c.args.list.now _ (shown_after c.requires.comes c.mention_all.new.parts.props c.mention_all.ensures.mentioned.terms)
+release_all-requires-clause-kept g c = IsKeptEntry-shown c.mention_all.new.parts.props c.args.list.now _ (shown_after c.requires.coming.comes c.mention_all.new.parts.props c.mention_all.ensures.mentioned.terms)
 
 pub release_all-requires-clause-tables : goal.release_all-requires-clause-tables
 release_all-requires-clause-tables g c =
     subst (λ theory. AreOfEventsWith theory c.args.list.now c.mention_all.new.parts.props c.mention_all.new.parts.neighbours c.mention_all.new.parts.points c.mention_all.new.tally)
     (sym (ap (λ (p : Parts _ _ _ _). p.checked) c.mention_all.ensures.rest))
-    (AreOfEventsWith-in c.requires.comes (view_of c.mention_all.new.parts) c.mention_all.new.tally c.mention_all.ensures.mentioned.terms
-    (c.mention_all.ensures.both c.requires.now c.requires.soon c.requires.event c.requires.comes.shown c.requires.comes.both))
+    (AreOfEventsWith-in c.requires.coming.comes (view_of c.mention_all.new.parts) c.mention_all.new.tally c.mention_all.ensures.mentioned.terms
+    (c.mention_all.ensures.both c.requires.coming.now c.requires.coming.soon c.requires.coming.event c.requires.coming.comes.shown c.requires.coming.comes.both))
 
 pub returns-then-tally-gt-MOST_LINKS-clause-limits : goal.returns-then-tally-gt-MOST_LINKS-clause-limits
 returns-then-tally-gt-MOST_LINKS-clause-limits g c now soon event comes =

@@ -69,15 +69,18 @@ take_in-requires g c =
     let soon = c.requires.walked.soon in
     let hist = history_of g.T.Moment.rank c.args.parts.now.store.events in
     record {
-      now = hist;
-      soon = soon;
-      event = event_of g.T.Moment.rank c.args.event.now;
-      comes = record {
-        both = subst (λ t. StandForBoth g.T.Moment.rank t hist soon (view_of c.enter.new.parts) c.args.tally.now) (sym c.enter.ensures.theory) (c.enter.ensures.both hist soon c.args.tally.now to.few_now to.both);
-        history = to.history;
-        few = subst (λ theory. length (mentions_of theory soon) ≤ most_mentions) (sym c.enter.ensures.theory) to.within.few_mentions;
-        absent = sym (present to c.args.event.now.id) ∙ sym c.is_present.ensures ∙ c.if-is_present.false;
-        shown = c.in-Ok-enter.ensures.entries ∙ ap (λ theory. Some (entries_of theory c.args.event.now.term)) (sym c.enter.ensures.theory);
+      coming = record {
+        now = hist;
+        soon = soon;
+        event = event_of g.T.Moment.rank c.args.event.now;
+        comes = record {
+          both = subst (λ t. StandForBoth g.T.Moment.rank t hist soon (view_of c.enter.new.parts) c.args.tally.now) (sym c.enter.ensures.theory)
+              (c.enter.ensures.both hist soon c.args.tally.now to.few_now to.both);
+          history = to.history;
+          few = subst (λ theory. length (mentions_of theory soon) ≤ most_mentions) (sym c.enter.ensures.theory) to.within.few_mentions;
+          absent = sym (present to c.args.event.now.id) ∙ sym c.is_present.ensures ∙ c.if-is_present.false;
+          shown = c.in-Ok-enter.ensures.entries ∙ ap (λ theory. Some (entries_of theory c.args.event.now.term)) (sym c.enter.ensures.theory);
+        };
       };
     }
 

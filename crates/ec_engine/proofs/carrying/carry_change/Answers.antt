@@ -12,7 +12,7 @@ use Rattle.ec_engine.proofs.StepSums.{sums-undone}
 use Rattle.ec_engine.proofs.carrying.carry_change.Goals as goal
 
 pub make_change-requires : goal.make_change-requires
-make_change-requires g c = record { new = c.requires.leads.soon; tally = c.args.tally.now; underway = c.requires.leads.to.underway }
+make_change-requires g c = record { leads = record { new = c.requires.leads.soon; tally = c.args.tally.now; underway = c.requires.leads.to.underway } }
 
 pub forget_listed-requires : goal.forget_listed-requires
 forget_listed-requires g c =
@@ -20,9 +20,11 @@ forget_listed-requires g c =
     let soon = c.requires.leads.soon in
     let made = c.in-Ok.ensures.made soon c.args.tally.now c.requires.leads.to.underway in
     record {
-      events = soon;
-      tally = c.args.tally.now;
-      both = subst (λ t. StandForBoth rank t soon soon (view_of c.make_change.new.parts) c.args.tally.now) (sym c.make_change.ensures.theory) made.0;
+      stand = record {
+        events = soon;
+        tally = c.args.tally.now;
+        both = subst (λ t. StandForBoth rank t soon soon (view_of c.make_change.new.parts) c.args.tally.now) (sym c.make_change.ensures.theory) made.0;
+      };
     }
 
 pub returns-in-Ok-clause-carried : goal.returns-in-Ok-clause-carried

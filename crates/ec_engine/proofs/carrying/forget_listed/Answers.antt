@@ -7,10 +7,10 @@ use Rattle.ec_engine.proofs.carrying.forget_listed.Goals as goal
 
 pub forget_idle-requires-2 : goal.forget_idle-requires-2
 forget_idle-requires-2 g c = record {
-  events = c.requires.events;
-  tally = c.requires.tally;
-  both = subst (λ t. StandForBoth g.T.Moment.rank t c.requires.events c.requires.events (view_of c.forget_idle.new.parts) c.requires.tally) (sym c.forget_idle.ensures.theory)
-      (c.forget_idle.ensures.unlisted c.requires.events c.requires.tally c.requires.both).0;
+  events = c.requires.stand.events;
+  tally = c.requires.stand.tally;
+  both = subst (λ t. StandForBoth g.T.Moment.rank t c.requires.stand.events c.requires.stand.events (view_of c.forget_idle.new.parts) c.requires.stand.tally) (sym c.forget_idle.ensures.theory)
+      (c.forget_idle.ensures.unlisted c.requires.stand.events c.requires.stand.tally c.requires.stand.both).0;
 }
 
 pub returns-clause-stands : goal.returns-clause-stands

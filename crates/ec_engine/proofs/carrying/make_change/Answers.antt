@@ -13,13 +13,15 @@ pub apply-requires : goal.apply-requires
 apply-requires g c =
     let rank = g.T.Moment.rank in
     let events = c.args.parts.now.store.events in
-    let led = c.requires in
+    let led = c.requires.leads in
     record {
-      new = led.new;
-      tally = led.tally;
-      stands = planned-stands rank c.plan.new.parts.checked events c.plan.new.parts.store.events (view_of c.plan.new.parts) led.new led.tally c.plan.ensures.events
-          (c.plan.ensures.stands (history_of rank events) led.new led.tally led.underway.both);
-      ready = planned-ready rank c.args.parts.now.checked c.plan.new.parts.checked (view_of c.plan.new.parts) led.new c.in-Ok.delta c.plan.ensures.checked (c.in-Ok.ensures.ready led.new led.tally led.underway);
+      aimed = record {
+        new = led.new;
+        tally = led.tally;
+        stands = planned-stands rank c.plan.new.parts.checked events c.plan.new.parts.store.events (view_of c.plan.new.parts) led.new led.tally c.plan.ensures.events
+            (c.plan.ensures.stands (history_of rank events) led.new led.tally led.underway.both);
+        ready = planned-ready rank c.args.parts.now.checked c.plan.new.parts.checked (view_of c.plan.new.parts) led.new c.in-Ok.delta c.plan.ensures.checked (c.in-Ok.ensures.ready led.new led.tally led.underway);
+      };
     }
 
 pub returns-in-Ok-clause-made : goal.returns-in-Ok-clause-made
