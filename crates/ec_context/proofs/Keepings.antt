@@ -4,10 +4,11 @@ use Rattle.std.specs.Prelude.{option_map, ◌==◌}
 use Rattle.std.proofs.lemmas.Bool.{cases_Bool, eqb-true, eq-eqb, false≢true, or_from, or_parts}
 use Rattle.ec_terms.specs.declared.ground.Ground.{Ground}
 use Rattle.ec_terms.specs.declared.ids.PropId.{PropId}
+use Rattle.ec_numbered.specs.PropSet.{has_number}
 use Rattle.ec_store.specs.Table.{KeptProp, prop_at, mentions_at, prop_of, is_in_order, with_prop, without_prop}
 use Rattle.ec_lists.proofs.Numbers.{eqb_comm}
-use Rattle.ec_context.specs.Widened.{AreUnmentioned, HasKept, IsWidened, KeepsAll, is_among, without_props}
-use Rattle.ec_context.proofs.Tables.{is_among-push, length-with_prop, mentions_at-with_prop, prop_at-without_props, without-with_prop, without_props-none, without_props-push}
+use Rattle.ec_context.specs.Widened.{AreUnmentioned, HasKept, IsWidened, KeepsAll, without_props}
+use Rattle.ec_context.proofs.Tables.{has_number-push, length-with_prop, mentions_at-with_prop, prop_at-without_props, without-with_prop, without_props-none, without_props-push}
 
 -- ---- new numbers
 
@@ -17,23 +18,23 @@ some-mentioned None n is = cc
 some-mentioned (Some k) n is = refl
 
 -- a number under which nothing is kept is not among them
-pub not_among : (props : List PropId) (id : ℕ) (table : List KeptProp) → AreUnmentioned props table → prop_at id table ≡ None → is_among id props ≡ false
+pub not_among : (props : List PropId) (id : ℕ) (table : List KeptProp) → AreUnmentioned props table → prop_at id table ≡ None → has_number id props ≡ false
 unfolding AreUnmentioned
 not_among [] id table all free = refl
 not_among (p ∷ props) id table all free =
-    or_from (p.0 == id) (is_among id props)
+    or_from (p.0 == id) (has_number id props)
     (⊎_elim
     (λ e. let both : Some 0 ≡ None = sym all.0 ∙ ap (λ n. mentions_at n table) (eqb-true p.0 id e) ∙ ap (option_map (λ (k : KeptProp). k.mentions)) free in cc)
     (λ e. e) (cases_Bool (p.0 == id)))
     (not_among props id table all.1.1 free)
 
 -- among them a number is mentioned 0 times
-unmentioned-among : (props : List PropId) (id : ℕ) (table : List KeptProp) → AreUnmentioned props table → is_among id props ≡ true → mentions_at id table ≡ Some 0
+unmentioned-among : (props : List PropId) (id : ℕ) (table : List KeptProp) → AreUnmentioned props table → has_number id props ≡ true → mentions_at id table ≡ Some 0
 unfolding AreUnmentioned
 unmentioned-among [] id table all there = cc
 unmentioned-among (p ∷ props) id table all there =
     ⊎_elim (λ e. ap (λ n. mentions_at n table) (sym (eqb-true p.0 id e)) ∙ all.0)
-    (λ e. unmentioned-among props id table all.1.1 (sym (ap (λ b. b || is_among id props) e) ∙ there)) (cases_Bool (p.0 == id))
+    (λ e. unmentioned-among props id table all.1.1 (sym (ap (λ b. b || has_number id props) e) ∙ there)) (cases_Bool (p.0 == id))
 
 -- they stay so where all that is kept stays
 pub AreUnmentioned-kept : (props : List PropId) (before after : List KeptProp) → KeepsAll before after → AreUnmentioned props before → AreUnmentioned props after
@@ -46,12 +47,12 @@ AreUnmentioned-kept (p ∷ props) before after kept all = (
 
 -- with one more that was not among them
 pub AreUnmentioned-push : (props : List PropId) (p : PropId) (table : List KeptProp) → AreUnmentioned props table → mentions_at p.0 table ≡ Some 0 →
-    is_among p.0 props ≡ false → AreUnmentioned (props ++ p ∷ []) table
+    has_number p.0 props ≡ false → AreUnmentioned (props ++ p ∷ []) table
 unfolding AreUnmentioned
 AreUnmentioned-push [] p table all mentions other = (mentions, (refl, tt))
 AreUnmentioned-push (q ∷ props) p table all mentions other =
-    let parts = or_parts (q.0 == p.0) (is_among p.0 props) other in
-    (all.0, (is_among-push q.0 props p ∙ or_from _ _ all.1.0 (eqb_comm p.0 q.0 ∙ parts.0), AreUnmentioned-push props p table all.1.1 mentions parts.1))
+    let parts = or_parts (q.0 == p.0) (has_number p.0 props) other in
+    (all.0, (has_number-push q.0 props p ∙ or_from _ _ all.1.0 (eqb_comm p.0 q.0 ∙ parts.0), AreUnmentioned-push props p table all.1.1 mentions parts.1))
 
 -- the last of them is mentioned 0 times
 pub unmentioned-last : (props : List PropId) (p : PropId) (table : List KeptProp) → AreUnmentioned (props ++ p ∷ []) table → mentions_at p.0 table ≡ Some 0
@@ -65,7 +66,7 @@ pub AreUnmentioned-pop : (props : List PropId) (p : PropId) (before after : List
 unfolding AreUnmentioned
 AreUnmentioned-pop [] p before after all others = tt
 AreUnmentioned-pop (q ∷ props) p before after all others =
-    let parts = or_parts (is_among q.0 props) (p.0 == q.0) (sym (is_among-push q.0 props p) ∙ all.1.0) in (
+    let parts = or_parts (has_number q.0 props) (p.0 == q.0) (sym (has_number-push q.0 props p) ∙ all.1.0) in (
       ap (option_map (λ (k : KeptProp). k.mentions)) (others q.0 (λ same. false≢true (sym parts.1 ∙ ap (λ n. p.0 == n) same ∙ eq-eqb p.0 p.0 refl))) ∙ all.0,
       (parts.0, AreUnmentioned-pop props p before after all.1.1 others),
     )
@@ -141,7 +142,7 @@ IsWidened-kept before after added has = record {
         (λ other. let both : None ≡ Some count =
         ap (option_map (λ (k : KeptProp). k.mentions))
         (sym none ∙ ap (prop_at id) (sym (without_props-none before) ∙ sym has.back) ∙ prop_at-without_props added id after other) ∙ is in cc)
-        (cases_Bool (is_among id added))
+        (cases_Bool (has_number id added))
 
 -- nothing is new where the table is as it was
 pub IsWidened-same : (before after : List KeptProp) → after ≡ before → IsWidened before after

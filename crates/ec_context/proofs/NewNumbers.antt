@@ -8,12 +8,13 @@ use Rattle.std.proofs.Math.Bool.{or-false}
 use Rattle.std.proofs.lemmas.List.{append-nil}
 use Rattle.std.proofs.lemmas.List.Folds.{list_any-append}
 use Rattle.ec_terms.specs.declared.ids.PropId.{PropId}
+use Rattle.ec_numbered.specs.PropSet.{has_number}
 use Rattle.ec_store.specs.Table.{KeptProp, prop_at}
 use Rattle.ec_context.specs.declared.entry.Entry.{Entry}
 use Rattle.ec_context.specs.declared.entry.EntryLiteral.{EntryLiteral}
 use Rattle.ec_context.specs.Entries.{NamesAllNew, is_named, is_of}
-use Rattle.ec_context.specs.Widened.{AddsOnly, HasKept, is_among, without_props}
-use Rattle.ec_context.proofs.Tables.{is_among-push, prop_at-without_props, without_props-none}
+use Rattle.ec_context.specs.Widened.{AddsOnly, HasKept, without_props}
+use Rattle.ec_context.proofs.Tables.{has_number-push, prop_at-without_props, without_props-none}
 
 or_three : (a b c d : Bool) → (b ≡ true → (a || c) ≡ true) → (b || d) ≡ true → (a || (c || d)) ≡ true
 or_three a true c d first second = let e = first refl in grind arith
@@ -21,20 +22,20 @@ or_three a false c d first second = grind arith
 
 -- nothing is new where the list is the same
 pub AddsOnly-same : (test : ℕ → Bool) (before after : List PropId) → after ≡ before → AddsOnly test before after
-AddsOnly-same test before after same id there = or_left (is_among id before) (test id) (ap (is_among id) (sym same) ∙ there)
+AddsOnly-same test before after same id there = or_left (has_number id before) (test id) (ap (has_number id) (sym same) ∙ there)
 
 -- one number more
 pub AddsOnly-push : (before after : List PropId) (p : PropId) → after ≡ before ++ p ∷ [] → AddsOnly (λ id. p.0 == id) before after
-AddsOnly-push before after p is id there = sym (is_among-push id before p) ∙ ap (is_among id) (sym is) ∙ there
+AddsOnly-push before after p is id there = sym (has_number-push id before p) ∙ ap (has_number id) (sym is) ∙ there
 
 -- and then others
 pub AddsOnly-then : (test next : ℕ → Bool) (first second third : List PropId) → AddsOnly test first second → AddsOnly next second third →
     AddsOnly (λ id. test id || next id) first third
-AddsOnly-then test next first second third before after id there = or_three (is_among id first) (is_among id second) (test id) (next id) (before id) (after id there)
+AddsOnly-then test next first second third before after id there = or_three (has_number id first) (has_number id second) (test id) (next id) (before id) (after id there)
 
 -- the same test in other words
 AddsOnly-by : (test other : ℕ → Bool) (before after : List PropId) → ((id : ℕ) → test id ≡ other id) → AddsOnly test before after → AddsOnly other before after
-AddsOnly-by test other before after same adds id there = ap (λ b. is_among id before || b) (sym (same id)) ∙ adds id there
+AddsOnly-by test other before after same adds id there = ap (λ b. has_number id before || b) (sym (same id)) ∙ adds id there
 
 -- a literal more
 pub AddsOnly-literal : (first second third : List PropId) (literals more : List EntryLiteral) (literal : EntryLiteral) → more ≡ literals ++ literal ∷ [] →
@@ -76,9 +77,9 @@ pub names_all_new : (before after : List KeptProp) (none added : List PropId) (e
     AddsOnly (λ id. list_any (is_named id) entries) none added → NamesAllNew before after entries
 names_all_new before after none added entries empty has adds id absent there =
     ⊎_elim
-    (λ among. ap (λ ps. is_among id ps || list_any (is_named id) entries) (sym empty) ∙ adds id among)
+    (λ among. ap (λ ps. has_number id ps || list_any (is_named id) entries) (sym empty) ∙ adds id among)
     (λ other. let gone : is_some (prop_at id after) ≡ false =
     ap is_some
     (sym (prop_at-without_props added id after other) ∙ ap (prop_at id) (has.back ∙ ap (λ ps. without_props ps before) empty ∙ without_props-none before) ∙ absent) in
     absurd (false≢true (sym gone ∙ there)))
-    (cases_Bool (is_among id added))
+    (cases_Bool (has_number id added))

@@ -12,12 +12,13 @@ use Rattle.ec_terms.specs.declared.ids.PropId.{PropId}
 use Rattle.ec_terms.specs.Term.{term_cmp, term_eq}
 use Rattle.ec_terms.proofs.OrderLemmas.{term_cmp-total}
 use Rattle.ec_rows.proofs.OrderedLemmas.{ascending-rest, with_member-front, with_member-later}
+use Rattle.ec_numbered.specs.PropSet.{has_number}
 use Rattle.ec_store.specs.Table.{KeptProp, prop_at, mentions_at, prop_of, prop_before, is_in_order, unmentioned, with_prop, without_prop}
 use Rattle.ec_store.proofs.PropLemmas.{by_term, term_eq-is_eq, prop_at-insert}
 use Rattle.ec_lists.proofs.Finds.{find-None_cons}
 use Rattle.ec_lists.proofs.Numbers.{eqb_comm}
 use Rattle.ec_lists.proofs.Options.{None-from_option_map}
-use Rattle.ec_context.specs.Widened.{is_among, without_props}
+use Rattle.ec_context.specs.Widened.{without_props}
 use Rattle.ec_lists.proofs.Filters.{filter-all}
 
 -- ---- what is not there
@@ -95,8 +96,8 @@ module _ (id : ℕ) (term : Ground) (ks : List KeptProp) (ordered : is_in_order 
 -- ---- without the properties of some numbers
 
 -- a number among others and one more
-pub is_among-push : (id : ℕ) (props : List PropId) (p : PropId) → is_among id (props ++ p ∷ []) ≡ (is_among id props || (p.0 == id))
-is_among-push id props p = list_any-append (λ (q : PropId). q.0 == id) props (p ∷ []) ∙ grind arith
+pub has_number-push : (id : ℕ) (props : List PropId) (p : PropId) → has_number id (props ++ p ∷ []) ≡ (has_number id props || (p.0 == id))
+has_number-push id props p = list_any-append (λ (q : PropId). q.0 == id) props (p ∷ []) ∙ grind arith
 
 -- without no number a table is as it is
 pub without_props-none : (ks : List KeptProp) → without_props [] ks ≡ ks
@@ -109,11 +110,11 @@ pub without_props-push : (props : List PropId) (p : PropId) (ks : List KeptProp)
 without_props-push props p [] = refl
 without_props-push props p (k ∷ ks) =
     let ih = without_props-push props p ks in
-    let both : is_among k.id (props ++ p ∷ []) ≡ (is_among k.id props || (k.id == p.0)) =
-    is_among-push k.id props p ∙ ap (λ b. is_among k.id props || b) (eqb_comm p.0 k.id) in
-    ap₂ (λ b js. cond (not b) (k ∷ js) js) both ih ∙ of (k.id == p.0) (is_among k.id props) refl refl
+    let both : has_number k.id (props ++ p ∷ []) ≡ (has_number k.id props || (k.id == p.0)) =
+    has_number-push k.id props p ∙ ap (λ b. has_number k.id props || b) (eqb_comm p.0 k.id) in
+    ap₂ (λ b js. cond (not b) (k ∷ js) js) both ih ∙ of (k.id == p.0) (has_number k.id props) refl refl
   where
-    of : (gone among : Bool) → (k.id == p.0) ≡ gone → is_among k.id props ≡ among →
+    of : (gone among : Bool) → (k.id == p.0) ≡ gone → has_number k.id props ≡ among →
         cond (not (among || gone)) (k ∷ without_props props (without_prop p.0 ks)) (without_props props (without_prop p.0 ks))
         ≡ without_props props (cond (not gone) (k ∷ without_prop p.0 ks) (without_prop p.0 ks))
     of true true is there = refl
@@ -122,14 +123,14 @@ without_props-push props p (k ∷ ks) =
     of false false is there = ap (λ b. cond (not b) (k ∷ without_props props (without_prop p.0 ks)) (without_props props (without_prop p.0 ks))) (sym there)
 
 -- another number finds what it found
-pub prop_at-without_props : (props : List PropId) (id : ℕ) (ks : List KeptProp) → is_among id props ≡ false → prop_at id (without_props props ks) ≡ prop_at id ks
+pub prop_at-without_props : (props : List PropId) (id : ℕ) (ks : List KeptProp) → has_number id props ≡ false → prop_at id (without_props props ks) ≡ prop_at id ks
 prop_at-without_props props id [] other = refl
 prop_at-without_props props id (k ∷ ks) other =
     let ih = prop_at-without_props props id ks other in
     ⊎_elim
     (λ gone. let apart : (k.id == id) ≡ false =
-    ⊎_elim (λ same. absurd (false≢true (sym other ∙ ap (λ n. is_among n props) (sym (eqb-true k.id id same)) ∙ gone))) (λ e. e) (cases_Bool (k.id == id)) in
+    ⊎_elim (λ same. absurd (false≢true (sym other ∙ ap (λ n. has_number n props) (sym (eqb-true k.id id same)) ∙ gone))) (λ e. e) (cases_Bool (k.id == id)) in
     ap (λ b. prop_at id (cond (not b) (k ∷ without_props props ks) (without_props props ks))) gone ∙ ih
     ∙ ap (λ b. cond b (Some k) (prop_at id ks)) (sym apart))
     (λ stays. ap (λ b. prop_at id (cond (not b) (k ∷ without_props props ks) (without_props props ks))) stays ∙ ap (λ o. cond (k.id == id) (Some k) o) ih)
-    (cases_Bool (is_among k.id props))
+    (cases_Bool (has_number k.id props))

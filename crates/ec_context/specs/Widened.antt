@@ -1,7 +1,7 @@
 -- What becomes of a table while terms are kept in it: what stays, which numbers are new, and how it is without them.
-use Rattle.std.specs.Prelude.{◌≡◌, ℕ, Bool, false, not, ◌||◌, ◌==◌, List, [], ◌∷◌, filter, Some, None, IsSome, IfSome, IsTrue}
-use Rattle.std.specs.List.{list_any}
+use Rattle.std.specs.Prelude.{◌≡◌, ℕ, Bool, false, not, ◌||◌, List, [], ◌∷◌, filter, Some, None, IsSome, IfSome, IsTrue}
 use Rattle.ec_terms.specs.declared.ids.PropId.{PropId}
+use Rattle.ec_numbered.specs.PropSet.{has_number}
 use Rattle.ec_store.specs.Table.{KeptProp, prop_at, mentions_at}
 
 -- the second table keeps all that the first keeps, under the same numbers, with the same terms and mentions
@@ -15,18 +15,14 @@ pub record IsWidened (before after : List KeptProp) : Type 0 where
 
 -- ---- new numbers
 
--- the number is one of these
-abbrev pub is_among : ℕ → List PropId → Bool
-is_among id props = list_any (λ p. p.0 == id) props
-
 -- the table without the properties of these numbers
 abbrev pub without_props : List PropId → List KeptProp → List KeptProp
-without_props props table = filter (λ kept. not (is_among kept.id props)) table
+without_props props table = filter (λ kept. not (has_number kept.id props)) table
 
 -- the numbers are distinct, and the table keeps a property under each that nothing mentions
 unfoldable pub AreUnmentioned : List PropId → List KeptProp → Type 0
 AreUnmentioned [] table = Unit {0}
-AreUnmentioned (p ∷ props) table = (mentions_at p.0 table ≡ Some 0) × ((is_among p.0 props ≡ false) × AreUnmentioned props table)
+AreUnmentioned (p ∷ props) table = (mentions_at p.0 table ≡ Some 0) × ((has_number p.0 props ≡ false) × AreUnmentioned props table)
 
 -- Terms are kept in a table that has some new numbers: the table keeps all that it kept, without the new numbers it is
 -- what it was without those of before, and the new numbers are distinct and unmentioned.
@@ -37,4 +33,4 @@ pub record HasKept (before : List KeptProp) (added_before : List PropId) (after 
 
 -- each number that is new now was new before, or passes the test
 abbrev pub AddsOnly : (ℕ → Bool) → List PropId → List PropId → Type 0
-AddsOnly test added_before added_after = (id : ℕ) → IsTrue (is_among id added_after) → IsTrue (is_among id added_before || test id)
+AddsOnly test added_before added_after = (id : ℕ) → IsTrue (has_number id added_after) → IsTrue (has_number id added_before || test id)

@@ -1,8 +1,8 @@
 -- How takings and appendings follow one another, and what a run of writes leaves.
-use Rattle.std.proofs.Common.{◌≡◌, ℕ, ◌≤◌, List, [], ◌++◌, take, drop, length, ◌-◌, Option, refl, sym, ◌∙◌, ap, subst, append_assoc, append-nil, take-append-drop, arith, ◌+◌, ◌+◌, Some}
+use Rattle.std.proofs.Common.{◌≡◌, ℕ, ◌≤◌, List, [], ◌++◌, take, drop, length, ◌-◌, Option, refl, sym, ◌∙◌, ap, subst, append_assoc, append-nil, take-append-drop, arith, ◌+◌, Some}
 use Rattle.std.proofs.lemmas.List.{take_rest, take_at, drop-drop, length-take-le, length-drop, take_all}
 use Rattle.std.proofs.Math.Seq.{take-add}
-use Rattle.ec_outside.specs.Streams.{Appended, AppendedPart, Kept, Took}
+use Rattle.ec_outside.specs.Streams.{Appended, AppendedPart, NothingAppended, Took}
 
 -- bytes taken, and then more
 pub Took-then : {a b c : Option (List ℕ)} {p q : List ℕ} → Took a b p → Took b c q → Took a c (p ++ q)
@@ -37,26 +37,26 @@ module _ {S : Type 0} {stands : S → List ℕ → Type 0} where
     follows = λ text stood. subst (λ (all : List ℕ). stands c all) (append_assoc text p q) (second.follows (text ++ p) (first.follows text stood));
   }
 
-  pub Appended-then-Kept : {a b c : S} {p : List ℕ} → Appended stands a b p → Kept stands b c → Appended stands a c p
-  Appended-then-Kept {p = p} first second = record { follows = λ text stood. second.same (text ++ p) (first.follows text stood) }
+  pub Appended-then-NothingAppended : {a b c : S} {p : List ℕ} → Appended stands a b p → NothingAppended stands b c → Appended stands a c p
+  Appended-then-NothingAppended {p = p} first second = record { follows = λ text stood. second.same (text ++ p) (first.follows text stood) }
 
-  pub Kept-then-Appended : {a b c : S} {p : List ℕ} → Kept stands a b → Appended stands b c p → Appended stands a c p
-  Kept-then-Appended first second = record { follows = λ text stood. second.follows text (first.same text stood) }
+  pub NothingAppended-then-Appended : {a b c : S} {p : List ℕ} → NothingAppended stands a b → Appended stands b c p → Appended stands a c p
+  NothingAppended-then-Appended first second = record { follows = λ text stood. second.follows text (first.same text stood) }
 
-  pub Kept-then : {a b c : S} → Kept stands a b → Kept stands b c → Kept stands a c
-  Kept-then first second = record { same = λ text stood. second.same text (first.same text stood) }
+  pub NothingAppended-then : {a b c : S} → NothingAppended stands a b → NothingAppended stands b c → NothingAppended stands a c
+  NothingAppended-then first second = record { same = λ text stood. second.same text (first.same text stood) }
 
-  pub Kept-refl : (a : S) → Kept stands a a
-  Kept-refl a = record { same = λ text stood. stood }
+  pub NothingAppended-refl : (a : S) → NothingAppended stands a a
+  NothingAppended-refl a = record { same = λ text stood. stood }
 
   -- what is kept has nothing appended, and the other way round
-  pub Appended-nil : {a b : S} → Kept stands a b → Appended stands a b []
+  pub Appended-nil : {a b : S} → NothingAppended stands a b → Appended stands a b []
   Appended-nil {b = b} kept = record {
     follows = λ text stood. subst (λ (all : List ℕ). stands b all) (sym (append-nil text)) (kept.same text stood);
   }
 
-  pub Kept-nil : {a b : S} → Appended stands a b [] → Kept stands a b
-  Kept-nil {b = b} appended = record {
+  pub NothingAppended-nil : {a b : S} → Appended stands a b [] → NothingAppended stands a b
+  NothingAppended-nil {b = b} appended = record {
     same = λ text stood. subst (λ (all : List ℕ). stands b all) (append-nil text) (appended.follows text stood);
   }
 
@@ -64,7 +64,7 @@ module _ {S : Type 0} {stands : S → List ℕ → Type 0} where
   pub AppendedPart-all : {a b : S} {p : List ℕ} → Appended stands a b p → AppendedPart stands a b p
   AppendedPart-all {p = p} appended = record { part = p; missing = []; whole = sym (append-nil p); appended = appended }
 
-  pub AppendedPart-none : {a b : S} (p : List ℕ) → Kept stands a b → AppendedPart stands a b p
+  pub AppendedPart-none : {a b : S} (p : List ℕ) → NothingAppended stands a b → AppendedPart stands a b p
   AppendedPart-none p kept = record { part = []; missing = p; whole = refl; appended = Appended-nil kept }
 
   -- bytes appended, and then a part of more
@@ -85,12 +85,12 @@ module _ {S : Type 0} {stands : S → List ℕ → Type 0} where
     appended = some.appended;
   }
 
-  pub AppendedPart-then-Kept : {a b c : S} {p : List ℕ} → AppendedPart stands a b p → Kept stands b c → AppendedPart stands a c p
-  AppendedPart-then-Kept some kept = record {
+  pub AppendedPart-then-NothingAppended : {a b c : S} {p : List ℕ} → AppendedPart stands a b p → NothingAppended stands b c → AppendedPart stands a c p
+  AppendedPart-then-NothingAppended some kept = record {
     part = some.part;
     missing = some.missing;
     whole = some.whole;
-    appended = Appended-then-Kept some.appended kept;
+    appended = Appended-then-NothingAppended some.appended kept;
   }
 
 -- the first of the bytes have been appended, as many as the count says, and no fault was counted

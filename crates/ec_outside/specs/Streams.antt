@@ -14,7 +14,7 @@ pub record Appended {S : Type 0} (stands : S → List ℕ → Type 0) (before af
   pub follows : (text : List ℕ) → stands before text → stands after (text ++ bytes)
 
 -- the sink still stands for each list that it stood for before
-pub record Kept {S : Type 0} (stands : S → List ℕ → Type 0) (before after : S) : Type 0 where
+pub record NothingAppended {S : Type 0} (stands : S → List ℕ → Type 0) (before after : S) : Type 0 where
   pub same : (text : List ℕ) → stands before text → stands after text
 
 -- some first part of these bytes was appended, and nothing else

@@ -2,7 +2,7 @@ ghost use Rattle.std.specs.Prelude.{◌≡◌, ◌+◌, ◌≤◌, [], ◌++◌,
 ghost use Rattle.std.specs.Bool.{OnTrue, OnFalse};
 ghost use Rattle.ec_outside.specs.Counts.{Rose, last_count};
 ghost use Rattle.ec_outside.specs.BufferedState.{stands_with_waiting};
-ghost use Rattle.ec_outside.specs.Streams.{Appended, Kept};
+ghost use Rattle.ec_outside.specs.Streams.{Appended, NothingAppended};
 
 use crate::sink::{Sink, write_counted};
 use crate::source::Failed;
@@ -78,7 +78,7 @@ impl<K: Sink> Buffered<K> {
 
     /// Hands on all bytes that wait. Where that fails, those that were not handed on still wait.
     fn send(&mut self) -> Result<(), Failed>
-        ensures kept { Kept (stands_with_waiting K.stands) self.old self.new }
+        ensures kept { NothingAppended (stands_with_waiting K.stands) self.old self.new }
         ensures all { OnOk result (self.new.1 ≡ []) }
         ensures failed { OnErr result (Rose (K.faults self.old.0) (K.faults self.new.0)) }
         ensures quiet { OnOk result (K.faults self.new.0 ≡ K.faults self.old.0) }
@@ -116,7 +116,7 @@ impl<K: Sink> Sink for Buffered<K> {
     fn flush(&mut self) -> Result<(), Failed>
         // As for every sink.
         ensures handed_on { OnOk result (length self.new.1 + K.waiting self.new.0 ≡ 0) }
-        ensures kept { Kept (stands_with_waiting K.stands) self.old self.new }
+        ensures kept { NothingAppended (stands_with_waiting K.stands) self.old self.new }
         ensures failed { OnErr result (Rose (K.faults self.old.0) (K.faults self.new.0)) }
         ensures quiet { OnOk result (K.faults self.new.0 ≡ K.faults self.old.0) }
         ensures counted { K.faults self.old.0 ≤ K.faults self.new.0 }

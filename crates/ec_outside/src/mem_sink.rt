@@ -2,7 +2,7 @@ ghost use Rattle.std.specs.Prelude.{◌≡◌, ◌<◌, ◌≤◌, ◌↔◌, []
 ghost use Rattle.ec_outside.specs.Calls.{no_calls, next_fails, one_more};
 ghost use Rattle.ec_outside.specs.Counts.{Rose, last_count, next_count};
 ghost use Rattle.ec_outside.specs.SinkState.{stands_for, write_fails, taken_count};
-ghost use Rattle.ec_outside.specs.Streams.{Appended, Kept};
+ghost use Rattle.ec_outside.specs.Streams.{Appended, NothingAppended};
 
 use crate::calls::Calls;
 use crate::sink::Sink;
@@ -82,7 +82,7 @@ impl Sink for MemSink {
         ensures within { IfOk result (λ n. n ≤ length from.now) }
         ensures progress { IfOk result (λ n. 0 < length from.now → 0 < n) }
         ensures appended { IfOk result (λ n. Appended stands_for self.old self.new (take n from.now)) }
-        ensures kept { OnErr result (Kept stands_for self.old self.new) }
+        ensures kept { OnErr result (NothingAppended stands_for self.old self.new) }
         ensures failed { OnErr result (Rose self.old.faults self.new.faults) }
         ensures quiet { OnOk result (self.new.faults ≡ self.old.faults) }
         ensures counted { self.old.faults ≤ self.new.faults }
@@ -115,7 +115,7 @@ impl Sink for MemSink {
 
     fn flush(&mut self) -> Result<(), Failed>
         // As for every sink.
-        ensures kept { Kept stands_for self.old self.new }
+        ensures kept { NothingAppended stands_for self.old self.new }
         ensures failed { OnErr result (Rose self.old.faults self.new.faults) }
         ensures quiet { OnOk result (self.new.faults ≡ self.old.faults) }
         ensures counted { self.old.faults ≤ self.new.faults }

@@ -1,6 +1,6 @@
 ghost use Rattle.std.specs.Prelude.{◌≡◌, ℕ, ◌<◌, ◌≤◌, List, length, take, IfOk, OnOk, OnErr};
 ghost use Rattle.ec_outside.specs.Counts.{Rose, last_count};
-ghost use Rattle.ec_outside.specs.Streams.{Appended, AppendedPart, Kept};
+ghost use Rattle.ec_outside.specs.Streams.{Appended, AppendedPart, NothingAppended};
 
 use crate::source::Failed;
 
@@ -21,7 +21,7 @@ pub trait Sink {
         ensures within { IfOk result (λ n. n ≤ length from.now) }
         ensures progress { IfOk result (λ n. 0 < length from.now → 0 < n) }
         ensures appended { IfOk result (λ n. Appended stands self.old self.new (take n from.now)) }
-        ensures kept { OnErr result (Kept stands self.old self.new) }
+        ensures kept { OnErr result (NothingAppended stands self.old self.new) }
         ensures failed { OnErr result (Rose (faults self.old) (faults self.new)) }
         ensures quiet { OnOk result (faults self.new ≡ faults self.old) }
         ensures counted { faults self.old ≤ faults self.new }
@@ -30,7 +30,7 @@ pub trait Sink {
     /// Hands on what the sink still holds back.
     fn flush(&mut self) -> Result<(), Failed>
         ensures handed_on { OnOk result (waiting self.new ≡ 0) }
-        ensures kept { Kept stands self.old self.new }
+        ensures kept { NothingAppended stands self.old self.new }
         ensures failed { OnErr result (Rose (faults self.old) (faults self.new)) }
         ensures quiet { OnOk result (faults self.new ≡ faults self.old) }
         ensures counted { faults self.old ≤ faults self.new }

@@ -11,7 +11,7 @@ use Rattle.ec_exclusive.specs.Added.{added_props}
 use Rattle.ec_numbered.specs.PropSet.{are_ascending}
 use Rattle.ec_store.specs.Table.{KeptProp, prop_at, mentions_at, without_prop}
 use Rattle.ec_store.proofs.PropLemmas.{prop_at-without_other, prop_at-without_itself}
-use Rattle.ec_parts.specs.Adoption.{without_waiting, StandForSome, KeepStanding, HasJoined, HasStayed, HasEntered}
+use Rattle.ec_parts.specs.Adoption.{without_waiting, StandForSomeBoth, KeepStanding, HasJoined, HasStayed, HasEntered}
 use Rattle.ec_parts.specs.StandFor.{View, StandForBoth}
 use Rattle.ec_parts.proofs.Entered.{HasEntered-none}
 use Rattle.ec_parts.proofs.LinksByNumber.{IsOneToOne}
@@ -39,13 +39,13 @@ pub record AreAdopted {T : Type 0} (rank : T → ℤ) (theory : Theory) (waiting
   pub table : view.table ≡ start.table
   pub store : view.store ≡ start.store
   pub unmentioned : AreUnmentioned rest view.table
-  pub some : StandForSome rank theory (without_waiting rest view)
+  pub some : StandForSomeBoth rank theory (without_waiting rest view)
   pub both : KeepStanding rank theory (without_waiting waiting start) (without_waiting rest view)
   pub entered : HasEntered (without_props waiting start.table) first (without_props rest view.table) fresh
 
 module _ {T : Type 0} (rank : T → ℤ) (theory : Theory) (waiting : List PropId) (start : View T) (first : List PropId) where
   -- none has joined
-  pub AreAdopted-none : AreUnmentioned waiting start.table → StandForSome rank theory (without_waiting waiting start) → AreAdopted rank theory waiting start first waiting start first
+  pub AreAdopted-none : AreUnmentioned waiting start.table → StandForSomeBoth rank theory (without_waiting waiting start) → AreAdopted rank theory waiting start first waiting start first
   AreAdopted-none unmentioned some = record {
     table = refl;
     store = refl;

@@ -5,7 +5,7 @@ use Rattle.std.specs.List.{list_any, IsDistinct, cons_option}
 use Rattle.std.specs.Option.{option_map_or}
 use Rattle.std.proofs.lemmas.List.{get_or_default}
 use Rattle.std.proofs.lemmas.List.Elements.{All-contains}
-use Rattle.ec_context.specs.Widened.{is_among, without_props}
+use Rattle.ec_context.specs.Widened.{without_props}
 use Rattle.ec_context.proofs.Tables.{prop_at-without_props}
 use Rattle.ec_rows.proofs.OrderedLemmas.{is_ascending-filter}
 use Rattle.std.proofs.lemmas.Bool.{cases_Bool, false≢true, false_from_ne_true, eqb-true, eq-eqb, not-true, ltb-true}
@@ -94,10 +94,10 @@ IsDistinct-terms_of table ps one ascend = IsDistinct-from_pairwise term_eq (term
 -- a table without the properties of some numbers has each term under one number
 pub IsOneToOne-without_props : (props : List PropId) (table : List KeptProp) → IsOneToOne table → IsOneToOne (without_props props table)
 IsOneToOne-without_props props table one = record {
-  in_order = is_ascending-filter prop_before (λ (kept : KeptProp). not (is_among kept.id props)) table one.in_order;
+  in_order = is_ascending-filter prop_before (λ (kept : KeptProp). not (has_number kept.id props)) table one.in_order;
   numbers = λ k d below.
       let x = get_or (without_props props table) k d in
-      let parts = IsMember-from_filter (λ (kept : KeptProp). not (is_among kept.id props)) table x (IsMember_at (without_props props table) x k below (get_or_default (without_props props table) k x d below)) in
+      let parts = IsMember-from_filter (λ (kept : KeptProp). not (has_number kept.id props)) table x (IsMember_at (without_props props table) x k below (get_or_default (without_props props table) k x d below)) in
       prop_at-without_props props x.id table (not-true _ parts.1) ∙ All-contains (λ (kept : KeptProp). prop_at kept.id table ≡ Some kept) table x one.numbers (Contains-from_member table x parts.0);
 }
 

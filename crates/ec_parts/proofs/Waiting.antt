@@ -14,9 +14,9 @@ use Rattle.ec_axioms.specs.Links.{mentions_of}
 use Rattle.ec_axioms.specs.Marks.{PlainMark, marks_of, mark_initiates}
 use Rattle.ec_axioms.proofs.Members.{IsMember, IsMember_at, IsMember-map, IsMember-from_map, IsMember-from_filter, IsMember-append_cases, filter_agree, find-Some, member-list_any}
 use Rattle.ec_changes.proofs.LiveMarks.{MarksAreSmall-law}
-use Rattle.ec_context.specs.Widened.{AreUnmentioned, is_among, without_props}
+use Rattle.ec_context.specs.Widened.{AreUnmentioned, without_props}
 use Rattle.ec_context.proofs.Keepings.{unmentioned-last}
-use Rattle.ec_context.proofs.Tables.{is_among-push, prop_at-without_props, without_props-push}
+use Rattle.ec_context.proofs.Tables.{has_number-push, prop_at-without_props, without_props-push}
 use Rattle.ec_store.specs.Table.{KeptProp, prop_at, term_at, mentions_at, without_prop}
 use Rattle.ec_numbered.specs.PropSet.{has_number, with_number, are_ascending}
 use Rattle.ec_numbered.proofs.Numbers.{itself, are_ascending-with_number}
@@ -26,7 +26,7 @@ use Rattle.ec_exclusive.proofs.SameTerms.{read_terms_alone}
 use Rattle.ec_points.specs.Table.{marks_at}
 use Rattle.ec_rows.specs.declared.mark.Mark.{Mark}
 use Rattle.ec_rows.specs.PlainMarks.{plain_mark, plain_marks}
-use Rattle.ec_parts.specs.Adoption.{without_waiting, StandForSome, neighbours_with, MayJoin, HasJoined, HasStayed}
+use Rattle.ec_parts.specs.Adoption.{without_waiting, StandForSomeBoth, neighbours_with, MayJoin, HasJoined, HasStayed}
 use Rattle.ec_parts.specs.Caches.{AreInitialsOf, initiations_of_mark}
 use Rattle.ec_parts.specs.Gathered.{AreGathered, initiations_at, marks_under}
 use Rattle.ec_parts.specs.StandFor.{View, StandForBoth}
@@ -39,13 +39,13 @@ use Rattle.ec_parts.proofs.OneMore.{IsNew, IsOneToOne-without_props, StandForBot
 
 -- without the last number too
 pub without_last : (items : List PropId) (p : PropId) (table : List KeptProp) → without_props (items ++ p ∷ []) table ≡ without_prop p.0 (without_props items table)
-without_last items p table = without_props-push items p table ∙ filter_comm (λ (kept : KeptProp). not (is_among kept.id items)) (λ (kept : KeptProp). not (kept.id == p.0)) table
+without_last items p table = without_props-push items p table ∙ filter_comm (λ (kept : KeptProp). not (has_number kept.id items)) (λ (kept : KeptProp). not (kept.id == p.0)) table
 
 -- the last number is none of the others
-pub last-apart : (items : List PropId) (p : PropId) (table : List KeptProp) → AreUnmentioned (items ++ p ∷ []) table → is_among p.0 items ≡ false
+pub last-apart : (items : List PropId) (p : PropId) (table : List KeptProp) → AreUnmentioned (items ++ p ∷ []) table → has_number p.0 items ≡ false
 unfolding AreUnmentioned
 last-apart [] p table all = refl
-last-apart (q ∷ items) p table all = let rest = last-apart items p table all.1.1 in let apart = sym (is_among-push q.0 items p) ∙ all.1.0 in neither (is_among q.0 items) q.0 p.0 (is_among p.0 items) apart rest
+last-apart (q ∷ items) p table all = let rest = last-apart items p table all.1.1 in let apart = sym (has_number-push q.0 items p) ∙ all.1.0 in neither (has_number q.0 items) q.0 p.0 (has_number p.0 items) apart rest
   where
     neither : (b : Bool) (m n : ℕ) (c : Bool) → (b || (n == m)) ≡ false → c ≡ false → ((m == n) || c) ≡ false
     neither b m n c h k = grind arith
@@ -55,8 +55,8 @@ kept_same : (items : List PropId) (table : List KeptProp) (id : ℕ) → IsSome 
 kept_same items table id there =
     let k = Some-from_is_some (prop_at id (without_props items table)) there in
     let found = find-Some (λ (kept : KeptProp). kept.id == id) (without_props items table) k.0 k.1 in
-    let stays = (IsMember-from_filter (λ (kept : KeptProp). not (is_among kept.id items)) table k.0 found.0).1 in
-    sym (prop_at-without_props items id table (ap (λ n. is_among n items) (sym (eqb-true k.0.id id found.1)) ∙ not-true _ stays))
+    let stays = (IsMember-from_filter (λ (kept : KeptProp). not (has_number kept.id items)) table k.0 found.0).1 in
+    sym (prop_at-without_props items id table (ap (λ n. has_number n items) (sym (eqb-true k.0.id id found.1)) ∙ not-true _ stays))
 
 term_same : (items : List PropId) (table : List KeptProp) (id : ℕ) → IsSome (prop_at id (without_props items table)) → term_at id table ≡ term_at id (without_props items table)
 term_same items table id there = ap (option_map (λ (k : KeptProp). k.term)) (kept_same items table id there)
@@ -133,7 +133,7 @@ module _ {T : Type 0} (rank : T → ℤ) (theory : Theory) (items : List PropId)
         ap₂ (both_exclusive theory) (ap (option_map (λ (k : KeptProp). k.term)) (sym same_own)) (term_same items old.table q.0 (sym (added_after q) ∙ number_there added_then q member)))
 
   -- it may join the other parts
-  pub MayJoin-waiting : StandForSome rank theory (without_waiting (items ++ p ∷ []) old) → MayJoin rank theory p old
+  pub MayJoin-waiting : StandForSomeBoth rank theory (without_waiting (items ++ p ∷ []) old) → MayJoin rank theory p old
   MayJoin-waiting some = record {
     kept = is_kept;
     absent = some.stand.tables.added.added p ∙ ap is_some none_before;

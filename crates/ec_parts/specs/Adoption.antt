@@ -24,7 +24,7 @@ abbrev pub without_waiting : {T : Type 0} → List PropId → View T → View T
 without_waiting waiting view = record view { table = without_props waiting view.table }
 
 -- parts stand for some two lists, the present one of which has few mentions
-pub record StandForSome {T : Type 0} (rank : T → ℤ) (theory : Theory) (view : View T) : Type 0 where
+pub record StandForSomeBoth {T : Type 0} (rank : T → ℤ) (theory : Theory) (view : View T) : Type 0 where
   pub now : List PlainEvent
   pub soon : List PlainEvent
   pub tally : Tally

@@ -1,7 +1,7 @@
 //! Properties that the table keeps newly join the other parts.
 ghost use Rattle.std.specs.Prelude.{◌≡◌, ◌++◌, ◌∷◌, [], OnOk, OnErr};
 ghost use Rattle.ec_context.specs.Widened.{AreUnmentioned, without_props};
-ghost use Rattle.ec_parts.specs.Adoption.{HasEntered, HasJoined, HasStayed, KeepStanding, MayJoin, StandForSome, without_waiting};
+ghost use Rattle.ec_parts.specs.Adoption.{HasEntered, HasJoined, HasStayed, KeepStanding, MayJoin, StandForSomeBoth, without_waiting};
 ghost use Rattle.ec_parts.specs.StandFor.{view_of};
 
 use crate::gathering::gather;
@@ -52,7 +52,7 @@ pub(crate) fn adopt<T: Moment, M: MarkRow<T>, I: SpanRow<T>, X: TimeRow<T>>(
     fresh: &mut Vec<PropId>,
 ) -> Result<(), NoMemory>
     requires unmentioned { AreUnmentioned waiting.old.items parts.old.props }
-    requires stand { StandForSome T.rank parts.old.checked (without_waiting waiting.old.items (view_of parts.old)) }
+    requires stand { StandForSomeBoth T.rank parts.old.checked (without_waiting waiting.old.items (view_of parts.old)) }
     ensures both { KeepStanding T.rank parts.old.checked (without_waiting waiting.old.items (view_of parts.old)) (view_of parts.new) }
     ensures entered { HasEntered (without_props waiting.old.items parts.old.props) fresh.old.items parts.new.props fresh.new.items }
     ensures table { OnOk result (parts.new.props ≡ parts.old.props) }

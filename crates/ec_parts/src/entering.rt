@@ -5,7 +5,7 @@ ghost use Rattle.ec_context.specs.Entries.{shown_entries, IsKeptEntry};
 ghost use Rattle.ec_context.specs.Widened.{IsWidened};
 ghost use Rattle.ec_numbered.specs.PropSet.{has_number};
 ghost use Rattle.ec_store.specs.Table.{prop_at};
-ghost use Rattle.ec_parts.specs.Adoption.{HasEntered, KeepStanding, StandForSome};
+ghost use Rattle.ec_parts.specs.Adoption.{HasEntered, KeepStanding, StandForSomeBoth};
 ghost use Rattle.ec_parts.specs.StandFor.{view_of};
 
 use crate::adopting::adopt;
@@ -27,7 +27,7 @@ pub fn enter<T: Moment, M: MarkRow<T>, I: SpanRow<T>, X: TimeRow<T>>(
     event: &Event<T>,
     fresh: &mut Vec<PropId>,
 ) -> Result<EntryList, NoMemory>
-    requires stand { StandForSome T.rank parts.old.checked (view_of parts.old) }
+    requires stand { StandForSomeBoth T.rank parts.old.checked (view_of parts.old) }
     ensures entries { IfOk result (λ list. shown_entries parts.new.props list ≡ Some (all_entries parts.old.checked event.now.term)) }
     ensures kept { IfOk result (λ list. All (IsKeptEntry parts.new.props) list) }
     ensures both { KeepStanding T.rank parts.old.checked (view_of parts.old) (view_of parts.new) }

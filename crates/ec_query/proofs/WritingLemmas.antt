@@ -6,7 +6,7 @@ use Rattle.ec_lists.proofs.Fronts.{drop-slice_get}
 use Rattle.ec_lists.proofs.Results.{OnErr-anyway}
 use Rattle.ec_outside.specs.Counts.{Rose}
 use Rattle.ec_outside.specs.Streams.{Appended, AppendedPart}
-use Rattle.ec_outside.proofs.Streams.{Appended-nil, Appended-then, Appended-then-part, AppendedPart-longer, Kept-refl}
+use Rattle.ec_outside.proofs.Streams.{Appended-nil, Appended-then, Appended-then-part, AppendedPart-longer, NothingAppended-refl}
 use Rattle.ec_axioms.specs.QueryTexts.{Canon, counted_text, interval_text}
 use Rattle.ec_rows.specs.declared.span.End.{End}
 use Rattle.ec_rows.specs.declared.span.Span.{Span}
@@ -25,7 +25,7 @@ pub record IsLeft {S : Type 0} (stands : S → List ℕ → Type 0) (faults : S 
 module _ {S : Type 0} {stands : S → List ℕ → Type 0} {faults : S → ℕ} where
   -- at first all is
   pub IsLeft-start : (sink : S) (whole rest : List ℕ) → whole ≡ rest → IsLeft stands faults sink sink whole rest
-  IsLeft-start sink whole rest same = record { done = []; split = same; appended = Appended-nil (Kept-refl sink); quiet = refl }
+  IsLeft-start sink whole rest same = record { done = []; split = same; appended = Appended-nil (NothingAppended-refl sink); quiet = refl }
 
   -- a part was written
   pub IsLeft-next : {before now after : S} {whole rest : List ℕ} (bytes more : List ℕ) → IsLeft stands faults before now whole rest → rest ≡ bytes ++ more

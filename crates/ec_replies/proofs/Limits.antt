@@ -29,7 +29,7 @@ use Rattle.ec_replies.specs.Updates.{updated, updated_from, asserted, retracted,
 use Rattle.ec_replies.specs.Replies.{Language, Reply, session_of, revised}
 use Rattle.ec_replies.specs.Runs.{Step, Run, RunsOn, is_quit}
 use Rattle.ec_replies.specs.Laws.{line_command, line_prefix}
-use Rattle.ec_replies.specs.RunLaws.{IsListWithinLimits, IsWithinLimits, RunsStayWithinLimits, held_count}
+use Rattle.ec_replies.specs.RunLaws.{IsListWithinLimits, IsStateWithinLimits, RunsStayWithinLimits, held_count}
 use Rattle.ec_replies.proofs.Drafts.{draft_of-empty_state}
 use Rattle.ec_replies.proofs.Outcomes.{Outcome, is_kept, is_updated, is_held, is_begun, is_committed, is_dropped, LineOutcome, step_outcome}
 
@@ -164,22 +164,22 @@ held_count-set drafts own session draft all small = by_same (eqb own session) re
         subst (λ (d : Draft). held_count d ≤ MOST_DRAFTED) (sym (get_or-set_other drafts own session draft None (eqb-apart own session other))) (all session)
 
 -- another draft, and another list
-with_draft-within : (theory : Theory) (session : ℕ) (draft : Draft) (state : State) → held_count draft ≤ MOST_DRAFTED → IsWithinLimits theory state
-    → IsWithinLimits theory (with_draft session draft state)
+with_draft-within : (theory : Theory) (session : ℕ) (draft : Draft) (state : State) → held_count draft ≤ MOST_DRAFTED → IsStateWithinLimits theory state
+    → IsStateWithinLimits theory (with_draft session draft state)
 with_draft-within theory session draft state small within = record {
   list = within.list;
   sessions = length-set state.drafts session draft ∙ within.sessions;
   drafts = λ k. held_count-set state.drafts session k draft within.drafts small;
 }
 
-revised-within : (theory : Theory) (state : State) (events : List PlainEvent) → IsListWithinLimits theory events → IsWithinLimits theory state
-    → IsWithinLimits theory (revised theory state events)
+revised-within : (theory : Theory) (state : State) (events : List PlainEvent) → IsListWithinLimits theory events → IsStateWithinLimits theory state
+    → IsStateWithinLimits theory (revised theory state events)
 revised-within theory state events list within = record { list = list; sessions = within.sessions; drafts = within.drafts }
 
 -- ---- steps and runs
 
-Outcome-within : (theory : Theory) (prefix : Option ℕ) (session : ℕ) (state : State) (command : PlainCommand) (reply : Reply) → IsWithinLimits theory state
-    → Outcome theory prefix session state command reply → IsWithinLimits theory reply.after
+Outcome-within : (theory : Theory) (prefix : Option ℕ) (session : ℕ) (state : State) (command : PlainCommand) (reply : Reply) → IsStateWithinLimits theory state
+    → Outcome theory prefix session state command reply → IsStateWithinLimits theory reply.after
 Outcome-within theory prefix session state command reply within (is_kept text) = within
 Outcome-within theory prefix session state command reply within (is_updated update events changes closed is) =
     revised-within theory state events (updated-within theory state.events events update within.list is) within
@@ -191,30 +191,30 @@ Outcome-within theory prefix session state command reply within (is_committed he
     (revised-within theory state events (updated_from-within theory 1 state.events events held within.list is) within)
 Outcome-within theory prefix session state command reply within (is_dropped held opened) = with_draft-within theory session None state (omega arith) within
 
-step-within : (language : Language) (state after : State) (line text : List ℕ) → IsWithinLimits language.theory state → Step language state line text after
-    → IsWithinLimits language.theory after
+step-within : (language : Language) (state after : State) (line text : List ℕ) → IsStateWithinLimits language.theory state → Step language state line text after
+    → IsStateWithinLimits language.theory after
 step-within language state after line text within step = by_length (step_outcome language state after line text step)
   where
-    by_length : ((is_long line ≡ true) × (after ≡ state)) ⊎ ((is_long line ≡ false) × LineOutcome language state line text after) → IsWithinLimits language.theory after
-    by_length (inl long) = subst (IsWithinLimits language.theory) (sym long.1) within
+    by_length : ((is_long line ≡ true) × (after ≡ state)) ⊎ ((is_long line ≡ false) × LineOutcome language state line text after) → IsStateWithinLimits language.theory after
+    by_length (inl long) = subst (IsStateWithinLimits language.theory) (sym long.1) within
     by_length (inr short) =
         Outcome-within language.theory (line_prefix language line) (session_of (parsed_of language.spelt line)) state (line_command language line)
         (record { text = text; after = after }) within short.1
 
-run-within : (language : Language) (state after : State) (lines : List (List ℕ)) (out : List ℕ) → IsWithinLimits language.theory state
-    → Run language state lines out after → IsWithinLimits language.theory after
-run-within language state after [] out within run = subst (IsWithinLimits language.theory) (sym run.1) within
+run-within : (language : Language) (state after : State) (lines : List (List ℕ)) (out : List ℕ) → IsStateWithinLimits language.theory state
+    → Run language state lines out after → IsStateWithinLimits language.theory after
+run-within language state after [] out within run = subst (IsStateWithinLimits language.theory) (sym run.1) within
 run-within language state after (line ∷ lines) out within run =
     by_quit (is_quit language line) run.3 (step-within language state run.1 line run.0 within run.2) (λ rest small. run-within language run.1 after lines rest small)
   where
-    by_quit : (quits : Bool) → RunsOn quits run.0 run.1 out after (λ rest. Run language run.1 lines rest after) → IsWithinLimits language.theory run.1
-        → ((rest : List ℕ) → IsWithinLimits language.theory run.1 → Run language run.1 lines rest after → IsWithinLimits language.theory after)
-        → IsWithinLimits language.theory after
-    by_quit true on small later = subst (IsWithinLimits language.theory) (sym on.1) small
+    by_quit : (quits : Bool) → RunsOn quits run.0 run.1 out after (λ rest. Run language run.1 lines rest after) → IsStateWithinLimits language.theory run.1
+        → ((rest : List ℕ) → IsStateWithinLimits language.theory run.1 → Run language run.1 lines rest after → IsStateWithinLimits language.theory after)
+        → IsStateWithinLimits language.theory after
+    by_quit true on small later = subst (IsStateWithinLimits language.theory) (sym on.1) small
     by_quit false on small later = later on.0 small on.2
 
 -- before the first line
-empty_state-within : (theory : Theory) → IsWithinLimits theory empty_state
+empty_state-within : (theory : Theory) → IsStateWithinLimits theory empty_state
 unfolding empty_state is_history mentions_of link_count
 empty_state-within theory = record {
   list = record { history = refl; few_events = omega arith; few_mentions = omega arith; few_links = omega arith };

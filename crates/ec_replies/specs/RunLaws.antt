@@ -38,7 +38,7 @@ pub record IsListWithinLimits (theory : Theory) (events : List PlainEvent) : Typ
   pub few_links : link_count theory events ≤ most_links
 
 -- and there is a draft for each session, with no more updates than it may hold
-pub record IsWithinLimits (theory : Theory) (state : State) : Type 0 where
+pub record IsStateWithinLimits (theory : Theory) (state : State) : Type 0 where
   pub list : IsListWithinLimits theory state.events
   pub sessions : length state.drafts ≡ SESSIONS
   pub drafts : (session : ℕ) → held_count (draft_of session state) ≤ MOST_DRAFTED
@@ -47,7 +47,7 @@ pub record IsWithinLimits (theory : Theory) (state : State) : Type 0 where
 abbrev pub RunsStayWithinLimits : Type 0
 RunsStayWithinLimits =
     (language : Language) (lines : List (List ℕ)) (out : List ℕ) (after : State) → Run language empty_state lines out after
-    → IsWithinLimits language.theory after
+    → IsStateWithinLimits language.theory after
 
 -- ---- memory
 

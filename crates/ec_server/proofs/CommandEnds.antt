@@ -3,8 +3,8 @@ use Rattle.std.proofs.Common.{◌≡◌, ◌⊎◌, ℕ, List, Option, Some, IsS
 use Rattle.ec_terms.specs.declared.theory.Theory.{Theory}
 use Rattle.ec_outside.specs.Counts.{Rose}
 use Rattle.ec_outside.proofs.Counts.{Rose-earlier}
-use Rattle.ec_outside.specs.Streams.{Appended, Kept}
-use Rattle.ec_outside.proofs.Streams.{Appended-then-Kept, AppendedPart-all, AppendedPart-then-Kept}
+use Rattle.ec_outside.specs.Streams.{Appended, NothingAppended}
+use Rattle.ec_outside.proofs.Streams.{Appended-then-NothingAppended, AppendedPart-all, AppendedPart-then-NothingAppended}
 use Rattle.ec_outside.specs.Files.{Files, HasFile, IsMissing, IsTooLong}
 use Rattle.ec_server.specs.declared.status.Status.{Status}
 use Rattle.ec_server.specs.declared.status.Status.TheVariants as status
@@ -103,15 +103,15 @@ module _ {K : Type 0} (stands : K → List ℕ → Type 0) (faults : K → ℕ) 
   no_line s input_status says = absurd input_status
 
   -- a line that was written is handed on, or the sink fails then
-  pub line_handed_on : (middle : K) (text : List ℕ) (s : Status) → IsLine text → Appended stands old middle text → Kept stands middle new → faults middle ≡ faults old
+  pub line_handed_on : (middle : K) (text : List ℕ) (s : Status) → IsLine text → Appended stands old middle text → NothingAppended stands middle new → faults middle ≡ faults old
       → (s ≡ status.Done) ⊎ ((s ≡ status.WriteFault) × Rose (faults middle) (faults new)) → (s ≡ status.WriteFault) ⊎ (faults new ≡ faults middle)
       → SaysLine stands faults old new IsLine s
   line_handed_on middle text s is written kept same (inl done) told =
       subst (λ (t : Status). SaysLine stands faults old new IsLine t) (sym done)
-      (text, is, Appended-then-Kept written kept, second_of_two told (λ broken. cc) ∙ same)
+      (text, is, Appended-then-NothingAppended written kept, second_of_two told (λ broken. cc) ∙ same)
   line_handed_on middle text s is written kept same (inr failed) told =
       subst (λ (t : Status). SaysLine stands faults old new IsLine t) (sym failed.0)
-      (Rose-earlier (omega (arith, same)) failed.1, (text, is, AppendedPart-then-Kept (AppendedPart-all written) kept))
+      (Rose-earlier (omega (arith, same)) failed.1, (text, is, AppendedPart-then-NothingAppended (AppendedPart-all written) kept))
 
   pub same_line : (s : Status) → IsUntouched s → SaysLine stands faults old new IsLine s → new ≡ old
   same_line status.NoMemory untouched says = says

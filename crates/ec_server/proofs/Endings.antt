@@ -10,7 +10,7 @@ use Rattle.ec_lines.specs.FeedState.{FeedState, IsReady, Finishes}
 use Rattle.ec_sessions.specs.declared.handled.Handled.{Handled}
 use Rattle.ec_sessions.specs.declared.handled.Handled.TheVariants.{Go, Bye, WriteFault}
 use Rattle.ec_outside.specs.Counts.{Rose}
-use Rattle.ec_outside.specs.Streams.{IsAtEnd, Kept}
+use Rattle.ec_outside.specs.Streams.{IsAtEnd, NothingAppended}
 use Rattle.ec_outside.proofs.Counts.{Rose-earlier}
 use Rattle.ec_server.specs.declared.ending.Ending.{Ending}
 use Rattle.ec_server.specs.declared.ending.Ending.TheVariants.{End, Quit, Limit, ReadFault, WriteFault as Broken}
@@ -57,7 +57,7 @@ module _ {K : Type 0} (stands : K → List ℕ → Type 0) (language : Language)
   AnswersLines-none false taken state feed start now ready finishes serving = AnswersLines-so_far finishes.1 serving
   AnswersLines-none true taken state feed start now ready finishes serving = cc
 
-  handed_on : (faults : K → ℕ) (ending : Ending) (lines : List (List ℕ)) (start now next : K) → AnswersLines stands language lines start now → Kept stands now next
+  handed_on : (faults : K → ℕ) (ending : Ending) (lines : List (List ℕ)) (start now next : K) → AnswersLines stands language lines start now → NothingAppended stands now next
       → (ending ≡ End) ⊎ ((ending ≡ Broken) × Rose (faults now) (faults next))
       → ((ending ≡ End) × AnswersLines stands language lines start next) ⊎ ((ending ≡ Broken) × AnswersPart stands language lines start next)
   handed_on faults ending lines start now next answers kept (inl ended) = inl (ended, AnswersLines-kept answers kept)
@@ -65,7 +65,7 @@ module _ {K : Type 0} (stands : K → List ℕ → Type 0) (language : Language)
 
   -- where the sink did not fail, all lines are answered, and that is handed on, unless the sink fails then
   pub answered_and_handed_on : (faults : K → ℕ) (handled : Handled) (ending : Ending) (lines : List (List ℕ)) (start now next : K)
-      → IsLast stands language handled lines start now → (handled ≡ WriteFault → ⊥) → Kept stands now next
+      → IsLast stands language handled lines start now → (handled ≡ WriteFault → ⊥) → NothingAppended stands now next
       → (ending ≡ End) ⊎ ((ending ≡ Broken) × Rose (faults now) (faults next))
       → ((ending ≡ End) × AnswersLines stands language lines start next) ⊎ ((ending ≡ Broken) × AnswersPart stands language lines start next)
   answered_and_handed_on faults Go ending lines start now next answers other kept either = handed_on faults ending lines start now next answers kept either
@@ -105,7 +105,7 @@ module _ {K : Type 0} (stands : K → List ℕ → Type 0) (language : Language)
 
   -- `quit` is among the bytes taken, and the output was handed on or the sink failed
   pub IsEnding-quit : {R : Type 0} (ending : Ending) (limit : ℕ) (left : Option (List ℕ)) (taken : List ℕ) (start now next : K) → (ending ≡ Quit) ⊎ ((ending ≡ Broken) × R)
-      → length taken ≤ limit → HasQuit stands language taken start now → Kept stands now next → IsEnding stands language ending limit left taken start next
+      → length taken ≤ limit → HasQuit stands language taken start now → NothingAppended stands now next → IsEnding stands language ending limit left taken start next
   IsEnding-quit ending limit left taken start now next (inl quits) within has kept =
       subst (λ (e : Ending). IsEnding stands language e limit left taken start next) (sym quits) (record { within = within; says = HasQuit-kept has kept })
   IsEnding-quit ending limit left taken start now next (inr failed) within has kept =

@@ -7,8 +7,8 @@ use Rattle.ec_replies.specs.State.{State, empty_state}
 use Rattle.ec_replies.specs.Replies.{Language}
 use Rattle.ec_server.specs.Answered.{IsServing}
 use Rattle.ec_lines.specs.FeedState.{FeedState, IsPart}
-use Rattle.ec_outside.specs.Streams.{Took, Kept}
-use Rattle.ec_outside.proofs.Streams.{Took-then, Took-nil, Kept-refl}
+use Rattle.ec_outside.specs.Streams.{Took, NothingAppended}
+use Rattle.ec_outside.proofs.Streams.{Took-then, Took-nil, NothingAppended-refl}
 use Rattle.ec_server.specs.Serving.{IsAt}
 use Rattle.ec_server.proofs.Serving.{IsServing-start, IsServing-kept}
 
@@ -86,11 +86,11 @@ module _ {S K : Type 0} (left : S → Option (List ℕ)) (stands : K → List �
     taken = [];
     within = omega arith;
     took = Took-nil refl;
-    at = record { part = part; serving = subst (λ (s : State). IsServing stands language [] s output_before output_before) (sym empty) (IsServing-start output_before (Kept-refl output_before)) };
+    at = record { part = part; serving = subst (λ (s : State). IsServing stands language [] s output_before output_before) (sym empty) (IsServing-start output_before (NothingAppended-refl output_before)) };
   }
 
   -- a flush
-  pub IsTaking-kept : (remaining : ℕ) (state : State) (feed : FeedState) (input : S) (output next : K) → Taking remaining state feed input output → Kept stands output next
+  pub IsTaking-kept : (remaining : ℕ) (state : State) (feed : FeedState) (input : S) (output next : K) → Taking remaining state feed input output → NothingAppended stands output next
       → Taking remaining state feed input next
   IsTaking-kept remaining state feed input output next taking kept = record {
     taken = taking.taken;

@@ -7,8 +7,8 @@ use Rattle.ec_replies.specs.Replies.{reply_of, Language}
 use Rattle.ec_sessions.specs.Handling.{IsCutShort}
 use Rattle.ec_server.specs.Answered.{AnswersLines, AnswersPart, BreaksOff, HasQuit, IsServing}
 use Rattle.ec_replies.proofs.RunParts.{step_run, run-append}
-use Rattle.ec_outside.specs.Streams.{Kept}
-use Rattle.ec_outside.proofs.Streams.{Appended-then-part, AppendedPart-all, AppendedPart-longer, AppendedPart-then-Kept}
+use Rattle.ec_outside.specs.Streams.{NothingAppended}
+use Rattle.ec_outside.proofs.Streams.{Appended-then-part, AppendedPart-all, AppendedPart-longer, AppendedPart-then-NothingAppended}
 use Rattle.ec_server.proofs.Serving.{lines_of-append, whole_lines-append, AnswersLines-so_far}
 
 module _ (language : Language) where
@@ -62,8 +62,8 @@ module _ {K : Type 0} {stands : K → List ℕ → Type 0} {language : Language}
   pub AnswersPart-all : {lines : List (List ℕ)} {start now : K} → AnswersLines stands language lines start now → AnswersPart stands language lines start now
   AnswersPart-all answers = record { out = answers.out; run = answers.run; part = AppendedPart-all answers.appended }
 
-  pub AnswersPart-kept : {lines : List (List ℕ)} {start now next : K} → AnswersPart stands language lines start now → Kept stands now next → AnswersPart stands language lines start next
-  AnswersPart-kept answers kept = record { out = answers.out; run = answers.run; part = AppendedPart-then-Kept answers.part kept }
+  pub AnswersPart-kept : {lines : List (List ℕ)} {start now next : K} → AnswersPart stands language lines start now → NothingAppended stands now next → AnswersPart stands language lines start next
+  AnswersPart-kept answers kept = record { out = answers.out; run = answers.run; part = AppendedPart-then-NothingAppended answers.part kept }
 
   -- the lines so far are answered, and one more is cut short
   pub AnswersPart-line : {taken line : List ℕ} {lines : List (List ℕ)} {state after : State} {start now next : K} → lines ≡ whole_lines taken ++ line ∷ []

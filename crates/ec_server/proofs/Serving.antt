@@ -9,8 +9,8 @@ use Rattle.ec_sessions.specs.Handling.{IsAnswered}
 use Rattle.ec_server.specs.Answered.{AnswersLines, IsServing, HasQuit}
 use Rattle.ec_replies.proofs.RunParts.{step_run, run-append, run-quit}
 use Rattle.ec_lines.proofs.CutLines.{behind, cut_of-append}
-use Rattle.ec_outside.specs.Streams.{Kept}
-use Rattle.ec_outside.proofs.Streams.{Appended-then, Appended-then-Kept, Appended-nil}
+use Rattle.ec_outside.specs.Streams.{NothingAppended}
+use Rattle.ec_outside.proofs.Streams.{Appended-then, Appended-then-NothingAppended, Appended-nil}
 
 -- ---- lines
 
@@ -78,7 +78,7 @@ has_quit-more language (line ∷ lines) more quits = by_test (is_quit language l
 module _ {K : Type 0} {stands : K → List ℕ → Type 0} {language : Language} where
   -- ---- the beginning, and what keeps the sink
 
-  pub IsServing-start : (start : K) → Kept stands start start → IsServing stands language [] empty_state start start
+  pub IsServing-start : (start : K) → NothingAppended stands start start → IsServing stands language [] empty_state start start
   IsServing-start start kept = record {
     out = [];
     run = subst (λ (lines : List (List ℕ)). Run language empty_state lines [] empty_state) (sym whole_lines-nil) (refl, refl);
@@ -86,9 +86,9 @@ module _ {K : Type 0} {stands : K → List ℕ → Type 0} {language : Language}
     appended = Appended-nil kept;
   }
 
-  pub IsServing-kept : {taken : List ℕ} {state : State} {start now next : K} → IsServing stands language taken state start now → Kept stands now next
+  pub IsServing-kept : {taken : List ℕ} {state : State} {start now next : K} → IsServing stands language taken state start now → NothingAppended stands now next
       → IsServing stands language taken state start next
-  IsServing-kept serving kept = record { out = serving.out; run = serving.run; going = serving.going; appended = Appended-then-Kept serving.appended kept }
+  IsServing-kept serving kept = record { out = serving.out; run = serving.run; going = serving.going; appended = Appended-then-NothingAppended serving.appended kept }
 
   -- ---- more bytes
 
@@ -139,8 +139,8 @@ module _ {K : Type 0} {stands : K → List ℕ → Type 0} {language : Language}
     appended = serving.appended;
   }
 
-  pub AnswersLines-kept : {lines : List (List ℕ)} {start now next : K} → AnswersLines stands language lines start now → Kept stands now next → AnswersLines stands language lines start next
-  AnswersLines-kept answers kept = record { out = answers.out; run = answers.run; appended = Appended-then-Kept answers.appended kept }
+  pub AnswersLines-kept : {lines : List (List ℕ)} {start now next : K} → AnswersLines stands language lines start now → NothingAppended stands now next → AnswersLines stands language lines start next
+  AnswersLines-kept answers kept = record { out = answers.out; run = answers.run; appended = Appended-then-NothingAppended answers.appended kept }
 
   -- bytes that end a line, which is `quit`
   pub HasQuit-line : {taken all line : List ℕ} {state after : State} {start now next : K} (longer rest : List ℕ) → whole_lines longer ≡ whole_lines taken ++ line ∷ [] → all ≡ longer ++ rest
@@ -153,7 +153,7 @@ module _ {K : Type 0} {stands : K → List ℕ → Type 0} {language : Language}
     answers = AnswersLines-line same serving answered;
   }
 
-  pub HasQuit-kept : {taken : List ℕ} {start now next : K} → HasQuit stands language taken start now → Kept stands now next → HasQuit stands language taken start next
+  pub HasQuit-kept : {taken : List ℕ} {start now next : K} → HasQuit stands language taken start now → NothingAppended stands now next → HasQuit stands language taken start next
   HasQuit-kept has kept = record { done = has.done; rest = has.rest; split = has.split; quit = has.quit; answers = AnswersLines-kept has.answers kept }
 
   -- where `quit` is among the bytes taken, the lines of the whole input are answered, however it goes on

@@ -6,7 +6,7 @@ ghost use Rattle.ec_server.specs.Answered.{AnswersLines, AnswersPart};
 ghost use Rattle.ec_replies.specs.Replies.{Language};
 ghost use Rattle.ec_lines.specs.FeedState.{IsPart};
 ghost use Rattle.ec_outside.specs.Counts.{Rose};
-ghost use Rattle.ec_outside.specs.Streams.{Kept, Took, IsAtEnd};
+ghost use Rattle.ec_outside.specs.Streams.{NothingAppended, Took, IsAtEnd};
 ghost use Rattle.ec_server.specs.Ending.{IsEnding};
 ghost use Rattle.ec_server.specs.Serving.{IsAt, IsLast};
 
@@ -90,7 +90,7 @@ fn finish<T: Moment, M: MarkRow<T>, I: SpanRow<T>, X: TimeRow<T>, K: Sink, L: Le
 /// Hands the output on where the serving ends so.
 #[tactic(none)]
 fn hand_on<K: Sink>(out: &mut K, ending: Ending) -> Ending
-    ensures kept { Kept K.stands out.old out.new }
+    ensures kept { NothingAppended K.stands out.old out.new }
     ensures either { (result ≡ ending) ⊎ ((result ≡ Ending.WriteFault) × Rose (K.faults out.old) (K.faults out.new)) }
     ensures quiet { (result ≡ Ending.WriteFault) ⊎ (K.faults out.new ≡ K.faults out.old) }
     ensures counted { K.faults out.old ≤ K.faults out.new }

@@ -1,7 +1,7 @@
 //! Serving generated lines.
 ghost use Rattle.std.specs.Prelude.{◌≡◌, ◌<◌, ◌≤◌, ◌⊎◌, IfOk, IsTrue, OnErr, length};
 ghost use Rattle.ec_outside.specs.Counts.{Rose};
-ghost use Rattle.ec_outside.specs.Streams.{Kept};
+ghost use Rattle.ec_outside.specs.Streams.{NothingAppended};
 ghost use Rattle.ec_server.specs.CommandEnds.{SaysSoaked};
 ghost use Rattle.ec_server.specs.ExitStatus.{hands_on};
 ghost use Rattle.ec_server.specs.Soaking.{IsSoaked, soak_text};
@@ -63,7 +63,7 @@ fn without_refusals(counts: Counts) -> Result<Counts, NoMemory>
 /// Hands on the one line of a run.
 #[tactic(auto, unfolding(crate::specs::ExitStatus::hands_on))]
 fn hand_on_line<K: Sink>(output: &mut K) -> Status
-    ensures kept { Kept K.stands output.old output.new }
+    ensures kept { NothingAppended K.stands output.old output.new }
     ensures either { (result ≡ Status.Done) ⊎ ((result ≡ Status.WriteFault) × Rose (K.faults output.old) (K.faults output.new)) }
     ensures quiet { (result ≡ Status.WriteFault) ⊎ (K.faults output.new ≡ K.faults output.old) }
     ensures handed_on { IsTrue (hands_on result) → K.waiting output.new ≡ 0 }

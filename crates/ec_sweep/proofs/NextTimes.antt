@@ -17,7 +17,8 @@ use Rattle.ec_rows.specs.Marks.{IsMarkRow, has_mark, mark_before, marks_after}
 use Rattle.ec_rows.specs.Ordered.{is_ascending}
 use Rattle.ec_points.specs.Table.{PointTable, marks_at}
 use Rattle.ec_rows.proofs.OrderedLemmas.{ascending-first, is_ascending-filter}
-use Rattle.ec_sweep.specs.Settling.{IsNextMark, IsReadAt, Slots}
+use Rattle.ec_sweep.specs.Hits.{Slots}
+use Rattle.ec_sweep.specs.Settling.{IsNextMark, IsReadAt}
 
 -- where the earlier of two is nothing, both are
 pub earlier-none : {T : Type 0} (first second result : Option T) → IfNone result ((first ≡ None) × (second ≡ None)) → result ≡ None → (first ≡ None) × (second ≡ None)

@@ -15,7 +15,8 @@ use Rattle.ec_revise.specs.declared.settled.Settled.{Settled}
 use Rattle.ec_revise.specs.declared.settled.Tallied.{Tallied}
 use Rattle.ec_delta.specs.Touched.{touched_at}
 use Rattle.ec_sweep.specs.State.{dirty_at}
-use Rattle.ec_sweep.specs.Settling.{AddsDue, ArePlannedIf, BearsAt, IsDueWithin, IsSettledBy, LeavesNumber, Noted, PlansMark, SettlesNumber, Slots, currencies_at, old_mark, own_changes, starts_of, touch_of, touched_if, with_if}
+use Rattle.ec_sweep.specs.Hits.{Slots}
+use Rattle.ec_sweep.specs.Settling.{AddsDue, ArePlannedIf, BearsAt, IsDueWithin, IsSettledBy, LeavesNumber, Noted, PlansMark, SettlesNumber, currencies_at, old_mark, own_changes, starts_of, touch_of, touched_if, with_if}
 use Rattle.ec_sweep.proofs.OwnChanges.{own_changes-with_if}
 
 -- while one property is settled, all others are left alone

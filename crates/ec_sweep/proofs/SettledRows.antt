@@ -11,7 +11,8 @@ use Rattle.ec_numbered.proofs.Numbers.{same_prop}
 use Rattle.ec_points.specs.Table.{PointTable}
 use Rattle.ec_revise.specs.declared.settled.Tallied.{Tallied}
 use Rattle.ec_revise.specs.TurnCounts.{row_at}
-use Rattle.ec_sweep.specs.Settling.{AddsDue, IsSettledBy, LeavesNumber, Noted, SettlesNumber, SettlesRows, Slots, currencies_at, old_mark, starts_of, touch_of, touched_if, with_if}
+use Rattle.ec_sweep.specs.Hits.{Slots}
+use Rattle.ec_sweep.specs.Settling.{AddsDue, IsSettledBy, LeavesNumber, Noted, SettlesNumber, SettlesRows, currencies_at, old_mark, starts_of, touch_of, touched_if, with_if}
 use Rattle.ec_sweep.proofs.TallyPlaces.{AreRowsApart, row_at-before, row_at-more}
 use Rattle.ec_sweep.proofs.OwnChanges.{option_or-idle}
 

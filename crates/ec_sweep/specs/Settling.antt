@@ -7,7 +7,6 @@ use Rattle.ec_terms.specs.declared.ground.Ground.{Ground}
 use Rattle.ec_terms.specs.declared.theory.Theory.{Theory}
 use Rattle.ec_numbered.specs.Due.{Due, has_due}
 use Rattle.ec_changes.specs.QuietLaws.{current_behind}
-use Rattle.ec_entries.specs.declared.event_entries.EventEntries.{EventEntries}
 use Rattle.ec_entries.specs.declared.event_entries.Dependent.{Dependent}
 use Rattle.ec_entries.specs.Dependents.{dependent_at}
 use Rattle.ec_exclusive.specs.Added.{Added, is_added}
@@ -30,6 +29,7 @@ use Rattle.ec_delta.specs.declared.delta.Planned.{Planned}
 use Rattle.ec_delta.specs.declared.touches.Touch.{Touch}
 use Rattle.ec_delta.specs.declared.touches.Touched.{Touched}
 use Rattle.ec_delta.specs.Touched.{touched_at, touched_with}
+use Rattle.ec_sweep.specs.Hits.{Slots}
 use Rattle.ec_sweep.specs.State.{DirtyRows, dirty_at}
 
 -- ---- how a property is settled
@@ -110,10 +110,6 @@ pub record PlansMark {T : Type 0} (around : Neighbourhoods) (p : PropId) (old : 
   pub touched : (n : ℕ) → touched_at n after.touched ≡ touched_if (settled.is_changed && p.0 == n) (touch_of starts old settled) (touched_at n before.touched)
 
 -- ---- what is due
-
--- what is kept of events by slot
-abbrev pub Slots : Type 0 → Type 0
-Slots T = List (Option (EventEntries T))
 
 -- an entry at u reads the property of a number
 pub record IsReadAt {T : Type 0} (rank : T → ℤ) (slots : Slots T) (n : ℕ) (u : ℤ) : Type 0 where

@@ -7,7 +7,6 @@ use Rattle.std.proofs.lemmas.Bool.{cases_Bool, false≢true, or_right}
 use Rattle.std.proofs.lemmas.List.Folds.{list_any-append}
 use Rattle.ec_terms.specs.declared.ids.PropId.{PropId}
 use Rattle.ec_context.specs.Entries.{IsKeptEntry}
-use Rattle.ec_context.specs.Widened.{is_among}
 use Rattle.ec_context.proofs.Keepings.{forgotten, IsWidened-kept}
 use Rattle.ec_context.proofs.Tables.{prop_at-without_props}
 use Rattle.ec_numbered.specs.PropSet.{has_number}
@@ -22,11 +21,11 @@ fresh-has : (before after : List KeptProp) (old new : List PropId) → HasEntere
 fresh-has before after old new entered id there none =
     ap (has_number id) entered.behind ∙ list_any-append (λ (p : PropId). p.0 == id) old entered.fresh ∙ or_right (has_number id old) (has_number id entered.fresh) among
   where
-    among : is_among id entered.fresh ≡ true
+    among : has_number id entered.fresh ≡ true
     among =
         ⊎_elim (λ yes_there. yes_there)
         (λ apart. absurd (false≢true (sym (ap is_some none) ∙ ap (λ ks. is_some (prop_at id ks)) (sym (forgotten before after entered.fresh entered.kept)) ∙ ap is_some (prop_at-without_props entered.fresh id after apart) ∙ there)))
-        (cases_Bool (is_among id entered.fresh))
+        (cases_Bool (has_number id entered.fresh))
 
 pub returns-in_err-list-clause-entered : goal.returns-in_err-list-clause-entered
 returns-in_err-list-clause-entered g c =

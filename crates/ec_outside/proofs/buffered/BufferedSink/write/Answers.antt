@@ -2,7 +2,7 @@ use Rattle.std.proofs.Common.{drop, arith}
 use Rattle.std.proofs.lemmas.Grind.{common_steps}
 use Rattle.std.proofs.lemmas.Result.{IfOk-weaker, on_err_weaker}
 use Rattle.ec_outside.specs.BufferedState.{stands_with_waiting}
-use Rattle.ec_outside.proofs.Waiting.{Appended-whole, Appended-waited, Appended-passed, Kept-passed}
+use Rattle.ec_outside.proofs.Waiting.{Appended-whole, Appended-waited, Appended-passed, NothingAppended-passed}
 use Rattle.ec_outside.proofs.buffered.BufferedSink.write.Goals as goal
 
 pub returns-then-keep-clause-appended : goal.returns-then-keep-clause-appended
@@ -24,7 +24,7 @@ returns-clause-appended g c =
 pub returns-clause-kept : goal.returns-clause-kept
 returns-clause-kept g c =
     on_err_weaker c.write.result
-    (λ kept. Kept-passed (drop c.self.inside.sent c.self.inside.buffer.items)
+    (λ kept. NothingAppended-passed (drop c.self.inside.sent c.self.inside.buffer.items)
     c.if-keep.ensures.full c.send.ensures.kept c.if-keep-2.ensures.full c.self.view_is kept)
     c.write.ensures.kept
 

@@ -5,7 +5,7 @@ use Rattle.ec_axioms.specs.Answers.{answer_text}
 use Rattle.ec_axioms.specs.Commands.{PlainCommand, silent}
 use Rattle.ec_lines.specs.ShownAnswer.{plain_answer}
 use Rattle.ec_lines.specs.ShownCommand.{plain_parsed}
-use Rattle.ec_outside.proofs.Streams.{Appended-nil, Kept-refl}
+use Rattle.ec_outside.proofs.Streams.{Appended-nil, NothingAppended-refl}
 use Rattle.ec_replies.specs.State.{State}
 use Rattle.ec_replies.specs.Replies.{Language, query_text, reply_line, session_of}
 use Rattle.ec_replies.specs.Runs.{command_quits}
@@ -24,7 +24,7 @@ returns-in-Nothing-clause-handled g c = λ line short is.
     let step = subst (λ (k : PlainCommand). CommandStep language parsed.session (session_of parsed) before k [] after) (sym told.0)
     (subst (λ (s : State). CommandStep language parsed.session (session_of parsed) before silent [] s) (sym told.1) (CommandStep-silent language parsed.session (session_of parsed) before)) in
     IsHandled-written g.K.Sink.stands language c.args.out.now c.args.out.now Go false (Step-parsed language line [] parsed before after short is step)
-    (is_quit-parsed language line parsed short is ∙ ap command_quits told.0) (refl, Appended-nil (Kept-refl c.args.out.now))
+    (is_quit-parsed language line parsed short is ∙ ap command_quits told.0) (refl, Appended-nil (NothingAppended-refl c.args.out.now))
 
 pub returns-in-Answer-clause-handled : goal.returns-in-Answer-clause-handled
 returns-in-Answer-clause-handled g c = λ line short is.

@@ -1,11 +1,11 @@
 -- The bytes are appended one after another.
 use Rattle.std.proofs.Common.{◌≡◌, take, length, arith}
 use Rattle.std.proofs.lemmas.List.{take_more, take_all}
-use Rattle.ec_outside.proofs.Streams.{Appended-then, Appended-nil, Kept-refl}
+use Rattle.ec_outside.proofs.Streams.{Appended-then, Appended-nil, NothingAppended-refl}
 use Rattle.ec_soak.proofs.tally_sink.TallySinkSink.write.Goals as goal
 
 pub loop-byte-init : goal.loop-byte-init
-loop-byte-init c = Appended-nil (Kept-refl c.args.self.now)
+loop-byte-init c = Appended-nil (NothingAppended-refl c.args.self.now)
 
 pub loop-byte-preserved : goal.loop-byte-preserved
 loop-byte-preserved c =
