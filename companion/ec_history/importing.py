@@ -1,0 +1,282 @@
+"""`ec-history import`: the records of a file become `assert` lines.
+
+Each record makes the events of its map, under identities that come of its key. A record
+that corrects another becomes a draft: what the other told is taken back, and what this
+one tells is asserted, both or none. Nothing is written where a record is at fault,
+unless the faulty ones are to be skipped.
+"""
+
+from __future__ import annotations
+
+import argparse
+import os
+import sys
+from dataclasses import dataclass, field
+from typing import Dict, List, Mapping, Optional, Sequence, Set, Tuple
+
+from .errors import HistoryError
+from .mapping import EventForm, Map, read_map
+from .names import Names
+from .progress import Progress
+from .records import Record, read_records
+from .templates import FieldFault
+from .terms import LONGEST_NAME
+from .times import TimeFault
+
+EXAMPLE = """\
+example:
+  ec-history import ward.toml ward.csv > ward.lines
+
+  where ward.csv is            and ward.toml is
+    id,when,patient,bed          key = "r{id}"
+    1,03.03.2024 12:30,177,B3    event = "admit(p{patient},{bed})"
+                                 [time]
+  then ward.lines is             column = "when"
+    assert r1 28491090           format = "%d.%m.%Y %H:%M"
+      admit(p177,b3)             zone = "Europe/Berlin"
+  (on one line)                  unit = "minute"
+
+companion/README.md has all that a map can say.
+"""
+MOST_FAULTS = 100
+Key = Tuple[str, ...]
+"""What tells a record: the texts of the columns of its key."""
+
+
+@dataclass
+class Imported:
+    """What became of a file: its lines, its faults by row, and counts."""
+
+    lines: List[str] = field(default_factory=list)
+    faults: List[str] = field(default_factory=list)
+    records: int = 0
+    corrections: int = 0
+
+
+@dataclass
+class Told:
+    """What is known of the records told so far, by their keys.
+
+    `events` has the identities that stand for a record now, and `place` where it stood.
+    A record that was corrected is in `corrected`, with the key of what replaced it.
+    """
+
+    events: Dict[Key, List[str]] = field(default_factory=dict)
+    place: Dict[Key, str] = field(default_factory=dict)
+    corrected: Dict[Key, Key] = field(default_factory=dict)
+    identities: Set[str] = field(default_factory=set)
+
+
+class Importer:
+    """Makes lines of records, one after the other."""
+
+    def __init__(self, map_of: Map, names: Names, told: Optional[Told] = None) -> None:
+        self.map = map_of
+        self.names = names
+        self.told = told or Told()
+        self.result = Imported()
+
+    def add(self, record: Record) -> None:
+        """Adds the lines of a record, or its fault."""
+        self.result.records += 1
+        try:
+            if record.fault:
+                raise FieldFault(record.fault)
+            self.result.lines += self._lines(record)
+        except FieldFault as fault:
+            self.result.faults.append(f"{record.place}: {fault}")
+
+    def _lines(self, record: Record) -> List[str]:
+        fields = record.fields
+        name, key = self.map.key.fill(fields, self.names), self.map.key.parts(fields)
+        withdraws = bool(self.map.withdrawn) and _is(fields, self.map.withdrawn)
+        made = [] if withdraws else self._events(name, fields)
+        target = self._corrected(key, fields, withdraws)
+        if target is None:
+            if key in self.told.place:
+                raise FieldFault(self._twice(key))
+            lines = [_assert(*event) for event in made]
+            self._free([identity for identity, _, _ in made], [])
+        else:
+            gone = self.told.events[target]
+            self._free([identity for identity, _, _ in made], gone)
+            lines = [f"retract {identity}" for identity in gone]
+            lines += [_assert(*event) for event in made]
+            lines = ["begin", *lines, "commit"] if lines else []
+            self._take_back(target, key)
+        self.told.events[key] = [identity for identity, _, _ in made]
+        self.told.identities.update(self.told.events[key])
+        self.told.place[key] = record.place
+        return lines
+
+    def _take_back(self, target: Key, key: Key) -> None:
+        self.told.identities.difference_update(self.told.events.pop(target))
+        if target != key:
+            self.told.corrected[target] = key
+        self.result.corrections += 1
+
+    def _twice(self, key: Key) -> str:
+        return (
+            f"the key {_shown(key)} stands in {self.told.place[key]} already; if this "
+            'row corrects that one, say so by `corrects` or by `again = "corrects"` in '
+            "the map"
+        )
+
+    def _free(self, made: Sequence[str], gone: Sequence[str]) -> None:
+        """Makes sure that no identity stands for two events."""
+        for identity in made:
+            if identity in self.told.identities and identity not in gone:
+                raise FieldFault(f"the identity {identity} is another record's already")
+            if made.count(identity) > 1:
+                raise FieldFault(
+                    f"the row makes two events of the identity {identity}: give one of "
+                    "them a `suffix` in the map"
+                )
+
+    def _corrected(
+        self, key: Key, fields: Mapping[str, str], withdraws: bool
+    ) -> Optional[Key]:
+        """The key of the record that this one corrects, where it corrects one."""
+        target = tuple(fields[column] for column in self.map.corrects)
+        if not target or not all(target):
+            again = self.map.again and key in self.told.events
+            if not again and not withdraws:
+                return None
+            target = key
+        seen = {target}
+        while self.map.chain and target in self.told.corrected:
+            target = self.told.corrected[target]
+            if target in seen:
+                break
+            seen.add(target)
+        if target in self.told.events:
+            return target
+        if target in self.told.corrected:
+            other = _shown(self.told.corrected[target])
+            raise FieldFault(
+                f"it corrects {_shown(target)}, which {other} has corrected already: "
+                f"name {other}, or say `chain = true` in the map"
+            )
+        raise FieldFault(f"it corrects {_shown(target)}, which no row before has told")
+
+    def _events(
+        self, name: str, fields: Mapping[str, str]
+    ) -> List[Tuple[str, str, str]]:
+        """The events of a record: identity, time and term."""
+        made = []
+        met = False
+        for form in self.map.events:
+            if not _is(fields, form.when):
+                continue
+            met = True
+            columns = (form.time, *form.event.fields)
+            if form.optional and not all(fields[column] for column in columns):
+                continue
+            made.append(self._event(name, form, fields))
+        if not met and not self.map.skip_others:
+            raise FieldFault(
+                'no event of the map is for such a row; say `others = "skip"` in the '
+                "map if rows like it tell nothing"
+            )
+        return made
+
+    def _event(
+        self, name: str, form: EventForm, fields: Mapping[str, str]
+    ) -> Tuple[str, str, str]:
+        identity = name + form.suffix
+        if len(identity) > LONGEST_NAME:
+            raise FieldFault(
+                f"the identity {identity} has {len(identity)} bytes, and ec takes "
+                f"{LONGEST_NAME}"
+            )
+        which = fields[form.zone] if form.zone else ""
+        try:
+            time = self.map.times.read(fields[form.time], which)
+        except TimeFault as fault:
+            raise FieldFault(f"column {form.time}: {fault}") from None
+        return identity, time, form.event.fill(fields, self.names)
+
+
+def _shown(key: Key) -> str:
+    return ", ".join(map(repr, key))
+
+
+def _is(fields: Mapping[str, str], conditions: Mapping[str, Tuple[str, ...]]) -> bool:
+    return all(fields[column] in texts for column, texts in conditions.items())
+
+
+def _assert(identity: str, time: str, term: str) -> str:
+    return f"assert {identity} {time} {term}"
+
+
+def import_file(map_of: Map, path: str, names: Names) -> Imported:
+    """The lines and faults of a file of records. Names that are new are added."""
+    importer = Importer(map_of, names)
+    with Progress("records") as progress:
+        for record in read_records(path, map_of.file, map_of.fields):
+            importer.add(record)
+            progress.step()
+    return importer.result
+
+
+def add_parser(subparsers: argparse._SubParsersAction) -> None:
+    parser = subparsers.add_parser(
+        "import",
+        help="turn CSV, TSV, JSON lines or XES into lines of ec",
+        description="Turns the records of FILE into lines of ec, as MAP says.",
+        epilog=EXAMPLE,
+        formatter_class=argparse.RawDescriptionHelpFormatter,
+    )
+    parser.add_argument("map", metavar="MAP", help="what columns mean: TOML or JSON")
+    parser.add_argument("file", metavar="FILE", help="CSV, TSV, JSON lines or XES")
+    parser.add_argument(
+        "--names",
+        metavar="FILE",
+        help="the file of names (else the one that the map says, else names.tsv beside "
+        "the map)",
+    )
+    parser.add_argument(
+        "--skip-faulty",
+        action="store_true",
+        help="write the lines of the other records where some are at fault",
+    )
+    parser.set_defaults(run=run)
+
+
+def run(args: argparse.Namespace) -> int:
+    """Writes the lines; 1 where a record is at fault."""
+    map_of = read_map(args.map, args.file)
+    path = args.names or map_of.names
+    names = Names.read(path, map_of.keep_case)
+    known = len(names)
+    result = import_file(map_of, args.file, names)
+    for fault in result.faults[:MOST_FAULTS]:
+        print(f"{args.file}: {fault}", file=sys.stderr)
+    if len(result.faults) > MOST_FAULTS:
+        more = len(result.faults) - MOST_FAULTS
+        print(f"{args.file}: and {more:,} more faults", file=sys.stderr)
+    if result.faults and not args.skip_faulty:
+        print(
+            f"ec-history: {len(result.faults):,} of {result.records:,} records are at "
+            "fault, so nothing was written (--skip-faulty writes the others)",
+            file=sys.stderr,
+        )
+        return 1
+    sys.stdout.write("".join(f"{line}\n" for line in result.lines))
+    if len(names) > known:
+        _write_names(names, path)
+    print(
+        f"{result.records:,} records, {result.corrections:,} of them corrections: "
+        f"{len(result.lines):,} lines; {len(names) - known:,} new names in {path}",
+        file=sys.stderr,
+    )
+    return 1 if result.faults else 0
+
+
+def _write_names(names: Names, path: str) -> None:
+    try:
+        names.write(path)
+    except OSError as fault:
+        raise HistoryError(
+            f"the names can't be written: {os.fspath(path)}: {fault.strerror}"
+        ) from None

@@ -1,0 +1,365 @@
+"""`ec-history keep` on standard input and output."""
+
+from __future__ import annotations
+
+import os
+import signal
+import sqlite3
+import subprocess
+import unittest
+from contextlib import closing
+from datetime import datetime, timezone
+from pathlib import Path
+from typing import List
+from unittest import mock
+
+from ec_history.database import Database, NotKept
+from ec_history.keeper import LEAVE, Keeper, Request
+from ec_history.moments import TICK
+from ec_history.reading import later_commands
+from tests.keep import Folder, words
+from tests.setting import EXAMPLES, TOP, example_names, lines_of, program, theory_of
+
+LOANS = theory_of("loans")
+
+
+class ConversationTest(Folder):
+    def test_the_examples_are_answered_as_by_ec(self) -> None:
+        for name in example_names():
+            file = self.path(f"{name}.db")
+            lines = Path(lines_of(name)).read_bytes()
+            replies = (EXAMPLES / f"{name}.replies").read_text()
+            status, out, _ = self.keep(file, "--theory", theory_of(name), lines=lines)
+            self.assertEqual((status, out), (0, replies), name)
+
+    def test_the_exported_lines_give_the_same_answers(self) -> None:
+        for name in ("loans", "memberships", "lending_year"):
+            file = self.path(f"{name}.db")
+            lines = Path(lines_of(name)).read_bytes()
+            self.keep(file, "--theory", theory_of(name), lines=lines)
+            _, out, _ = self.keep(file, lines="events\nclashes\n")
+            exported = self.keep(file, "--export")[1]
+            asked = self.served(theory_of(name), exported + "events\nclashes\n")
+            self.assertEqual(asked.splitlines()[-2:], out.splitlines())
+            self.assertNotIn("refused", asked)
+            events = self.keep(file, "--export", "--events")[1]
+            self.assertTrue(all(e.startswith("assert ") for e in events.splitlines()))
+            asked = self.served(theory_of(name), events + "events\nclashes\n")
+            self.assertEqual(asked.splitlines()[-2:], out.splitlines())
+
+    def served(self, theory: str, lines: str) -> str:
+        serve = [program(), "serve", theory]
+        return subprocess.run(
+            serve, input=lines.encode(), stdout=subprocess.PIPE, check=True
+        ).stdout.decode()
+
+    def test_the_history_goes_on_where_it_ended(self) -> None:
+        status, out, _ = self.keep(
+            self.file, "--theory", LOANS, lines="assert l1 10 lend(dune,ann)\n"
+        )
+        self.assertEqual((status, out), (0, "ok\n"))
+        lines = "at 12\nassert l1 5 lend(dune,bob)\nretract l1\nat 12\n"
+        status, out, _ = self.keep(self.file, lines=lines)
+        wanted = "2 has(ann,dune) out(dune)\nrefused duplicate l1\nok\n0\n"
+        self.assertEqual((status, out), (0, wanted))
+        self.assertEqual(self.keep(self.file, lines="at 12\n")[1], "0\n")
+        exported = self.keep(self.file, "--export")[1]
+        self.assertEqual(exported, "assert l1 10 lend(dune,ann)\nretract l1\n")
+
+    def test_a_commit_is_one_update(self) -> None:
+        lines = (
+            "@3 begin\n@3 assert a 1 lend(b,c)\n@4 begin\n@4 assert z 1 lend(b,c)\n"
+            "assert x 2 lend(b,d)\n@3 retract x\n@3 retract q\n@3 commit\n@3 abort\n"
+            "@3 begin\n@3 assert a 1 lend(b,c)\n@3 retract  x\n@3 commit\n"
+            "begin\ncommit\n"
+        )
+        status, out, _ = self.keep(self.file, "--theory", LOANS, lines=lines)
+        self.assertEqual(status, 0)
+        self.assertIn("@3 refused commit 3 unknown q\n", out)
+        database = Database.open(self.file)
+        found = [(u.session, u.lines, u.reply) for u in database.updates()]
+        database.close()
+        self.assertEqual(
+            found,
+            [
+                (0, "assert x 2 lend(b,d)", "ok"),
+                (3, "begin\nassert a 1 lend(b,c)\nretract x\ncommit", "ok"),
+                (0, "begin\ncommit", "ok"),
+            ],
+        )
+        exported = self.keep(self.file, "--export")[1].splitlines()
+        self.assertEqual(exported[1:3], ["@3 begin", "@3 assert a 1 lend(b,c)"])
+        out = self.keep(self.file, lines="@4 commit\n")[1]
+        self.assertEqual(out, "@4 refused no-draft\n")
+
+    def test_a_torn_line_is_refused(self) -> None:
+        lines = "assert rec_12 1 lend(a,b)\nassert rec_1 1 lend(c,b)\nretract rec_1"
+        out = self.keep(self.file, "--theory", LOANS, lines=lines)[1]
+        self.assertEqual(out, "ok\nok\nrefused torn-line\n")
+        self.assertEqual(self.keep(self.file, lines="at 2\n%x")[1][:2], "4 ")
+
+    def test_quit_ends_it_and_is_not_kept(self) -> None:
+        lines = "assert a 1 lend(b,c)\n@5 quit\nassert d 1 lend(e,f)\n"
+        out = self.keep(self.file, "--theory", LOANS, lines=lines)[1]
+        self.assertEqual(out, "ok\n@5 bye\n")
+        exported = self.keep(self.file, "--export")[1]
+        self.assertEqual(exported, "assert a 1 lend(b,c)\n")
+
+    def test_form_is_refused_as_by_ec(self) -> None:
+        lines = (
+            b"@64 last\n@3\n@07  last \n% x\n\n \t\nholds A 3\nassert\xff a 1 b\n"
+            + b"x" * 5000
+            + b"\n@1 "
+            + b" " * 4093
+            + b"\n"
+            + b"at 1".ljust(4096)
+            + b"\nwatch\nquit quit\n\r\nat 1\r\nat 1\r\r\n@5 at\r1\r\n"
+        )
+        out = self.keep(self.file, "--theory", LOANS, lines=lines)[1]
+        serve = [program(), "serve", LOANS]
+        asked = subprocess.run(serve, input=lines, stdout=subprocess.PIPE, check=True)
+        self.assertEqual(out, asked.stdout.decode())
+
+    def test_notes_stand_below_their_update(self) -> None:
+        if "watch" not in later_commands(program(), LOANS, TICK):
+            self.skipTest("this ec has no watches yet")
+        lines = "@2 watch out(b)\nassert a 1 lend(b,c)\nat 0\nretract a\n"
+        out = self.keep(self.file, "--theory", LOANS, lines=lines)[1]
+        asked = subprocess.run(
+            [program(), "serve", LOANS],
+            input=lines.encode(),
+            stdout=subprocess.PIPE,
+            check=True,
+        )
+        self.assertEqual(out, asked.stdout.decode())
+        self.assertEqual(out.count("note 2 out(b)"), 2)
+
+
+class FileTest(Folder):
+    def test_the_theory_is_needed_once(self) -> None:
+        status, _, err = self.keep(self.file)
+        self.assertEqual(status, 2)
+        self.assertIn("the first time, name the theory as well", err)
+        self.assertFalse(os.path.exists(self.file))
+        self.assertEqual(self.keep(self.file, "--theory", LOANS)[0], 0)
+        self.assertEqual(self.keep(self.file, "--theory", LOANS)[0], 0)
+        status, _, err = self.keep(self.file, "--theory", theory_of("plant"))
+        self.assertEqual(status, 2)
+        self.assertIn("keeps another theory than", err)
+
+    def test_a_theory_at_fault_makes_no_file(self) -> None:
+        theory = self.write("t.ec", "initiates a(X)\nb(Y).")
+        status, _, err = self.keep(self.file, "--theory", theory)
+        self.assertEqual(status, 2)
+        self.assertIn("t.ec:2: clause 1: the variable Y", err)
+        self.assertFalse(os.path.exists(self.file))
+
+    def test_a_second_one_is_told_who_holds_the_file(self) -> None:
+        keep = words(self.file, "--theory", LOANS)
+        with subprocess.Popen(
+            keep,
+            stdin=subprocess.PIPE,
+            stdout=subprocess.PIPE,
+            cwd=TOP / "companion",
+        ) as first:
+            assert first.stdin is not None and first.stdout is not None
+            first.stdin.write(b"assert a 1 lend(b,c)\n")
+            first.stdin.flush()
+            self.assertEqual(first.stdout.readline(), b"ok\n")
+            status, out, err = self.keep(self.file, lines="at 1\n")
+            self.assertEqual((status, out), (2, ""))
+            self.assertIn(f"is held by process {first.pid} on ", err)
+            status, out, _ = self.keep(self.file, "--check")
+            self.assertEqual(status, 0, out)
+            status, _, err = self.keep(self.file, "--backup", self.path("copy.db"))
+            self.assertEqual(status, 0)
+            self.assertIn("1 updates are in ", err)
+            first.stdin.close()
+        self.assertEqual(self.keep(self.file, lines="at 2\n")[0], 0)
+        self.assertEqual(self.keep(self.path("copy.db"), lines="at 2\n")[1][:2], "2 ")
+
+    def test_an_update_that_is_answered_otherwise_stops_the_start(self) -> None:
+        lines = "".join(f"assert e{n} {n} lend(b{n},c)\n" for n in range(9))
+        self.keep(self.file, "--theory", LOANS, lines=lines)
+        with closing(sqlite3.connect(self.file)) as connection:
+            statement = "UPDATE updates SET lines = 'retract e9' WHERE number = 5"
+            connection.execute(statement)
+            connection.commit()
+        before = Path(self.file).read_bytes()
+        for more in ((), ("--check",), ("--export", "--events")):
+            status, out, err = self.keep(self.file, *more)
+            self.assertIn(status, (1, 2))
+            self.assertIn("update 5 (told 20", out + err)
+            said = "ec answers 'refused unknown e9', and 'ok' is kept"
+            self.assertIn(said, out + err)
+        self.assertEqual(Path(self.file).read_bytes(), before)
+        with closing(sqlite3.connect(self.file)) as connection:
+            connection.execute("DELETE FROM updates WHERE number = 5")
+            connection.commit()
+        status, _, err = self.keep(self.file)
+        self.assertEqual(status, 2)
+        self.assertIn("update 5 is missing", err)
+
+    def test_a_file_that_can_not_be_written_is_told(self) -> None:
+        self.keep(self.file, "--theory", LOANS, lines="assert a 1 lend(b,c)\n")
+        status, _, err = self.keep(self.path("none/kept.db"), "--theory", LOANS)
+        self.assertEqual(status, 2)
+        self.assertIn("can't be written: No such file or directory", err)
+        self.write("other.db", b"x" * 5000)
+        for name in ("other.db", "kept.db-lock"):
+            status, _, err = self.keep(self.path(name))
+            self.assertEqual(status, 2, err)
+
+    def test_the_past_by_the_clock(self) -> None:
+        database = Database.create(self.file, Path(LOANS).read_bytes())
+        with closing(database):
+            for day in (1, 2, 3):
+                row = (0, f"assert e{day} {day} lend(b{day},c)", "ok")
+                told = datetime(2024, 3, day, 12, tzinfo=timezone.utc)
+                database.append([row], told)
+        instants = [("2024-03-01T11:59:59Z", 0), ("2024-03-02T12:00:00Z", 2)]
+        for instant, count in instants:
+            lines = "events\nassert x 1 lend(y,z)\nbegin\nretract e1\nevents\n"
+            status, out, err = self.keep(self.file, "--as-of", instant, lines=lines)
+            self.assertEqual(status, 0)
+            replies = out.splitlines()
+            self.assertEqual(replies[0].split(" ")[0], str(count))
+            self.assertEqual(replies[1:4], ["refused as-of"] * 3)
+            self.assertEqual(replies[4], replies[0])
+            self.assertIn(f"{count} of 3 updates were told by {instant}", err)
+            line = f"asof {instant} events\n"
+            out = self.keep(self.file, lines=line)[1].strip()
+            if "asof" in later_commands(program(), LOANS, TICK):
+                self.assertEqual(out, replies[0])
+            else:
+                self.assertEqual(out, "refused syntax")
+        self.assertEqual(self.keep(self.file, "--as-of", "yesterday")[0], 2)
+        bad = "asof 2024-02-30T00:00:00Z events\n"
+        self.assertEqual(self.keep(self.file, lines=bad)[1], "refused syntax\n")
+
+
+class EndingTest(Folder):
+    """What happens where `ec` ends, or the disk is full."""
+
+    def keeper(self) -> Keeper:
+        database = Database.create(self.file, Path(LOANS).read_bytes())
+        keeper = Keeper(database, program())
+        self.addCleanup(database.close)
+        self.addCleanup(keeper.close)
+        return keeper
+
+    def ask(self, keeper: Keeper, *lines: str) -> List[str]:
+        asked = [Request(1, line.encode().split(b" ")) for line in lines]
+        return [answer.reply.decode() for answer in keeper.round(asked)]
+
+    def test_ec_is_started_anew_where_it_ends(self) -> None:
+        keeper = self.keeper()
+        self.ask(keeper, "assert a 1 lend(b,c)", "begin", "assert d 2 lend(e,f)")
+        keeper._engine.process.send_signal(signal.SIGKILL)
+        keeper._engine.process.wait()
+        replies = self.ask(keeper, "retract a", "commit", "events")
+        self.assertEqual(replies, ["drafted 2", "ok", "1 d 2 lend(e,f)"])
+
+    def test_a_full_database_refuses_and_loses_nothing(self) -> None:
+        keeper = self.keeper()
+        self.ask(keeper, "assert a 1 lend(b,c)", "begin", "assert d 2 lend(e,f)")
+        keeper.database._connection.execute("PRAGMA max_page_count = 12")
+        long = [f"assert e{n} 1 lend({'b' * 60}{n % 9},c)" for n in range(900)]
+        replies = self.ask(keeper, "abort", *long, "events", "begin", "retract z")
+        refused = "refused not-kept database or disk is full"
+        self.assertEqual(replies[0], "ok")
+        self.assertEqual(set(replies[1:901]), {refused})
+        self.assertEqual(replies[901:], ["1 a 1 lend(b,c)", "ok", "drafted 1"])
+        # a smaller one fits again; the draft is still there
+        replies = self.ask(keeper, "abort", "assert x 1 lend(y,z)", "events")
+        self.assertEqual(replies, ["ok", "ok", "2 a 1 lend(b,c) x 1 lend(y,z)"])
+        kept = [update.lines for update in keeper.database.updates()]
+        self.assertEqual(kept, ["assert a 1 lend(b,c)", "assert x 1 lend(y,z)"])
+
+    def test_drafts_of_before_are_there_where_a_commit_was_refused(self) -> None:
+        keeper = self.keeper()
+        self.ask(keeper, "begin", "assert d 2 lend(e,f)")
+        keeper.database._connection.execute("PRAGMA query_only = ON")
+        replies = self.ask(keeper, "assert g 2 lend(h,f)", "commit", "events")
+        refused = "refused not-kept attempt to write a readonly database"
+        self.assertEqual(replies, ["drafted 2", refused, "0"])
+        replies = self.ask(keeper, "commit", "commit")
+        self.assertEqual(replies, ["ok", "refused no-draft"])
+        self.assertEqual(self.ask(keeper, "events")[0][:1], "2")
+
+    def test_a_group_that_was_asked_meanwhile_is_answered_anew(self) -> None:
+        keeper = self.keeper()
+        self.ask(keeper, "assert a 1 lend(b,c)", "begin", "assert d 2 lend(e,f)")
+
+        def fail() -> None:
+            keeper.database._connection.execute("ROLLBACK")
+            keeper.database._using.release()
+            raise NotKept("no room")
+
+        first, second = keeper.begin(), None
+        keeper.ask(first, [Request(2, [b"retract", b"a"]), Request(1, [b"commit"])])
+        with mock.patch.object(keeper.database, "sync", fail):
+            keeper.commit(first)
+            second = keeper.begin()
+            words = [b"assert x 3 lend(y,z)", b"events", b"begin", b"retract a"]
+            keeper.ask(second, [Request(3, word.split(b" ")) for word in words])
+            keeper.ask(second, [Request(1, LEAVE), Request(1, [b"commit"])])
+            self.assertEqual(second.answers[1].reply[:2], b"2 ")
+            keeper.settle(first)
+        keeper.settle(second)
+        refused = b"refused not-kept no room"
+        self.assertEqual([a.reply for a in first.answers], [refused] * 2)
+        wanted = [refused, b"1 a 1 lend(b,c)", b"ok", b"drafted 1", b"", refused]
+        self.assertEqual([a.reply for a in second.answers], wanted)
+        self.assertEqual(self.ask(keeper, "commit"), ["refused no-draft"])
+        replies = keeper.round([Request(3, [b"commit"]), Request(3, [b"events"])])
+        self.assertEqual([answer.reply for answer in replies], [b"ok", b"0"])
+        kept = [update.lines for update in keeper.database.updates()]
+        self.assertEqual(kept[1:], ["begin\nretract a\ncommit"])
+
+    def test_ec_ends_while_a_group_is_committed(self) -> None:
+        keeper = self.keeper()
+        first = keeper.begin()
+        keeper.ask(first, [Request(1, [b"assert", b"a", b"1", b"lend(b,c)"])])
+        keeper.commit(first)
+        second = keeper.begin()
+        keeper.ask(second, [Request(2, [b"begin"])])
+        keeper._engine.process.kill()
+        keeper._engine.process.wait()
+        keeper.ask(second, [Request(2, [b"retract", b"a"]), Request(1, [b"events"])])
+        keeper.settle(first)
+        keeper.settle(second)
+        self.assertEqual(first.answers[0].reply, b"ok")
+        wanted = [b"ok", b"drafted 1", b"1 a 1 lend(b,c)"]
+        self.assertEqual([a.reply for a in second.answers], wanted)
+
+    def test_a_limit_of_the_file_s_size(self) -> None:
+        limited = (
+            "import resource, sys; from tests import keep; "
+            "resource.setrlimit(resource.RLIMIT_FSIZE, (1_000_000, 1_000_000)); "
+            "sys.exit(keep.main())"
+        )
+        start = words(self.file, "--theory", LOANS)
+        start[1:3] = ["-c", limited]
+        lines = "".join(f"assert e{n} {n} lend(b{n},c)\n" for n in range(20_000))
+        ran = subprocess.run(
+            start,
+            input=lines.encode() + b"events\n",
+            stdout=subprocess.PIPE,
+            cwd=TOP / "companion",
+            check=True,
+        )
+        replies = ran.stdout.decode().splitlines()
+        taken = replies.count("ok")
+        self.assertGreater(taken, 100)
+        refused = [r for r in replies if r.startswith("refused not-kept ")]
+        self.assertEqual(len(refused), 20_000 - taken)
+        self.assertEqual(replies[-1].split(" ")[0], str(taken))
+        status, out, _ = self.keep(self.file, "--check")
+        self.assertEqual(status, 0, out)
+        again = self.keep(self.file, lines="events\nassert x 1 lend(y,z)\n")[1]
+        self.assertEqual(again.splitlines(), [replies[-1], "ok"])
+
+
+if __name__ == "__main__":
+    unittest.main()
