@@ -1,0 +1,4 @@
+pub mod Days
+pub mod Places
+pub mod Stamps
+pub mod Texts

@@ -1,0 +1,2 @@
+pub mod LineEnds
+mod RelationLaws
