@@ -40,7 +40,7 @@ fn take_one<T: Moment, X: TimeRow<T>, L: Ledger>(
     ensures steps { steps.new ≡ steps.old + 1 }
 {
     let _ = store.len();
-    let _ = entries.remove(slot);
+    entries.remove(slot);
     let _ = store.remove(slot, steps);
 }
 

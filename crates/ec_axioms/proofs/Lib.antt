@@ -16,4 +16,3 @@ pub mod Histories
 pub mod HoldingLaws
 pub mod NotInitial
 pub mod NextBreak
-pub mod LineEnds

@@ -5,9 +5,5 @@ pub mod Links
 pub mod Changes
 pub mod Examples
 pub mod Laws
-pub mod Lines
-pub mod Commands
-pub mod Answers
 pub mod Events
 pub mod Plain
-pub mod QueryTexts

@@ -12,7 +12,6 @@ mod laws_not_initial;
 mod limits;
 mod plain;
 mod steps;
-pub mod worked_replies;
 pub mod worked_rows;
 
 pub use current::Current;
@@ -27,6 +26,6 @@ pub use laws_intervals::{
     intervals_are_disjoint_law, spans_are_the_intervals_law, through_is_each_instant_law,
 };
 pub use laws_not_initial::not_initial_law;
-pub use limits::{LONGEST_LINE, MOST_DRAFTED, MOST_EVENTS, MOST_LINKS, MOST_MENTIONS, SESSIONS};
+pub use limits::{MOST_EVENTS, MOST_LINKS, MOST_MENTIONS};
 pub use plain::holds_plain;
 pub use steps::Steps;

@@ -1,13 +1,12 @@
 -- The list that a batch leaves, update by update.
-use Rattle.std.proofs.Common.{◌≡◌, ◌+◌, ℕ, true, List, [], ◌∷◌, ◌++◌, length, suc, refl, sym, ap, ap₂, subst, ◌∙◌, arith}
+use Rattle.std.proofs.Common.{◌≡◌, ◌<◌, ◌+◌, ℕ, true, List, [], ◌∷◌, ◌++◌, length, suc, refl, sym, ap, ap₂, subst, ◌∙◌, arith}
 use Rattle.std.specs.Prelude.{Result, Ok, Err, MatchResult}
 use Rattle.ec_terms.specs.declared.theory.Theory.{Theory}
 use Rattle.ec_axioms.specs.declared.event.Cut.{Cut}
 use Rattle.ec_axioms.specs.Calculus.{PlainEvent}
-use Rattle.ec_axioms.specs.Changes.{PlainUpdate, after_update}
-use Rattle.ec_replies.specs.Runs.{may_want_by}
+use Rattle.ec_axioms.specs.Changes.{PlainUpdate, PlacedCut, after_update}
+use Rattle.ec_replies.specs.Runs.{batch_may_want_memory, may_want_by}
 use Rattle.ec_replies.specs.Updates.{updated, updated_from}
-use Rattle.ec_batch.specs.BatchMemory.{batch_may_want_memory}
 
 -- the first updates of a batch leave a list, and the rest goes on from it
 pub updated_from-front : (theory : Theory) (place : ℕ) (soon mid : List PlainEvent) (front rest : List PlainUpdate) → updated_from theory place soon front ≡ Ok mid
@@ -51,27 +50,26 @@ goes_on r a P is so = subst (λ s. MatchResult s P (λ e. ⊥)) (sym is) so
 
 -- ---- where memory may run out for a batch
 
--- where it may for the next update
+-- where it may for the first update
+may_want-accepted : (r : Result (List PlainEvent) Cut) (place : ℕ) (after : List PlainEvent) (rest : List PlainEvent → Result (List PlainEvent) PlacedCut) → after_update place r rest ≡ Ok after
+    → may_want_by r ≡ true
+may_want-accepted (Ok events) place after rest is = refl
+may_want-accepted (Err cut) place after rest is = cc
+
+-- so where it may for the next one behind those that are accepted
 pub batch_may_want-next : (theory : Theory) (soon mid : List PlainEvent) (front rest : List PlainUpdate) (update : PlainUpdate) → updated_from theory 1 soon front ≡ Ok mid
     → may_want_by (updated theory mid update) ≡ true → batch_may_want_memory theory soon (front ++ update ∷ rest) ≡ true
 unfolding batch_may_want_memory updated_from
-batch_may_want-next theory soon mid [] [] update is may =
+batch_may_want-next theory soon mid [] rest update is may =
     let same : soon ≡ mid = cc in ap (λ es. may_want_by (updated theory es update)) same ∙ may
-batch_may_want-next theory soon mid [] (next ∷ rest) update is may = refl
-batch_may_want-next theory soon mid (first ∷ []) rest update is may = refl
-batch_may_want-next theory soon mid (first ∷ second ∷ front) rest update is may = refl
+batch_may_want-next theory soon mid (first ∷ front) rest update is may = may_want-accepted (updated theory soon first) 1 mid _ is
 
--- and where all of it is accepted
-pub batch_may_want-accepted : (theory : Theory) (before after : List PlainEvent) (updates : List PlainUpdate) → updated_from theory 1 before updates ≡ Ok after
+-- and where all of it is accepted, and there is some of it
+pub batch_may_want-accepted : (theory : Theory) (before after : List PlainEvent) (updates : List PlainUpdate) → 0 < length updates → updated_from theory 1 before updates ≡ Ok after
     → batch_may_want_memory theory before updates ≡ true
 unfolding batch_may_want_memory updated_from
-batch_may_want-accepted theory before after [] is = refl
-batch_may_want-accepted theory before after (update ∷ []) is = by_first (updated theory before update) is
-  where
-    by_first : (r : Result (List PlainEvent) Cut) → after_update 1 r (λ es. Ok es) ≡ Ok after → may_want_by r ≡ true
-    by_first (Ok es) so = refl
-    by_first (Err cut) so = cc
-batch_may_want-accepted theory before after (update ∷ next ∷ updates) is = refl
+batch_may_want-accepted theory before after [] some is = let none : ⊥ = omega arith in absurd none
+batch_may_want-accepted theory before after (update ∷ updates) some is = may_want-accepted (updated theory before update) 1 after _ is
 
 -- a result is not both
 pub not_both : {A E : Type 0} (r : Result A E) (a : A) (e : E) → r ≡ Ok a → r ≡ Err e → ⊥

@@ -1,14 +1,16 @@
 -- Events that are put in one after another, each within the limits if all of them are.
-use Rattle.std.proofs.Common.{◌≡◌, ℕ, false, List, [], ◌∷◌, ◌++◌, length, map, IsFalse, refl, subst, ◌∙◌, inl, inr, arith, length-append}
+use Rattle.std.proofs.Common.{◌≡◌, ℕ, Bool, true, false, ◌||◌, cond, List, [], ◌∷◌, ◌++◌, length, map, IsFalse, refl, sym, ap, subst, ◌∙◌, inl, inr, arith, length-append}
 use Rattle.std.specs.Prelude.{bytes_eq, nat_le, nat_lt, Ok}
 use Rattle.std.specs.List.{fold}
+use Rattle.std.proofs.Math.Bool.{or-false}
 use Rattle.std.proofs.lemmas.Bool.{cond-false}
 use Rattle.std.proofs.lemmas.List.{map-append}
 use Rattle.std.proofs.lemmas.List.Sorted.{length_permutation}
 use Rattle.std.proofs.lemmas.List.Sums.{fold-append}
+use Rattle.ec_lists.proofs.Booleans.{or_left_comm, or_turned}
 use Rattle.ec_terms.specs.declared.theory.Theory.{Theory}
 use Rattle.ec_axioms.specs.Calculus.{PlainEvent}
-use Rattle.ec_axioms.specs.Changes.{has_id, with_event}
+use Rattle.ec_axioms.specs.Changes.{comes_before, event_eq, has_event, has_id, with_event}
 use Rattle.ec_axioms.specs.Links.{event_mentions, link_count, mentions_of, most_events, most_links, most_mentions}
 use Rattle.ec_axioms.proofs.Histories.{has_id-with_event}
 use Rattle.ec_axioms.proofs.Members.{IsMember, IsMember-map, IsPairwise}
@@ -45,6 +47,32 @@ unfolding has_id
 absent-built front e rest own =
     let ids = subst (λ ks. IsPairwise (λ j k. IsFalse (bytes_eq j k)) ks) (map-append (λ (f : PlainEvent). f.id) front (e ∷ rest)) (IsPairwise-from_distinct bytes_eq (map (λ (f : PlainEvent). f.id) (front ++ e ∷ rest)) own) in
     has_id-built e.id front [] (λ f member. pairwise-between (λ j k. IsFalse (bytes_eq j k)) (map (λ (f : PlainEvent). f.id) front) e.id (map (λ (f : PlainEvent). f.id) rest) ids f.id (IsMember-map (λ (f : PlainEvent). f.id) front f member)) refl
+
+-- ---- events
+
+-- an event stands in the list with another exactly if it is the other, or stands in the list
+has_event-with_event : (f e : PlainEvent) (events : List PlainEvent) → has_event (with_event e events) f ≡ (event_eq f e || has_event events f)
+unfolding has_event with_event
+has_event-with_event f e [] = refl
+has_event-with_event f e (g ∷ events) =
+    by_place (comes_before e g) (ap (λ b. event_eq f g || b) (has_event-with_event f e events) ∙ or_left_comm (event_eq f g) (event_eq f e) (has_event events f))
+  where
+    by_place : (before : Bool) → has_event (g ∷ with_event e events) f ≡ (event_eq f e || has_event (g ∷ events) f)
+        → has_event (cond before (e ∷ g ∷ events) (g ∷ with_event e events)) f ≡ (event_eq f e || has_event (g ∷ events) f)
+    by_place true rest = refl
+    by_place false rest = rest
+
+-- and so with several others
+has_event-built : (f : PlainEvent) (events built : List PlainEvent) → has_event (fold (λ es e. with_event e es) built events) f ≡ (has_event built f || has_event events f)
+unfolding has_event
+has_event-built f [] built = sym (or-false (has_event built f))
+has_event-built f (e ∷ events) built =
+    has_event-built f events (with_event e built) ∙ ap (λ b. b || has_event events f) (has_event-with_event f e built) ∙ sym (or_turned (has_event built f) (event_eq f e) (has_event events f))
+
+-- so an event stands in the history of some events exactly if it is one of them
+pub has_event-history_from : (events : List PlainEvent) (f : PlainEvent) → has_event (history_from events) f ≡ has_event events f
+unfolding has_event
+has_event-history_from events f = has_event-built f events []
 
 -- ---- limits
 

@@ -8,9 +8,8 @@ use Rattle.ec_axioms.specs.Calculus.{PlainEvent}
 use Rattle.ec_axioms.specs.Changes.{after_update, asserting}
 use Rattle.ec_store.specs.Table.{KeptProp, prop_at, term_at}
 use Rattle.ec_parts.specs.Tables.{KeepsOnlyLive}
-use Rattle.ec_replies.specs.Runs.{may_want_by}
+use Rattle.ec_replies.specs.Runs.{batch_may_want_memory, may_want_by}
 use Rattle.ec_replies.specs.Updates.{asserted, updated_by, updated_from}
-use Rattle.ec_batch.specs.BatchMemory.{batch_may_want_memory}
 use Rattle.ec_batch.specs.Walk.{AreLiveOrListed}
 use Rattle.ec_batch.proofs.WalkSteps.{listed-more, new_terms}
 

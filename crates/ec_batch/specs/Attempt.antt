@@ -8,8 +8,8 @@ use Rattle.ec_parts.specs.StandFor.{StandFor, View}
 use Rattle.ec_batch.specs.declared.refusal.Refusal.{Refusal}
 use Rattle.ec_batch.specs.declared.refusal.Refusal.TheVariants.{Update, Memory}
 use Rattle.ec_batch.specs.declared.walk.Walk.{Walk}
+use Rattle.ec_replies.specs.Runs.{batch_may_want_memory}
 use Rattle.ec_replies.specs.Updates.{updated_by}
-use Rattle.ec_batch.specs.BatchMemory.{batch_may_want_memory}
 use Rattle.ec_batch.specs.Walk.{HasWalkedTo}
 
 -- What trying a batch comes to: a walk to the list after all updates; or the first refusal with its place, or memory ran out,

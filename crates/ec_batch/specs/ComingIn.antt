@@ -11,10 +11,10 @@ use Rattle.ec_store.specs.Store.{Kept, history_of}
 use Rattle.ec_numbered.specs.PropSet.{has_number}
 use Rattle.ec_parts.specs.declared.tally.Tally.{Tally}
 use Rattle.ec_parts.specs.StandFor.{StandFor, StandForBoth, View}
+use Rattle.ec_replies.specs.Runs.{batch_may_want_memory}
 use Rattle.ec_replies.specs.Updates.{updated_by, with_few_mentions}
 use Rattle.ec_batch.specs.declared.refusal.Refusal.{Refusal}
 use Rattle.ec_batch.specs.declared.refusal.Refusal.TheVariants.{Update, Memory}
-use Rattle.ec_batch.specs.BatchMemory.{batch_may_want_memory}
 use Rattle.ec_batch.specs.Walk.{AreLiveOrListed}
 
 -- An event that does not come in is refused as a batch of it is, or memory ran out, as it may; the parts stand for the list of

@@ -2,7 +2,6 @@ pub mod Limits
 pub mod Net
 pub mod Limited
 pub mod Walk
-pub mod BatchMemory
 pub mod Through
 pub mod Build
 pub mod Idle

@@ -9,8 +9,8 @@ use Rattle.ec_parts.specs.StandFor.{View}
 use Rattle.ec_batch.specs.declared.refusal.Refusal.{Refusal}
 use Rattle.ec_batch.specs.declared.refusal.Refusal.TheVariants.{Update, Memory}
 use Rattle.ec_batch.specs.declared.walk.Walk.{Walk}
+use Rattle.ec_replies.specs.Runs.{batch_may_want_memory}
 use Rattle.ec_replies.specs.Updates.{updated_by}
-use Rattle.ec_batch.specs.BatchMemory.{batch_may_want_memory}
 use Rattle.ec_batch.specs.Walk.{HasWalkedTo}
 
 -- there is a list to which a walk has come from these events

@@ -70,4 +70,4 @@ pub record HasWalked {T : Type 0} (rank : T → ℤ) (theory : Theory) (view : V
 abbrev pub GoesOn : {T A : Type 0} → (T → ℤ) → Theory → List (Kept T) → List PlainEvent → PlainUpdate → View T → Tally → Walk T → Result A Stop → Type 0
 GoesOn rank theory events soon update view tally walk (Ok done) = MatchResult (updated theory soon update) (λ after. HasWalkedTo rank theory events after view tally walk) (λ cut. ⊥)
 GoesOn rank theory events soon update view tally walk (Err (Refused cut)) = (updated theory soon update ≡ Err cut) × HasWalkedTo rank theory events soon view tally walk
-GoesOn rank theory events soon update view tally walk (Err Memory) = IsTrue (may_want_by (updated theory soon update)) × HasWalkedTo rank theory events soon view tally walk
+GoesOn rank theory events soon update view tally walk (Err (Memory none)) = IsTrue (may_want_by (updated theory soon update)) × HasWalkedTo rank theory events soon view tally walk

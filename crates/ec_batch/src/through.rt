@@ -44,7 +44,7 @@ pub(crate) fn walk_through<T: Moment, M: MarkRow<T>, I: SpanRow<T>, X: TimeRow<T
         match update(alloc, parts, tally, walk, one, steps) {
             Ok(()) => {}
             Err(Stop::Refused(cut)) => return Err(Refusal::Update { place, cut }),
-            Err(Stop::Memory) => return Err(Refusal::Memory),
+            Err(Stop::Memory(_)) => return Err(Refusal::Memory),
         }
     }
     Ok(())
@@ -70,7 +70,7 @@ pub fn walk_in<T: Moment, M: MarkRow<T>, I: SpanRow<T>, X: TimeRow<T>>(
         match assert_event(alloc, parts, tally, walk, event) {
             Ok(()) => {}
             Err(Stop::Refused(_)) => unreachable!(),
-            Err(Stop::Memory) => return Err(NoMemory),
+            Err(Stop::Memory(none)) => return Err(none),
         }
     }
     Ok(())

@@ -24,7 +24,7 @@ use std::sync::ledger::Ledger;
 #[derive(Drop)]
 pub(crate) enum Stop {
     Refused(Cut),
-    Memory,
+    Memory(NoMemory),
 }
 
 /// What a walk knows.
@@ -72,14 +72,16 @@ pub(crate) fn assert_event<T: Moment, M: MarkRow<T>, I: SpanRow<T>, X: TimeRow<T
     if walk.events >= MOST_EVENTS {
         return Err(Stop::Refused(Cut::FullEvents));
     }
-    let Ok(()) = make_room(&mut walk.nets) else {
-        return Err(Stop::Memory);
+    if let Err(none) = make_room(&mut walk.nets) {
+        return Err(Stop::Memory(none));
+    }
+    let copy = match copy_of(alloc, event) {
+        Ok(copy) => copy,
+        Err(none) => return Err(Stop::Memory(none)),
     };
-    let Ok(copy) = copy_of(alloc, event) else {
-        return Err(Stop::Memory);
-    };
-    let Ok(entries) = enter(alloc, parts, event, &mut walk.fresh) else {
-        return Err(Stop::Memory);
+    let entries = match enter(alloc, parts, event, &mut walk.fresh) {
+        Ok(entries) => entries,
+        Err(none) => return Err(Stop::Memory(none)),
     };
     if let Err(cut) = take_in(parts, tally, &entries) {
         return Err(Stop::Refused(cut));
@@ -115,12 +117,12 @@ fn retract_stored<T: Moment, M: MarkRow<T>, I: SpanRow<T>, X: TimeRow<T>, L: Led
 {
     let _ = parts.props.len();
     let _ = parts.store.len();
-    let Ok(()) = make_room(&mut walk.nets) else {
-        return Err(Stop::Memory);
-    };
-    let Ok(()) = release_slot(parts, tally, slot, &mut walk.dying, steps) else {
-        return Err(Stop::Memory);
-    };
+    if let Err(none) = make_room(&mut walk.nets) {
+        return Err(Stop::Memory(none));
+    }
+    if let Err(none) = release_slot(parts, tally, slot, &mut walk.dying, steps) {
+        return Err(Stop::Memory(none));
+    }
     let old = Some(slot);
     put(&mut walk.nets, id.copied(), Net { old, new: None });
     walk.events -= 1;
@@ -146,18 +148,18 @@ fn retract_added<T: Moment, M: MarkRow<T>, I: SpanRow<T>, X: TimeRow<T>>(
     if !is_present(&walk.nets, &parts.store, id) {
         return Err(Stop::Refused(Cut::Unknown(id.copied())));
     }
-    let Ok(()) = make_room(&mut walk.nets) else {
-        return Err(Stop::Memory);
-    };
+    if let Err(none) = make_room(&mut walk.nets) {
+        return Err(Stop::Memory(none));
+    }
     let Some(net) = walk.nets.get(id) else {
         unreachable!();
     };
     let Some(added) = &net.new else {
         unreachable!();
     };
-    let Ok(()) = note_props(&mut walk.dying, &added.entries) else {
-        return Err(Stop::Memory);
-    };
+    if let Err(none) = note_props(&mut walk.dying, &added.entries) {
+        return Err(Stop::Memory(none));
+    }
     release_all(parts, tally, &added.entries);
     let old = net.old;
     put(&mut walk.nets, id.copied(), Net { old, new: None });

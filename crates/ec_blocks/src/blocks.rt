@@ -1,4 +1,4 @@
-ghost use Rattle.std.specs.Prelude.{◌≡◌, ◌+◌, ◌-◌, ◌<◌, ◌≤◌, ◌++◌, ◌∷◌, [], Bool, true, false, Some, OnOk, OnErr, IsTrue, ◌↔◌, length, take, drop, slice_get, slice_set, IfOk, IfSome, IfNone, min, vec_len};
+ghost use Rattle.std.specs.Prelude.{◌≡◌, ◌+◌, ◌-◌, ◌<◌, ◌≤◌, ◌++◌, ◌∷◌, [], Bool, true, false, Some, OnOk, OnErr, IsTrue, ◌↔◌, length, take, drop, slice_get, slice_set, IfOk, IfSome, IfNone, min, max, vec_len};
 ghost use Rattle.std.specs.Vec.{vec_capacity};
 ghost use Rattle.std.specs.Fn.{ComputesKey};
 ghost use Rattle.std.specs.List.{insert, remove, splice};
@@ -224,12 +224,13 @@ impl<X: Copied + Drop> Blocks<X> {
         }
     }
 
-    /// Makes room for `n` further members, wherever they are put. `Err`: memory ran out, and all is as it
-    /// was.
+    /// Makes room for `n` further members, wherever they are put, and for few more than these. `Err`: memory
+    /// ran out, and the members are as they were.
     pub fn reserve(&mut self, n: usize) -> Result<(), NoMemory>
         ensures same { self.new.items ≡ self.old.items }
         ensures ok { OnOk result (n ≤ self.new.spare) }
         ensures spare { self.old.spare ≤ self.new.spare }
+        ensures most { self.new.spare ≤ max self.old.spare (n + 128) }
     {
         widen(&mut self.body, n)?;
         match &mut self.body {
@@ -257,6 +258,7 @@ fn widen<X: Copied + Drop>(body: &mut Body<X>, n: usize) -> Result<(), NoMemory>
     ensures body { IsBody body.new }
     ensures same { (seen_of body.new).items ≡ (seen_of body.old).items }
     ensures spare { (seen_of body.old).spare ≤ (seen_of body.new).spare }
+    ensures most { (seen_of body.new).spare ≤ max (seen_of body.old).spare (n + 63) }
     ensures wide { OnOk result (IsWide n body.new) }
 {
     let Body::Few(members) = body else {
@@ -277,6 +279,7 @@ fn chain_for<X: Copied + Drop>(
     ensures members { IfOk result (λ found. IfSome found (λ chain. joined chain.value.blocks ≡ members.now.items)) }
     ensures room { IfOk result (λ found. IfSome found (λ chain. n ≤ room_of chain.value.blocks chain.value.spares)) }
     ensures spare { IfOk result (λ found. IfSome found (λ chain. min (vec_capacity members.now) 128 - vec_len members.now ≤ room_of chain.value.blocks chain.value.spares)) }
+    ensures most { IfOk result (λ found. IfSome found (λ chain. room_of chain.value.blocks chain.value.spares ≤ n + 63)) }
     ensures none { IfOk result (λ found. IfNone found (vec_len members.now + n ≤ 128)) }
 {
     if n <= CAPACITY - members.len() {
@@ -296,8 +299,10 @@ fn begin_with<X: Copied + Drop>(
 ) -> Result<(), NoMemory>
     requires few { length members.now ≤ 128 }
     requires none { chain.old.blocks ≡ [] }
+    requires no_spares { chain.old.spares ≡ 0 }
     ensures members { OnOk result (joined chain.new.blocks ≡ members.now) }
     ensures room { OnOk result (n ≤ room_of chain.new.blocks chain.new.spares) }
+    ensures most { OnOk result (room_of chain.new.blocks chain.new.spares ≤ n + 63) }
 {
     if !members.is_empty() {
         chain.add_spare()?;

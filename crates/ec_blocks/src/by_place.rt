@@ -1,5 +1,5 @@
 //! The edits of a chain by places among all members.
-ghost use Rattle.std.specs.Prelude.{◌≡◌, ◌+◌, ◌<◌, ◌≤◌, ◌++◌, ◌∷◌, [], Some, Bool, true, false, ◌⊎◌, ℕ, ◌-◌, ◌*◌, OnOk, OnErr, IfSome, length, take, drop, slice_get, slice_set};
+ghost use Rattle.std.specs.Prelude.{◌≡◌, ◌+◌, ◌<◌, ◌≤◌, ◌++◌, ◌∷◌, [], Some, Bool, true, false, ◌⊎◌, ℕ, ◌-◌, ◌*◌, OnOk, OnErr, IfSome, max, length, take, drop, slice_get, slice_set};
 ghost use Rattle.std.specs.Fn.{ComputesKey};
 ghost use Rattle.std.specs.List.{insert, remove};
 ghost use Rattle.std.specs.List.Sorted.{IsPartitionedBy, IsPartitionPoint};
@@ -205,13 +205,15 @@ impl<X: Copied + Drop> Chain<X> {
         ensures same { self.new.blocks ≡ self.old.blocks }
         ensures ok { OnOk result (n ≤ room_of self.new.blocks self.new.spares) }
         ensures room { room_of self.old.blocks self.old.spares ≤ room_of self.new.blocks self.new.spares }
+        ensures most { room_of self.new.blocks self.new.spares ≤ max (room_of self.old.blocks self.old.spares) (n + 63) }
+        ensures few { self.new.spares ≤ max self.old.spares n }
     {
         if n <= self.spares() {
             return Ok(()); // each insertion takes one spare block at the most
         }
         let debt = self.debt();
         let _count = self.count();
-        for _k in 0..n {
+        for _made in self.spares()..n {
             if n <= (HALF * self.spares()).saturating_sub(debt) {
                 return Ok(());
             }

@@ -10,7 +10,7 @@ ghost use Rattle.ec_blocks.specs.ChainParts.{is_kept, is_spare};
 use crate::counts::Counts;
 use crate::starts::Starts;
 use crate::tiers::{Tiers, passes};
-use ec_lists::{Copied, NoMemory};
+use ec_lists::{Copied, NoMemory, add_counts};
 use std::alloc::Global;
 use std::cell::Cell;
 use std::marker::Model;
@@ -23,9 +23,6 @@ pub(crate) const HALF: usize = 64;
 
 /// How many members from a place on are looked at before the other ones of its block.
 const ROUND: usize = 3;
-
-/// How many blocks there can be, so that their members can be counted.
-const LIMIT: usize = 1 << 56;
 
 /// Blocks one behind another, and empty ones that lie ready.
 #[derive(Drop)]
@@ -320,9 +317,8 @@ impl<X: Copied + Drop> Chain<X> {
     {
         let count = self.blocks.len();
         let spares = self.spares.len();
-        if count + spares >= LIMIT {
-            return Err(NoMemory);
-        }
+        let members = (count + spares) * CAPACITY;
+        let _twice = add_counts(members, members)?; // so that all members can be counted
         widen(
             &mut self.blocks,
             &mut self.starts,

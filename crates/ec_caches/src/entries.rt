@@ -67,7 +67,7 @@ fn literal_of(rt: &impl Abort, spelt: &str) -> EntryLiteral {
         None => (true, spelt),
     };
     let prop = PropId(p.parse::<usize>().expect(rt, spelt));
-    EntryLiteral { positive, prop }
+    EntryLiteral::new(positive, prop)
 }
 
 /// The number and the time that are spelt as `1 -4`.
@@ -243,8 +243,8 @@ fn dependents_are_found_by_time(rt: HostRuntime) {
 /// Takes the two entries of the first slot out.
 fn take_out(rt: &impl Abort, entries: &mut Entries<Tick>) {
     assert!(rt; entries.contains(Slot(0)));
-    let list = entries.remove(Slot(0));
-    assert!(rt; list.len() == 2);
+    entries.remove(Slot(0));
+    assert!(rt; !entries.contains(Slot(0)));
 }
 
 #[test]

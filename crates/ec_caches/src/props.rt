@@ -6,7 +6,6 @@ ghost use Rattle.ec_store.specs.PropKeys.{key_of};
 ghost use Rattle.ec_store.specs.Table.{prop_at};
 
 use crate::fixtures::{boxed, term_of};
-use ec_lists::NoMemory;
 use ec_store::PropTable;
 use ec_terms::{ArgRef, GroundRef, PropId, order};
 use std::alloc::Global;
@@ -36,7 +35,7 @@ fn keep(rt: &impl Abort, table: &mut PropTable, term: &GroundRef<'_>) -> PropId
     let count = table.len();
     match table.intern(term) {
         Ok(p) => p,
-        Err(NoMemory) => {
+        Err(_) => {
             assert!(rt; table.len() == count && table.lookup(term).is_none());
             table.intern(term).expect(rt, "memory")
         }

@@ -142,7 +142,7 @@ fn builds<M: MarkRow<Tick>, I: SpanRow<Tick>, X: TimeRow<Tick>, L: Ledger>(
     );
     match built {
         Ok(engine) => engine.parts().store.len() == 0,
-        Err(NoMemory) => false,
+        Err(_) => false,
     }
 }
 

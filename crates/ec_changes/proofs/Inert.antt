@@ -27,7 +27,7 @@ use Rattle.ec_changes.proofs.TwoTimelines.{AgreeInLife, AgreeBothWays, intervals
 -- ---- before all events
 
 -- some rank up to t has no event of the list before it
-rank_before : (events : List PlainEvent) (t : ℤ) → (a : ℤ) × IsTrue (int_le a t) × IsTrue (list_all (λ e. int_le a e.rank) events)
+pub rank_before : (events : List PlainEvent) (t : ℤ) → (a : ℤ) × IsTrue (int_le a t) × IsTrue (list_all (λ e. int_le a e.rank) events)
 rank_before [] t = (t, int_le-same t, refl)
 rank_before (e ∷ events) t =
     let later = rank_before events t in
@@ -48,7 +48,7 @@ rank_before (e ∷ events) t =
         lower_one f a beyond within = grind (arith, ints)
 
 -- there a property is current where it is initial
-is_current-before_all : (theory : Theory) (events : List PlainEvent) (p : Ground) (a : ℤ) → IsTrue (list_all (λ e. int_le a e.rank) events)
+pub is_current-before_all : (theory : Theory) (events : List PlainEvent) (p : Ground) (a : ℤ) → IsTrue (list_all (λ e. int_le a e.rank) events)
     → is_current theory events p a ≡ is_initial theory p
 is_current-before_all theory events p a all =
     is_current-first theory events p a

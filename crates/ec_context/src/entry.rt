@@ -14,11 +14,21 @@ pub const MOST_LITERALS: usize = ec_check::MOST_LITERALS;
 /// The most entries that an event has: one for each rule with its name and number of arguments.
 pub const MOST_ENTRIES: usize = ec_check::MOST_EVENT_RULES;
 
-/// A literal of an entry: that a property is current, or, where not `positive`, that it is not.
+/// A literal of an entry: that a property is current, or, where not `positive`, that it is not. Which of the two, only
+/// `evaluate` reads, so that no condition is tried without a step.
 #[derive(Clone, Copy)]
 pub struct EntryLiteral {
-    pub positive: bool,
+    pub(crate) positive: bool,
     pub prop: PropId,
+}
+
+impl EntryLiteral {
+    /// The literal that a property is current, or, where not `positive`, that it is not.
+    pub fn new(positive: bool, prop: PropId) -> EntryLiteral
+        ensures { result ≡ record { positive = positive; prop = prop } }
+    {
+        EntryLiteral { positive, prop }
+    }
 }
 
 /// The literal that fills the unused places of a list of literals.

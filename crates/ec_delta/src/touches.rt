@@ -3,7 +3,7 @@ ghost use Rattle.std.specs.Prelude.{◌≡◌, ◌+◌, ◌==◌, ℕ, [], Some,
 ghost use Rattle.ec_terms.specs.declared.ids.PropId.{PropId};
 ghost use Rattle.ec_delta.specs.Touched.{are_once, first_touched, touched_at, touched_with, widened};
 
-use ec_lists::NoMemory;
+use ec_lists::{NoMemory, add_counts};
 use ec_moment::Moment;
 use ec_numbered::NumberMap;
 use ec_terms::PropId;
@@ -51,11 +51,7 @@ impl<T: Moment> Model for Touches<T> {
 fn count_if(count: usize, so: bool) -> Result<usize, NoMemory>
     ensures { IfOk result (λ more. more ≡ (if so then count + 1 else count)) }
 {
-    if so {
-        count.checked_add(1).ok_or(NoMemory)
-    } else {
-        Ok(count)
-    }
+    if so { add_counts(count, 1) } else { Ok(count) }
 }
 
 /// What is touched of a property once one more of its marks changes, later than all before. `Err`: a count is at its end.

@@ -4,10 +4,10 @@ use Rattle.ec_terms.specs.declared.theory.Theory.{Theory}
 use Rattle.ec_axioms.specs.declared.event.Seen.{Seen}
 use Rattle.ec_axioms.specs.Calculus.{PlainEvent}
 use Rattle.ec_axioms.specs.Changes.{PlainUpdate, PlacedCut, change_counts, entry_count, events_only_in, work_between}
+use Rattle.ec_replies.specs.Runs.{batch_may_want_memory}
 use Rattle.ec_replies.specs.Updates.{updated_by}
 use Rattle.ec_batch.specs.declared.refusal.Refusal.{Refusal}
 use Rattle.ec_batch.specs.declared.refusal.Refusal.TheVariants.{Update, Memory}
-use Rattle.ec_batch.specs.BatchMemory.{batch_may_want_memory}
 
 -- What applying a batch comes to: the list after all updates, and what changed between the two lists; or the first refusal
 -- with its place, or memory ran out, and then the list is as it was.

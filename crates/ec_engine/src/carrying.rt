@@ -27,16 +27,16 @@ use ec_terms::PropId;
 use std::alloc::Global;
 use std::sync::ledger::Ledger;
 
-/// Plans a change of all caches and makes it. `Err`: memory ran out, and nothing has changed; the change is given back.
+/// Plans a change of all caches and makes it. `Err`: memory ran out, and nothing has changed; the change is given back, with the want of memory.
 fn make_change<T: Moment, M: MarkRow<T>, I: SpanRow<T>, X: TimeRow<T>, L: Ledger>(
     lists: &mut Lists<T>,
     parts: &mut Parts<T, M, I, X>,
     change: Change<T>,
     steps: &mut Steps<L>,
-) -> Result<Seen, Change<T>>
+) -> Result<Seen, (Change<T>, NoMemory)>
     requires leads { LeadsSomewhere T.rank parts.old.checked (view_of parts.old) change }
     ensures made { IfOk result (IsMade T.rank parts.old.checked change (view_of parts.old) (view_of parts.new)) }
-    ensures back { IfErr result (λ back. back ≡ change) }
+    ensures back { IfErr result (λ back. back.0 ≡ change) }
     ensures stands { OnErr result (StandAsBefore T.rank parts.old.checked (view_of parts.old) (view_of parts.new)) }
     ensures events { OnErr result (parts.new.store.events ≡ parts.old.store.events) }
     ensures theory { parts.new.checked ≡ parts.old.checked }
@@ -48,7 +48,7 @@ fn make_change<T: Moment, M: MarkRow<T>, I: SpanRow<T>, X: TimeRow<T>, L: Ledger
 {
     match plan(lists, parts, change, steps) {
         Ok(delta) => Ok(apply(parts, delta, &mut lists.planned, steps)),
-        Err(change) => Err(change),
+        Err(back) => Err(back),
     }
 }
 
@@ -93,9 +93,9 @@ pub(crate) fn carry_change<T: Moment, M: MarkRow<T>, I: SpanRow<T>, X: TimeRow<T
             forget_listed(parts, fresh, dying);
             Ok(seen)
         }
-        Err(change) => {
+        Err((change, none)) => {
             undo_change(parts, tally, &change, fresh, steps);
-            Err(NoMemory)
+            Err(none)
         }
     }
 }
@@ -119,9 +119,12 @@ pub(crate) fn carry_out<T: Moment, M: MarkRow<T>, I: SpanRow<T>, X: TimeRow<T>, 
         steps.new ≤ steps.old + index_map_len walk.nets + steps_between parts.old.checked (history_of T.rank parts.old.store.events) soon }
 {
     let mut walk = walk;
-    let Ok(change) = net_change(alloc, parts, &mut walk, steps) else {
-        undo(parts, tally, &walk, steps);
-        return Err(NoMemory);
+    let change = match net_change(alloc, parts, &mut walk, steps) {
+        Ok(change) => change,
+        Err(none) => {
+            undo(parts, tally, &walk, steps);
+            return Err(none);
+        }
     };
     carry_change(
         lists,

@@ -1,7 +1,8 @@
 //! The engine.
 ghost use Rattle.std.specs.Prelude.{◌≡◌, ◌+◌, ◌≤◌, ◌<◌, ◌^◌, [], ◌∷◌, IsTrue, IfOk, length, map};
 ghost use Rattle.ec_terms.specs.Term.{ground_of, names_are_names};
-ghost use Rattle.ec_axioms.specs.Changes.{asserting, entry_count};
+ghost use Rattle.ec_axioms.specs.Calculus.{PlainEvent};
+ghost use Rattle.ec_axioms.specs.Changes.{asserting, entry_count, has_event, has_id, is_history, retracting};
 ghost use Rattle.ec_axioms.specs.Events.{event_of, plain_update};
 ghost use Rattle.ec_parts.specs.StandFor.{StandFor, view_of};
 ghost use Rattle.ec_batch.specs.Build.{HaveOwnIds, history_from};
@@ -12,7 +13,7 @@ ghost use Rattle.ec_engine.specs.Standing.{IsStanding};
 use crate::arriving::arrive;
 use crate::building::fill;
 use crate::carrying::{carry_change, carry_out};
-use ec_axioms::{Event, Seen, Steps, Update};
+use ec_axioms::{Cut, Event, Seen, Steps, Update};
 use ec_batch::{Refusal, attempt};
 use ec_check::Checked;
 use ec_context::Rules;
@@ -25,6 +26,14 @@ use ec_terms::{GroundRef, Name};
 use std::alloc::Global;
 use std::marker::Model;
 use std::sync::ledger::Ledger;
+
+/// The counts of a change that changed nothing.
+const NO_CHANGE: Seen = Seen {
+    seen: 0,
+    on: 0,
+    off: 0,
+    props: 0,
+};
 
 /// A list of events under a theory, with all that follows from it. The list has no more events, mentions and links than there may be.
 /// Contracts see the theory and the list.
@@ -76,6 +85,8 @@ impl<T: Moment, M: MarkRow<T>, I: SpanRow<T>, X: TimeRow<T>> Engine<T, M, I, X> 
         requires own { HaveOwnIds (map (event_of T.rank) list.now) }
         requires within { IsWithinLimits checked (history_from (map (event_of T.rank) list.now)) }
         ensures built { IfOk result (λ engine. engine ≡ record { theory = checked; events = history_from (map (event_of T.rank) list.now) }) }
+        ensures history { IfOk result (λ engine. IsTrue (is_history engine.events)) }
+        ensures members { IfOk result (λ engine. (event : PlainEvent) → has_event engine.events event ≡ has_event (map (event_of T.rank) list.now) event) }
         ensures steps { steps.new ≤ steps.old + entry_count checked (history_from (map (event_of T.rank) list.now)) + length list.now }
     {
         let (mut parts, mut tally) = boxed_parts(alloc, checked)?;
@@ -99,8 +110,9 @@ impl<T: Moment, M: MarkRow<T>, I: SpanRow<T>, X: TimeRow<T>> Engine<T, M, I, X> 
     }
 
     /// Applies a batch of updates in order, all of it or nothing, and counts what it changed. `Err`: the first update that is
-    /// refused, with its place from 1, or memory ran out; then the list is as it was. Of a batch of one update, these refusals
-    /// take no memory and are always told: its identity is present, its identity is absent, there are too many events.
+    /// refused, with its place from 1, or memory ran out; then the list is as it was. Of the first update, these refusals take no
+    /// memory and are always told: its identity is present, its identity is absent, there are too many events. A batch of no
+    /// update takes no memory.
     ///
     /// The steps follow what the batch changes, and not how long the list is.
     pub fn revise<L: Ledger>(
@@ -113,6 +125,9 @@ impl<T: Moment, M: MarkRow<T>, I: SpanRow<T>, X: TimeRow<T>> Engine<T, M, I, X> 
         ensures theory { self.new.theory ≡ self.old.theory }
         ensures steps { steps.new ≤ steps.old + most_steps self.old.theory self.old.events (map (plain_update T.rank) batch.now) }
     {
+        if batch.is_empty() {
+            return Ok(NO_CHANGE);
+        }
         let parts = &mut *self.parts;
         let walk = match attempt(self.alloc, parts, &mut self.tally, batch, steps) {
             Ok(walk) => walk,
@@ -164,6 +179,46 @@ impl<T: Moment, M: MarkRow<T>, I: SpanRow<T>, X: TimeRow<T>> Engine<T, M, I, X> 
             return Err(Refusal::Memory);
         };
         Ok(seen)
+    }
+
+    /// Retracts the event of an identity, as a batch of this update would. `Err`: no event has the identity, or memory ran out;
+    /// then the list is as it was. That no event has it takes no memory and is always told.
+    pub fn retract<L: Ledger>(&mut self, id: Name, steps: &mut Steps<L>) -> Result<Seen, Refusal>
+        ensures revised { IsRevised self.old.theory self.old.events (retracting id ∷ []) result self.new.events }
+        ensures theory { self.new.theory ≡ self.old.theory }
+        ensures steps { steps.new ≤ steps.old + most_steps self.old.theory self.old.events (retracting id ∷ []) }
+    {
+        if self.is_present(&id) {
+            self.retract_present(id, steps)
+        } else {
+            let cut = Cut::Unknown(id);
+            Err(Refusal::Update { place: 1, cut })
+        }
+    }
+
+    /// Whether an event has an identity.
+    fn is_present(&self, id: &Name) -> bool
+        ensures { result ≡ has_id id.now self.now.events }
+    {
+        self.parts().store.find(id).is_some()
+    }
+
+    /// Retracts an event that is present.
+    fn retract_present<L: Ledger>(
+        &mut self,
+        id: Name,
+        steps: &mut Steps<L>,
+    ) -> Result<Seen, Refusal>
+        requires present { IsTrue (has_id id self.old.events) }
+        ensures revised { IsRevised self.old.theory self.old.events (retracting id ∷ []) result self.new.events }
+        ensures theory { self.new.theory ≡ self.old.theory }
+        ensures steps { steps.new ≤ steps.old + most_steps self.old.theory self.old.events (retracting id ∷ []) }
+    {
+        let Ok(mut batch) = Vec::with_capacity(self.alloc, 1) else {
+            return Err(Refusal::Memory);
+        };
+        batch.push_reserved(Update::Retract(id));
+        self.revise(batch.as_slice(), steps)
     }
 }
 

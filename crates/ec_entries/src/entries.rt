@@ -1,4 +1,4 @@
-ghost use Rattle.std.specs.Prelude.{◌≡◌, ◌≢◌, ◌+◌, ◌<◌, ◌≤◌, ℕ, [], None, Some, IsSome, IsTrue, IfSome, int_le, is_some, OnOk, length, take, slice_get, option_map};
+ghost use Rattle.std.specs.Prelude.{◌≡◌, ◌≢◌, ◌+◌, ◌^◌, ◌<◌, ◌≤◌, ℕ, [], None, Some, IsSome, IsTrue, IfSome, int_le, is_some, OnOk, length, take, slice_get, option_map};
 ghost use Rattle.std.specs.List.{list_all};
 ghost use Rattle.ec_numbered.specs.ByNumber.{kept_at};
 ghost use Rattle.ec_entries.specs.Dependents.{AreDependents, count_on, count_on_all, dependents_after, dependents_at, dependents_of, room_of};
@@ -88,10 +88,9 @@ impl<T: Moment> Entries<T> {
         self.slots[slot.0] = Some(EventEntries { at, list, active });
     }
 
-    /// Takes out the entries of the event in a slot. It takes no memory.
-    pub fn remove(&mut self, slot: Slot) -> EntryList
+    /// Takes out the entries of the event in a slot, and does not give them: to read them is a step. It takes no memory.
+    pub fn remove(&mut self, slot: Slot)
         requires { IsSome (kept_at slot.0 self.old.slots) }
-        ensures list { option_map (λ kept. kept.list) (kept_at slot.0 self.old.slots) ≡ Some result }
         ensures absent { kept_at slot.0 self.new.slots ≡ None }
         ensures others { (other : ℕ) → other ≢ slot.0 → kept_at other self.new.slots ≡ kept_at other self.old.slots }
         ensures places { length self.new.slots ≡ length self.old.slots }
@@ -101,7 +100,6 @@ impl<T: Moment> Entries<T> {
             unreachable!();
         };
         drop_all(&mut self.rows, kept.at, slot, kept.list.as_slice());
-        kept.list
     }
 
     /// The entries of the event in a slot. To read them is one step.
@@ -189,6 +187,7 @@ impl<T: Moment> Entries<T> {
     /// of that slot. `None` exactly when there are at most k.
     pub fn dependent(&self, p: PropId, at: T, k: usize) -> Option<(Slot, u8)>
         ensures nth { result ≡ option_map (λ dependent. (dependent.slot, dependent.place)) (slice_get (dependents_at T.rank (T.rank at) (dependents_of p.0 self.now.rows)) k) }
+        ensures few { length (dependents_at T.rank (T.rank at) (dependents_of p.0 self.now.rows)) < 2 ^ 64 }
         ensures dependents { AreDependents T.rank p.0 self.now.slots (dependents_of p.0 self.now.rows) }
     {
         nth_at(self.rows.get(p)?, at, k)

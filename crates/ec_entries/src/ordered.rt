@@ -1,5 +1,5 @@
 //! One list of dependents in order: one put in its place, one taken out, and the dependents of a time.
-ghost use Rattle.std.specs.Prelude.{◌≡◌, ◌+◌, ◌<◌, ◌≤◌, ℕ, true, false, [], ◌∷◌, IfSome, int_lt, int_le, length, take, slice_get, slice_index_or, option_map, if◌then◌else◌};
+ghost use Rattle.std.specs.Prelude.{◌≡◌, ◌+◌, ◌^◌, ◌<◌, ◌≤◌, ℕ, true, false, [], ◌∷◌, IfSome, int_lt, int_le, length, take, slice_get, slice_index_or, option_map, if◌then◌else◌};
 ghost use Rattle.std.specs.List.Sorted.{IsPartitionPoint};
 ghost use Rattle.ec_entries.specs.declared.event_entries.Dependent.{Dependent};
 ghost use Rattle.ec_entries.specs.Dependents.{AreInOrder, dependent_before, dependent_cmp, dependents_after, dependents_at, from_place, is_from};
@@ -247,8 +247,10 @@ fn searched_at<'a, T: Moment>(
 /// The k-th of the dependents at a time, from 0. `None` exactly when there are at most k.
 pub(crate) fn nth_at<T: Moment>(list: &Blocks<Dependent<T>>, at: T, k: usize) -> Option<(Slot, u8)>
     requires { AreInOrder T.rank list.now.items }
-    ensures { result ≡ option_map (λ dependent. (dependent.slot, dependent.place)) (slice_get (dependents_at T.rank (T.rank at) list.now.items) k) }
+    ensures nth { result ≡ option_map (λ dependent. (dependent.slot, dependent.place)) (slice_get (dependents_at T.rank (T.rank at) list.now.items) k) }
+    ensures few { length (dependents_at T.rank (T.rank at) list.now.items) < 2 ^ 64 }
 {
+    let _ = list.len(); // a word counts them
     let before = count_before(list, at, ANYWHERE);
     let up_to = count_up_to(list, at, before);
     if k < up_to - before {

@@ -6,7 +6,7 @@ ghost use Rattle.ec_entries.specs.Wanted.{IsWider, wanted_at, WantsMore};
 use crate::noting::{Rows, is_any_on};
 use ec_blocks::Blocks;
 use ec_context::{Entry, EntryList, EntryLiteral};
-use ec_lists::NoMemory;
+use ec_lists::{NoMemory, add_counts};
 use ec_moment::Moment;
 use ec_terms::PropId;
 use std::alloc::Global;
@@ -47,7 +47,7 @@ fn want<T: Moment>(
     ensures ok { OnOk result (WantsMore (λ q. if p.0 == q then 1 else 0) wanted.old wanted.new rows.new) }
 {
     let before = wanted.get(&p.0).copied().unwrap_or(0);
-    let n = before.checked_add(1).ok_or(NoMemory)?;
+    let n = add_counts(before, 1)?;
     reserve(alloc, rows, p, n)?;
     wanted.insert(p.0, n)?;
     Ok(())

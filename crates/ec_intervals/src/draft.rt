@@ -11,7 +11,7 @@ ghost use Rattle.ec_rows.specs.PlainMarks.{plain_mark, plain_marks};
 
 use crate::interval::{Begin, Interval};
 use crate::steps::{ended_by, open_behind};
-use ec_lists::NoMemory;
+use ec_lists::{NoMemory, add_counts};
 use ec_moment::Moment;
 use ec_rows::{End, Mark, MarkRow, Span};
 use std::alloc::Global;
@@ -52,9 +52,7 @@ impl<T: Moment> Draft<T> {
         ensures room { OnOk result (n < vec_capacity self.new.spans) }
         ensures kept { vec_capacity self.old.spans ≤ vec_capacity self.new.spans }
     {
-        let Some(count) = n.checked_add(1) else {
-            return Err(NoMemory);
-        };
+        let count = add_counts(n, 1)?;
         self.spans.clear();
         self.spans.reserve(count)?;
         Ok(())

@@ -12,6 +12,8 @@ mod block_times;
 #[cfg(test)]
 mod blocks;
 #[cfg(test)]
+mod cones;
+#[cfg(test)]
 mod events;
 #[cfg(test)]
 mod intervals;

@@ -4,12 +4,12 @@ ghost use Rattle.ec_terms.specs.Term.{ground_of, names_are_names};
 
 use ec_lists::NoMemory;
 use ec_terms::{ArgRef, GroundRef, Kind, Name, PropId, Slot, read_ground, text};
-use std::alloc::Global;
+use std::alloc::{AllocError, Global};
 use std::fmt::{Debug, Display};
 use std::process::Abort;
 
 /// The term that is the whole of a text.
-fn term_of<'a>(rt: &impl Abort, spelt: &'a str) -> GroundRef<'a>
+pub fn term_of<'a>(rt: &impl Abort, spelt: &'a str) -> GroundRef<'a>
     ensures { IsTrue (names_are_names (ground_of result)) }
 {
     let (term, length) = read_ground(spelt.as_bytes()).expect(rt, "a term");
@@ -46,7 +46,7 @@ fn is_shown(alloc: Global, value: &(impl Debug + Display), displayed: &str, show
 /// Whether a name, a number and the answer that memory ran out have their printed forms.
 fn are_shown(alloc: Global, lamp: &Name) -> bool {
     is_shown(alloc, lamp, "lamp", "\"lamp\"")
-        && displays(alloc, &NoMemory, "out of memory")
+        && displays(alloc, &NoMemory::from(AllocError), "out of memory")
         && debugs(alloc, &PropId(3), "PropId(3)")
         && debugs(alloc, &Slot(4), "Slot(4)")
         && debugs(alloc, &Kind::Initiates, "Initiates")

@@ -4,8 +4,8 @@ use Rattle.std.proofs.lemmas.Bool.{cond-true, cond-false, ne_eqb, eq-eqb, eqb-tr
 use Rattle.std.proofs.lemmas.List.{take_more, map-append, get_or-take, length-take-le}
 use Rattle.std.specs.Io.BufRead.{take_through}
 use Rattle.memchr.specs.Find.{IsFirstByte, is_byte}
-use Rattle.ec_axioms.specs.Lines.{CutText, line_feed, carriage_return, before_parts, cut_of, without_return, whole_lines}
-use Rattle.ec_axioms.proofs.LineEnds.{without_return-nil, without_return-one, without_return-cons}
+use Rattle.ec_commands.specs.Lines.{CutText, line_feed, carriage_return, before_parts, cut_of, without_return, whole_lines}
+use Rattle.ec_commands.proofs.LineEnds.{without_return-nil, without_return-one, without_return-cons}
 
 -- ---- a carriage return at the end
 

@@ -1,7 +1,7 @@
 -- What a feed has when it has taken a piece, and at the end.
 use Rattle.std.proofs.Common.{◌≡◌, ℕ, ◌<◌, Bool, true, false, ◌||◌, List, [], ◌∷◌, ◌++◌, append-nil, length, refl, sym, ap, ◌∙◌, subst, ⊎_elim, arith}
 use Rattle.std.proofs.lemmas.Bool.{cases_Bool, false≢true, lt-ltb}
-use Rattle.ec_axioms.specs.Lines.{CutText, longest_line, line_feed, is_long, without_return, cut_of, whole_lines, lines_of, last_line}
+use Rattle.ec_commands.specs.Lines.{CutText, longest_line, line_feed, is_long, without_return, cut_of, whole_lines, lines_of, last_line}
 use Rattle.ec_lines.specs.FeedState.{FeedState, IsPart, IsReady, IsEnded, Advances, Finishes}
 use Rattle.ec_lines.proofs.CutLines.{HasNoLineEnd, length-without_return, cut_of-piece, cut_of-piece_line, whole_lines-piece, whole_lines-piece_line}
 

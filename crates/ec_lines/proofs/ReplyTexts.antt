@@ -2,7 +2,7 @@
 use Rattle.std.proofs.Common.{◌≡◌, ℕ, List, ◌++◌, append_assoc, ap, ◌∙◌, refl}
 use Rattle.std.specs.Prelude.{codes, decimal}
 use Rattle.ec_axioms.specs.declared.event.Cut.{Cut}
-use Rattle.ec_axioms.specs.Answers.{refused_commit, answer_text, cut_text}
+use Rattle.ec_commands.specs.Answers.{refused_commit, answer_text, cut_text}
 
 -- two parts that are added one after another
 pub two_parts : (start a b : List ℕ) {first all : List ℕ} → first ≡ start ++ a → all ≡ first ++ b → all ≡ start ++ (a ++ b)

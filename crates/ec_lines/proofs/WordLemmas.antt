@@ -6,7 +6,7 @@ use Rattle.ec_lists.proofs.Fronts.{take_while-is_take}
 use Rattle.std.proofs.lemmas.List.Sums.{take_while-cons}
 use Rattle.ec_terms.specs.Pieces.{pieces_between, before_first_piece}
 use Rattle.ec_terms.specs.Spelling.{begins_with}
-use Rattle.ec_axioms.specs.Lines.{is_blank, is_word, words_of}
+use Rattle.ec_commands.specs.Lines.{is_blank, is_word, words_of}
 
 -- the test that a byte is no blank
 abbrev pub is_no_blank : ℕ → Bool

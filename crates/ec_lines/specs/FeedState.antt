@@ -1,6 +1,6 @@
 -- What a feed has taken of the line that it is at, and which line it holds ready.
 use Rattle.std.specs.Prelude.{◌≡◌, ℕ, ◌+◌, ◌<◌, Bool, true, false, List, [], ◌∷◌, ◌++◌, length}
-use Rattle.ec_axioms.specs.Lines.{cut_of, whole_lines, lines_of, longest_line, is_long}
+use Rattle.ec_commands.specs.Lines.{cut_of, whole_lines, lines_of, longest_line, is_long}
 
 -- what is kept of a line, whether the line has too many bytes to keep, and whether it is ready
 pub record FeedState : Type 0 where

@@ -1,5 +1,5 @@
 -- What the code's answers are among the plain ones.
-use Rattle.ec_axioms.specs.Answers.{PlainAnswer, answer_ok, answer_yes, answer_no, answer_bye, answer_drafted, answer_last, refused_long_line, refused_syntax, refused_in_draft, refused_no_draft, refused_full_draft, refused_order, refused_memory, refused_update, refused_commit}
+use Rattle.ec_commands.specs.Answers.{PlainAnswer, answer_ok, answer_yes, answer_no, answer_bye, answer_drafted, answer_last, refused_long_line, refused_syntax, refused_in_draft, refused_no_draft, refused_full_draft, refused_order, refused_memory, refused_update, refused_commit}
 use Rattle.ec_lines.specs.declared.answer.Answer.{Answer}
 use Rattle.ec_lines.specs.declared.answer.Answer.TheVariants.{Ok, Yes, No, Bye, Drafted, Last, LongLine, Syntax, InDraft, NoDraft, FullDraft, Order, Memory, Update, Commit}
 

@@ -1,6 +1,6 @@
 -- Which lines a `Line` shows.
 use Rattle.std.specs.Prelude.{◌≡◌, ℕ, List, true, false}
-use Rattle.ec_axioms.specs.Lines.{is_long}
+use Rattle.ec_commands.specs.Lines.{is_long}
 use Rattle.ec_lines.specs.declared.line.Line.{Line}
 use Rattle.ec_lines.specs.declared.line.Line.TheVariants.{Text, Long}
 

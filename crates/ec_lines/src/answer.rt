@@ -1,10 +1,10 @@
 ghost use Rattle.std.specs.Prelude.{◌≡◌, ◌≤◌, OnOk, OnErr};
-ghost use Rattle.ec_axioms.specs.Answers.{reply_text, front_text};
+ghost use Rattle.ec_commands.specs.Answers.{answer_text, front_text, reply_text};
 ghost use Rattle.ec_outside.specs.Counts.{Rose};
 ghost use Rattle.ec_outside.specs.Streams.{Appended, AppendedPart};
 ghost use Rattle.ec_lines.specs.ShownAnswer.{plain_answer};
 
-use crate::reply_text::{front, push_answer};
+use crate::reply_text::{ReplyText, front, push_answer};
 use ec_axioms::{Cut, Seen};
 use ec_outside::{Failed, Sink, write_all};
 
@@ -35,7 +35,7 @@ pub enum Answer {
 /// Writes a whole reply line: the prefix if the line had one, the answer's text and the line end.
 /// `Failed` comes only where a call of the sink failed, and then some first part of the line was
 /// written.
-#[tactic(auto, unfolding(ec_axioms::specs::Answers::reply_text), using(ec_outside::proofs::Texts::texts))]
+#[tactic(auto, unfolding(ec_commands::specs::Answers::reply_text), using(ec_outside::proofs::Texts::texts))]
 pub fn write_answer<K: Sink>(
     session: Option<u8>,
     answer: &Answer,
@@ -53,9 +53,23 @@ pub fn write_answer<K: Sink>(
     write_all(out, text.as_bytes())
 }
 
+/// Writes an answer's text alone, without prefix and line end. `Failed` is as for `write_answer`.
+#[tactic(auto, using(ec_outside::proofs::Texts::texts))]
+pub fn write_text<K: Sink>(answer: &Answer, out: &mut K) -> Result<(), Failed>
+    ensures written { OnOk result (Appended K.stands out.old out.new (answer_text (plain_answer answer.now))) }
+    ensures part { OnErr result (AppendedPart K.stands out.old out.new (answer_text (plain_answer answer.now))) }
+    ensures failed { OnErr result (Rose (K.faults out.old) (K.faults out.new)) }
+    ensures quiet { OnOk result (K.faults out.new ≡ K.faults out.old) }
+    ensures counted { K.faults out.old ≤ K.faults out.new }
+{
+    let mut text = ReplyText::new();
+    push_answer(&mut text, answer);
+    write_all(out, text.as_bytes())
+}
+
 /// Writes the prefix of a reply: `@`, the session's number without leading zeros and a space, and
 /// nothing where the line had no prefix. `Failed` is as for `write_answer`.
-#[tactic(auto, unfolding(ec_axioms::specs::Answers::reply_text), using(ec_outside::proofs::Texts::texts))]
+#[tactic(auto, unfolding(ec_commands::specs::Answers::reply_text), using(ec_outside::proofs::Texts::texts))]
 pub fn write_front<K: Sink>(session: Option<u8>, out: &mut K) -> Result<(), Failed>
     ensures written { OnOk result (Appended K.stands out.old out.new (front_text session)) }
     ensures part { OnErr result (AppendedPart K.stands out.old out.new (front_text session)) }

@@ -2,13 +2,12 @@
 //! others, and gives `None` where their number or one of them is not as the command wants it.
 ghost use Rattle.std.specs.Prelude.{◌≡◌, [], ◌∷◌, IfSome, None, Some, IsTrue, MatchOption};
 ghost use Rattle.ec_terms.specs.Term.{ground_of, term_value, names_are_names};
-ghost use Rattle.ec_axioms.specs.Commands.{command_by, word_assert, word_retract, word_holds, word_through, word_intervals, word_broken, word_at, word_why};
+ghost use Rattle.ec_commands.specs.Commands.{command_by};
 ghost use Rattle.ec_lines.specs.ShownCommand.{plain_or_bad, AreNamed};
-ghost use Rattle.ec_lines.specs.ShownKeyword.{plain_keyword};
 
-use crate::command::Command;
-use crate::keyword::Keyword;
+use crate::command::{Command, Query};
 use crate::line_words::Words;
+use ec_commands::Keyword;
 use ec_moment::Moment;
 use ec_terms::{GroundRef, Name, read_ground};
 
@@ -27,9 +26,9 @@ fn read_term(word: &[u8]) -> Option<GroundRef<'_>>
 }
 
 /// Reads the words behind `assert`: an identity, a time and an event.
-#[tactic(auto, unfolding(ec_axioms::specs::Commands::command_by, ec_axioms::specs::Commands::name_value))]
+#[tactic(auto, unfolding(ec_commands::specs::Commands::command_by, ec_commands::specs::Commands::name_value))]
 fn read_assert<'a, T: Moment>(id: &'a [u8], words: &mut Words<'a>) -> Option<Command<'a, T>>
-    ensures command { plain_or_bad T.rank result ≡ command_by T.spelt word_assert (id.now ∷ words.old) }
+    ensures command { plain_or_bad T.rank result ≡ command_by T.spelt Keyword.Assert (id.now ∷ words.old) }
     ensures names { AreNamed (plain_or_bad T.rank result) }
 {
     let at = T::read(words.next()?)?;
@@ -40,9 +39,9 @@ fn read_assert<'a, T: Moment>(id: &'a [u8], words: &mut Words<'a>) -> Option<Com
 }
 
 /// Reads the word behind `retract`: an identity.
-#[tactic(auto, unfolding(ec_axioms::specs::Commands::command_by, ec_axioms::specs::Commands::name_value))]
+#[tactic(auto, unfolding(ec_commands::specs::Commands::command_by, ec_commands::specs::Commands::name_value))]
 fn read_retract<'a, T: Moment>(id: &'a [u8], words: &mut Words<'a>) -> Option<Command<'a, T>>
-    ensures command { plain_or_bad T.rank result ≡ command_by T.spelt word_retract (id.now ∷ words.old) }
+    ensures command { plain_or_bad T.rank result ≡ command_by T.spelt Keyword.Retract (id.now ∷ words.old) }
     ensures names { AreNamed (plain_or_bad T.rank result) }
 {
     words.end()?;
@@ -51,84 +50,84 @@ fn read_retract<'a, T: Moment>(id: &'a [u8], words: &mut Words<'a>) -> Option<Co
 }
 
 /// Reads the words behind `holds`: a property and a time.
-#[tactic(auto, unfolding(ec_axioms::specs::Commands::command_by, ec_axioms::specs::Commands::name_value))]
+#[tactic(auto, unfolding(ec_commands::specs::Commands::command_by, ec_commands::specs::Commands::name_value))]
 fn read_holds<'a, T: Moment>(prop: &'a [u8], words: &mut Words<'a>) -> Option<Command<'a, T>>
-    ensures command { plain_or_bad T.rank result ≡ command_by T.spelt word_holds (prop.now ∷ words.old) }
+    ensures command { plain_or_bad T.rank result ≡ command_by T.spelt Keyword.Holds (prop.now ∷ words.old) }
     ensures names { AreNamed (plain_or_bad T.rank result) }
 {
     let at = T::read(words.last()?)?;
     let prop = read_term(prop)?;
-    Some(Command::Holds { prop, at })
+    Some(Command::Ask(Query::Holds { prop, at }))
 }
 
 /// Reads the words behind `through`: a property and two times.
-#[tactic(auto, unfolding(ec_axioms::specs::Commands::command_by, ec_axioms::specs::Commands::name_value))]
+#[tactic(auto, unfolding(ec_commands::specs::Commands::command_by, ec_commands::specs::Commands::name_value))]
 fn read_through<'a, T: Moment>(prop: &'a [u8], words: &mut Words<'a>) -> Option<Command<'a, T>>
-    ensures command { plain_or_bad T.rank result ≡ command_by T.spelt word_through (prop.now ∷ words.old) }
+    ensures command { plain_or_bad T.rank result ≡ command_by T.spelt Keyword.Through (prop.now ∷ words.old) }
     ensures names { AreNamed (plain_or_bad T.rank result) }
 {
     let from = T::read(words.next()?)?;
     let until = T::read(words.last()?)?;
     let prop = read_term(prop)?;
-    Some(Command::Through { prop, from, until })
+    Some(Command::Ask(Query::Through { prop, from, until }))
 }
 
 /// Reads the word behind `intervals`: a property.
-#[tactic(auto, unfolding(ec_axioms::specs::Commands::command_by, ec_axioms::specs::Commands::name_value))]
+#[tactic(auto, unfolding(ec_commands::specs::Commands::command_by, ec_commands::specs::Commands::name_value))]
 fn read_intervals<'a, T: Moment>(prop: &'a [u8], words: &mut Words<'a>) -> Option<Command<'a, T>>
-    ensures command { plain_or_bad T.rank result ≡ command_by T.spelt word_intervals (prop.now ∷ words.old) }
+    ensures command { plain_or_bad T.rank result ≡ command_by T.spelt Keyword.Intervals (prop.now ∷ words.old) }
     ensures names { AreNamed (plain_or_bad T.rank result) }
 {
     words.end()?;
     let prop = read_term(prop)?;
-    Some(Command::Intervals { prop })
+    Some(Command::Ask(Query::Intervals { prop }))
 }
 
 /// Reads the word behind `broken`: a property.
-#[tactic(auto, unfolding(ec_axioms::specs::Commands::command_by, ec_axioms::specs::Commands::name_value))]
+#[tactic(auto, unfolding(ec_commands::specs::Commands::command_by, ec_commands::specs::Commands::name_value))]
 fn read_broken<'a, T: Moment>(prop: &'a [u8], words: &mut Words<'a>) -> Option<Command<'a, T>>
-    ensures command { plain_or_bad T.rank result ≡ command_by T.spelt word_broken (prop.now ∷ words.old) }
+    ensures command { plain_or_bad T.rank result ≡ command_by T.spelt Keyword.Broken (prop.now ∷ words.old) }
     ensures names { AreNamed (plain_or_bad T.rank result) }
 {
     words.end()?;
     let prop = read_term(prop)?;
-    Some(Command::Broken { prop })
+    Some(Command::Ask(Query::Broken { prop }))
 }
 
 /// Reads the word behind `at`: a time.
-#[tactic(auto, unfolding(ec_axioms::specs::Commands::command_by, ec_axioms::specs::Commands::name_value))]
+#[tactic(auto, unfolding(ec_commands::specs::Commands::command_by, ec_commands::specs::Commands::name_value))]
 fn read_at<'a, T: Moment>(at: &'a [u8], words: &mut Words<'a>) -> Option<Command<'a, T>>
-    ensures command { plain_or_bad T.rank result ≡ command_by T.spelt word_at (at.now ∷ words.old) }
+    ensures command { plain_or_bad T.rank result ≡ command_by T.spelt Keyword.At (at.now ∷ words.old) }
     ensures names { AreNamed (plain_or_bad T.rank result) }
 {
     words.end()?;
     let at = T::read(at)?;
-    Some(Command::At { at })
+    Some(Command::Ask(Query::At { at }))
 }
 
 /// Reads the words behind `why`: a property and a time.
-#[tactic(auto, unfolding(ec_axioms::specs::Commands::command_by, ec_axioms::specs::Commands::name_value))]
+#[tactic(auto, unfolding(ec_commands::specs::Commands::command_by, ec_commands::specs::Commands::name_value), using(std::proofs::lemmas::Grind::common_steps))]
 fn read_why<'a, T: Moment>(prop: &'a [u8], words: &mut Words<'a>) -> Option<Command<'a, T>>
-    ensures command { plain_or_bad T.rank result ≡ command_by T.spelt word_why (prop.now ∷ words.old) }
+    ensures command { plain_or_bad T.rank result ≡ command_by T.spelt Keyword.Why (prop.now ∷ words.old) }
     ensures names { AreNamed (plain_or_bad T.rank result) }
 {
     let at = T::read(words.last()?)?;
     let prop = read_term(prop)?;
-    Some(Command::Why { prop, at })
+    Some(Command::Ask(Query::Why { prop, at }))
 }
 
 /// The command of a keyword with no words behind it.
-#[tactic(auto, unfolding(ec_axioms::specs::Commands::command_by))]
+#[tactic(auto, unfolding(ec_commands::specs::Commands::command_by))]
 fn bare_command<'a, T: Moment>(keyword: Keyword) -> Option<Command<'a, T>>
-    ensures command { plain_or_bad T.rank result ≡ command_by T.spelt (plain_keyword keyword) [] }
+    ensures command { plain_or_bad T.rank result ≡ command_by T.spelt keyword [] }
     ensures names { AreNamed (plain_or_bad T.rank result) }
 {
     match keyword {
         Keyword::Begin => Some(Command::Begin),
         Keyword::Commit => Some(Command::Commit),
         Keyword::Abort => Some(Command::Abort),
-        Keyword::Clashes => Some(Command::Clashes),
-        Keyword::Events => Some(Command::Events),
+        Keyword::Clashes => Some(Command::Ask(Query::Clashes)),
+        Keyword::Events => Some(Command::Ask(Query::Events)),
         Keyword::Last => Some(Command::Last),
         Keyword::Quit => Some(Command::Quit),
         _ => None,
@@ -136,13 +135,13 @@ fn bare_command<'a, T: Moment>(keyword: Keyword) -> Option<Command<'a, T>>
 }
 
 /// Reads the words behind a keyword, the first of which is `first`. The others are still to come.
-#[tactic(auto, unfolding(ec_axioms::specs::Commands::command_by))]
+#[tactic(auto, unfolding(ec_commands::specs::Commands::command_by))]
 fn read_behind<'a, T: Moment>(
     keyword: Keyword,
     first: &'a [u8],
     words: &mut Words<'a>,
 ) -> Option<Command<'a, T>>
-    ensures command { plain_or_bad T.rank result ≡ command_by T.spelt (plain_keyword keyword) (first.now ∷ words.old) }
+    ensures command { plain_or_bad T.rank result ≡ command_by T.spelt keyword (first.now ∷ words.old) }
     ensures names { AreNamed (plain_or_bad T.rank result) }
 {
     match keyword {
@@ -159,12 +158,12 @@ fn read_behind<'a, T: Moment>(
 }
 
 /// Reads the words behind a keyword.
-#[tactic(auto, unfolding(ec_axioms::specs::Commands::command_by))]
+#[tactic(auto, unfolding(ec_commands::specs::Commands::command_by))]
 pub fn read_arguments<'a, T: Moment>(
     keyword: Keyword,
     words: &mut Words<'a>,
 ) -> Option<Command<'a, T>>
-    ensures command { plain_or_bad T.rank result ≡ command_by T.spelt (plain_keyword keyword) words.old }
+    ensures command { plain_or_bad T.rank result ≡ command_by T.spelt keyword words.old }
     ensures names { AreNamed (plain_or_bad T.rank result) }
 {
     match words.next() {

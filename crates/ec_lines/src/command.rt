@@ -1,5 +1,42 @@
 use ec_terms::{GroundRef, Name};
 
+/// What can be asked of one list of events. The terms are borrowed from the line.
+#[derive(Drop)]
+pub enum Query<'a, T> {
+    /// Whether a property holds at a time.
+    Holds {
+        prop: GroundRef<'a>,
+        at: T,
+    },
+    /// Whether a property holds at each time of a stretch, which may be empty or backwards.
+    Through {
+        prop: GroundRef<'a>,
+        from: T,
+        until: T,
+    },
+    /// Over which intervals a property holds.
+    Intervals {
+        prop: GroundRef<'a>,
+    },
+    /// Where a property began and was broken.
+    Broken {
+        prop: GroundRef<'a>,
+    },
+    /// Which properties hold at a time.
+    At {
+        at: T,
+    },
+    /// The times at which exclusive properties begin together.
+    Clashes,
+    /// Which events are present.
+    Events,
+    /// Why a property holds at a time, or why not.
+    Why {
+        prop: GroundRef<'a>,
+        at: T,
+    },
+}
+
 /// What a line asks. The terms are borrowed from the line.
 #[derive(Drop)]
 pub enum Command<'a, T> {
@@ -18,30 +55,8 @@ pub enum Command<'a, T> {
     Begin,
     Commit,
     Abort,
-    Holds {
-        prop: GroundRef<'a>,
-        at: T,
-    },
-    Through {
-        prop: GroundRef<'a>,
-        from: T,
-        until: T,
-    },
-    Intervals {
-        prop: GroundRef<'a>,
-    },
-    Broken {
-        prop: GroundRef<'a>,
-    },
-    At {
-        at: T,
-    },
-    Clashes,
-    Events,
-    Why {
-        prop: GroundRef<'a>,
-        at: T,
-    },
+    /// Asks a query of the present events.
+    Ask(Query<'a, T>),
     Last,
     Quit,
 }

@@ -1,11 +1,11 @@
 ghost use Rattle.std.specs.Prelude.{◌≡◌, ℕ, ◌-◌, ◌<◌, ◌≤◌, ◌↔◌, ◌||◌, List, [], ◌++◌, true, false, IsTrue, IfOk, Contains, length, take, slice_index};
 ghost use Rattle.std.specs.Io.BufRead.{take_through};
-ghost use Rattle.ec_axioms.specs.Lines.{line_feed, carriage_return, without_return, cut_of, is_long};
+ghost use Rattle.ec_commands.specs.Lines.{line_feed, carriage_return, without_return, cut_of, is_long};
 ghost use Rattle.ec_lines.specs.FeedState.{IsPart, IsReady, IsEnded, Advances, Finishes};
 ghost use Rattle.ec_lines.specs.ShownLine.{IfText, ShowsLine};
 
 use crate::line::Line;
-use ec_axioms::LONGEST_LINE;
+use ec_commands::LONGEST_LINE;
 use ec_lists::NoMemory;
 use memchr::memchr;
 use std::alloc::Global;
@@ -28,7 +28,7 @@ pub struct Feed {
 
 impl Model for Feed {
     ghost use Rattle.std.specs.Prelude.{◌≡◌, ◌+◌, ◌≤◌, true, false, vec_capacity, vec_len};
-    ghost use Rattle.ec_axioms.specs.Lines.{longest_line};
+    ghost use Rattle.ec_commands.specs.Lines.{longest_line};
     ghost use Rattle.ec_lines.specs.FeedState.{FeedState};
 
     ghost Value = { FeedState };
@@ -159,7 +159,7 @@ impl Feed {
     }
 
     /// Makes a line of what is kept.
-    #[tactic(auto, unfolding(ec_axioms::specs::Lines::is_long))]
+    #[tactic(auto, unfolding(ec_commands::specs::Lines::is_long))]
     fn finish(&mut self)
         ensures ready { self.new.is_ready ≡ true }
         ensures long { self.new.is_long ≡ (self.old.is_long || is_long self.old.kept) }

@@ -1,17 +1,16 @@
 //! Reading a line.
 ghost use Rattle.std.specs.Prelude.{◌≡◌, ◌<◌, ◌∷◌, nat_lt, IfSome, None};
-ghost use Rattle.ec_axioms.specs.Commands.{parsed_of, prefixed_line, command_of_words, session_of_digits, digit_value_of};
+ghost use Rattle.ec_commands.specs.Commands.{parsed_of, prefixed_line, command_of_words, session_of_digits, digit_value_of};
 ghost use Rattle.ec_lines.specs.ShownCommand.{plain_command, plain_parsed, AreNamed};
 
 use crate::arguments::read_arguments;
 use crate::command::{Command, Parsed};
-use crate::keyword::read_keyword;
 use crate::line_words::Words;
-use ec_axioms::SESSIONS;
+use ec_commands::{SESSIONS, read_keyword};
 use ec_moment::Moment;
 
 /// The value of a digit.
-#[tactic(auto, unfolding(ec_axioms::specs::Commands::digit_value_of))]
+#[tactic(auto, unfolding(ec_commands::specs::Commands::digit_value_of))]
 fn read_digit(byte: u8) -> Option<u8>
     ensures value { result ≡ digit_value_of byte }
     ensures small { IfSome result (λ digit. digit < 10) }
@@ -31,7 +30,7 @@ fn is_session(number: u8) -> bool
 }
 
 /// The session that the digits behind an `@` name.
-#[tactic(auto, unfolding(ec_axioms::specs::Commands::session_of_digits, ec_axioms::specs::Commands::session_within))]
+#[tactic(auto, unfolding(ec_commands::specs::Commands::session_of_digits, ec_commands::specs::Commands::session_within))]
 fn read_session(digits: &[u8]) -> Option<u8>
     ensures value { result ≡ session_of_digits digits.now }
     ensures within { IfSome result (λ session. session < SESSIONS) }
@@ -51,7 +50,7 @@ fn read_session(digits: &[u8]) -> Option<u8>
 }
 
 /// Reads the command that begins with `word`. Its other words are still to come.
-#[tactic(auto, unfolding(ec_axioms::specs::Commands::command_of_words))]
+#[tactic(auto, unfolding(ec_commands::specs::Commands::command_of_words))]
 fn read_from<'a, T: Moment>(word: &[u8], words: &mut Words<'a>) -> Command<'a, T>
     ensures command { plain_command T.rank result ≡ command_of_words T.spelt (word.now ∷ words.old) }
     ensures names { AreNamed (plain_command T.rank result) }
@@ -63,7 +62,7 @@ fn read_from<'a, T: Moment>(word: &[u8], words: &mut Words<'a>) -> Command<'a, T
 }
 
 /// Reads the command whose words are still to come.
-#[tactic(auto, unfolding(ec_axioms::specs::Commands::command_of_words))]
+#[tactic(auto, unfolding(ec_commands::specs::Commands::command_of_words))]
 fn read_words<'a, T: Moment>(words: &mut Words<'a>) -> Command<'a, T>
     ensures command { plain_command T.rank result ≡ command_of_words T.spelt words.old }
     ensures names { AreNamed (plain_command T.rank result) }
@@ -86,7 +85,7 @@ fn without_session<T>(command: Command<'_, T>) -> Parsed<'_, T>
 }
 
 /// Reads a line whose first word is `@` and `digits`. Its other words are still to come.
-#[tactic(auto, unfolding(ec_axioms::specs::Commands::prefixed_line))]
+#[tactic(auto, unfolding(ec_commands::specs::Commands::prefixed_line))]
 fn read_prefixed<'a, T: Moment>(digits: &[u8], words: &mut Words<'a>) -> Parsed<'a, T>
     ensures line { plain_parsed T.rank result ≡ prefixed_line T.spelt (session_of_digits digits.now) words.old }
     ensures names { AreNamed (plain_command T.rank result.command) }
@@ -104,7 +103,7 @@ fn read_prefixed<'a, T: Moment>(digits: &[u8], words: &mut Words<'a>) -> Parsed<
 /// Reads what a line says that is not long: its session, if it has a prefix, and its command. A line
 /// of no form is `Bad`; its session is told where its prefix is well formed. Times are read as
 /// moments of `T`. It takes no memory.
-#[tactic(auto, unfolding(ec_axioms::specs::Commands::parsed_of, ec_axioms::specs::Commands::parsed_words))]
+#[tactic(auto, unfolding(ec_commands::specs::Commands::parsed_of, ec_commands::specs::Commands::parsed_words))]
 pub fn read_command<'a, T: Moment>(line: &'a [u8]) -> Parsed<'a, T>
     ensures line { plain_parsed T.rank result ≡ parsed_of T.spelt line.now }
     ensures names { AreNamed (plain_command T.rank result.command) }

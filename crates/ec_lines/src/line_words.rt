@@ -1,11 +1,11 @@
 //! The words of a line.
 ghost use Rattle.std.specs.Prelude.{◌≡◌, ◌<◌, [], ◌∷◌, length, not, take_while, IfSome, IfNone};
-ghost use Rattle.ec_axioms.specs.Lines.{is_blank, words_of};
+ghost use Rattle.ec_commands.specs.Lines.{is_blank, words_of};
 
 use std::marker::Model;
 
 /// Whether the byte is a space or a tab.
-#[tactic(auto, unfolding(ec_axioms::specs::Lines::is_blank))]
+#[tactic(auto, unfolding(ec_commands::specs::Lines::is_blank))]
 fn is_blank(byte: u8) -> bool
     ensures { result ≡ is_blank byte }
 {
@@ -34,7 +34,7 @@ pub struct Words<'a> {
 
 impl<'a> Model for Words<'a> {
     ghost use Rattle.std.specs.Prelude.{List, ℕ};
-    ghost use Rattle.ec_axioms.specs.Lines.{words_of};
+    ghost use Rattle.ec_commands.specs.Lines.{words_of};
 
     ghost Value = { List (List ℕ) };
 

@@ -1,17 +1,18 @@
 //! The text of a reply while it is put together.
 ghost use Rattle.std.specs.Prelude.{◌≡◌, ◌+◌, ◌≤◌, ◌++◌, length};
-ghost use Rattle.ec_axioms.specs.Answers.{refused_commit, answer_text, cut_text, seen_text, front_text};
+ghost use Rattle.ec_commands.specs.Answers.{refused_commit, answer_text, cut_text, seen_text, front_text};
 ghost use Rattle.ec_lines.specs.ShownAnswer.{plain_answer};
 
 use crate::answer::Answer;
-use ec_axioms::{Cut, MOST_DRAFTED, MOST_EVENTS, MOST_LINKS, MOST_MENTIONS, Seen};
+use ec_axioms::{Cut, MOST_EVENTS, MOST_LINKS, MOST_MENTIONS, Seen};
+use ec_commands::MOST_DRAFTED;
 use ec_outside::Text;
 
 /// The text of a reply with a fixed form.
 pub type ReplyText = Text<160>;
 
 /// The text that a reply begins with: its prefix, where the line had one.
-#[tactic(auto, unfolding(ec_axioms::specs::Answers::front_text), using(ec_outside::proofs::Texts::texts))]
+#[tactic(auto, unfolding(ec_commands::specs::Answers::front_text), using(ec_outside::proofs::Texts::texts))]
 pub(crate) fn front(session: Option<u8>) -> ReplyText
     ensures text { result ≡ front_text session }
     ensures len { length result ≤ 22 }
@@ -29,7 +30,7 @@ pub(crate) fn front(session: Option<u8>) -> ReplyText
 }
 
 /// Adds what an update was refused for.
-#[tactic(auto, unfolding(ec_axioms::specs::Answers::cut_text), using(ec_outside::proofs::Texts::texts))]
+#[tactic(auto, unfolding(ec_commands::specs::Answers::cut_text), using(ec_outside::proofs::Texts::texts))]
 fn push_cut(text: &mut ReplyText, cut: &Cut)
     requires { length text.old + 74 ≤ 160 }
     ensures text { text.new ≡ text.old ++ cut_text cut.now }
@@ -60,7 +61,7 @@ fn push_cut(text: &mut ReplyText, cut: &Cut)
 }
 
 /// Adds what an update changed.
-#[tactic(auto, unfolding(ec_axioms::specs::Answers::seen_text), using(ec_outside::proofs::Texts::texts))]
+#[tactic(auto, unfolding(ec_commands::specs::Answers::seen_text), using(ec_outside::proofs::Texts::texts))]
 fn push_seen(text: &mut ReplyText, counts: &Seen)
     requires { length text.old + 101 ≤ 160 }
     ensures text { text.new ≡ text.old ++ seen_text counts.now }
@@ -77,7 +78,7 @@ fn push_seen(text: &mut ReplyText, counts: &Seen)
 }
 
 /// Adds that the update at a place of a draft was refused.
-#[tactic(auto, unfolding(ec_axioms::specs::Answers::answer_text), using(ec_outside::proofs::Texts::texts))]
+#[tactic(auto, unfolding(ec_commands::specs::Answers::answer_text), using(ec_outside::proofs::Texts::texts))]
 fn push_commit(text: &mut ReplyText, place: u32, cut: &Cut)
     requires { length text.old + 110 ≤ 160 }
     ensures text { text.new ≡ text.old ++ answer_text (refused_commit place cut.now) }
@@ -90,7 +91,7 @@ fn push_commit(text: &mut ReplyText, place: u32, cut: &Cut)
 }
 
 /// Adds the text of an answer.
-#[tactic(auto, unfolding(ec_axioms::specs::Answers::answer_text), using(ec_outside::proofs::Texts::texts))]
+#[tactic(auto, unfolding(ec_commands::specs::Answers::answer_text), using(ec_outside::proofs::Texts::texts))]
 pub(crate) fn push_answer(text: &mut ReplyText, answer: &Answer)
     requires { length text.old ≤ 22 }
     ensures text { text.new ≡ text.old ++ answer_text (plain_answer answer.now) }

@@ -3,7 +3,9 @@
 #![tactic(auto)]
 
 mod copied;
+mod counts;
 mod no_memory;
 
 pub use copied::Copied;
+pub use counts::add_counts;
 pub use no_memory::NoMemory;

@@ -4,7 +4,9 @@ use std::alloc::{AllocError, AllocFailed};
 use std::error::Error;
 use std::fmt;
 
-/// The one answer of a call that could not get the memory it asked for.
+/// The one answer of a call that could not get the memory it asked for. No other crate makes one: it comes of what an
+/// allocator refused, so that a call that answers with it asked for memory.
+#[non_exhaustive]
 #[derive(Clone, Copy, Debug, PartialEq, Eq)]
 pub struct NoMemory;
 

@@ -1,5 +1,5 @@
 //! The text of a moment.
-ghost use Rattle.std.specs.Prelude.{◌≡◌, ◌+◌, ◌≤◌, ◌++◌, ◌↔◌, [], length, IsTrue, Some};
+ghost use Rattle.std.specs.Prelude.{◌≡◌, ◌+◌, ◌<◌, ◌≤◌, ◌++◌, ◌↔◌, [], ◌∷◌, length, IsTrue, Some};
 
 use crate::limits::LONGEST_MOMENT;
 use arrayvec::ArrayString;
@@ -36,6 +36,15 @@ impl MomentText {
         ensures { self.new ≡ self.old ++ part.now }
     {
         self.text.push_str(part);
+    }
+
+    /// Adds a decimal digit at the end, as its ASCII byte.
+    pub fn push_digit(&mut self, digit: u8)
+        requires digit { digit < 10 }
+        requires room { length self.old < LONGEST_MOMENT }
+        ensures { self.new ≡ self.old ++ (48 + digit) ∷ [] }
+    {
+        self.text.push(char::from(b'0' + digit));
     }
 
     /// How many bytes the text has.

@@ -4,7 +4,7 @@ ghost use Rattle.std.specs.Borrow.{sem};
 ghost use Rattle.ec_numbered.specs.ByNumber.{kept_at};
 ghost use Rattle.ec_numbered.specs.Lends.{lends_row};
 
-use ec_lists::NoMemory;
+use ec_lists::{NoMemory, add_counts};
 use ec_terms::PropId;
 use std::alloc::Global;
 use std::marker::Model;
@@ -60,10 +60,7 @@ impl<X: Drop> ByNumber<X> {
         if p.0 < self.rows.len() {
             return Ok(());
         }
-        let Some(places) = p.0.checked_add(1) else {
-            return Err(NoMemory);
-        };
-        self.rows.resize_with(places, || None)?;
+        self.rows.resize_with(add_counts(p.0, 1)?, || None)?;
         Ok(())
     }
 

@@ -4,7 +4,7 @@ ghost use Rattle.std.specs.Map.{lookup};
 ghost use Rattle.ec_numbered.specs.NumberPlaces.{ArePlaces};
 ghost use Rattle.ec_numbered.specs.KeyedRows.{IsFirst};
 
-use ec_lists::NoMemory;
+use ec_lists::{NoMemory, add_counts};
 
 /// The place of the row of a number. `None` exactly when it has none.
 pub(crate) fn place_of<V>(rows: &[(usize, V)], places: &[usize], n: usize) -> Option<usize>
@@ -26,9 +26,7 @@ fn make_place<V>(rows: &[(usize, V)], places: &mut Vec<usize>, n: usize) -> Resu
     if n < places.len() {
         return Ok(());
     }
-    let Some(count) = n.checked_add(1) else {
-        return Err(NoMemory);
-    };
+    let count = add_counts(n, 1)?;
     places.resize(count, 0)?;
     Ok(())
 }

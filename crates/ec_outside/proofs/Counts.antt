@@ -30,3 +30,7 @@ next_count-≤ count = omega arith
 
 pub ≤-next_count : (count : ℕ) → count ≤ last_count → count ≤ next_count count
 ≤-next_count count within = omega arith
+
+-- a count that rose has risen after one more, too
+pub Rose-next : (before middle : ℕ) → Rose before middle → Rose before (next_count middle)
+Rose-next before middle rose = grind (arith, rose)

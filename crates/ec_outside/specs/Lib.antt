@@ -4,6 +4,7 @@ pub mod Counts
 pub mod Entries
 pub mod Files
 pub mod FolderState
+pub mod Reads
 pub mod SinkState
 pub mod SourceState
 pub mod Streams

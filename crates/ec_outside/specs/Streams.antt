@@ -24,6 +24,6 @@ pub record AppendedPart {S : Type 0} (stands : S → List ℕ → Type 0) (befor
   pub whole : bytes ≡ part ++ missing
   pub appended : Appended stands before after part
 
--- a sink of which nothing is known stands for every list
-abbrev pub stands_for_every : {S : Type 0} → S → List ℕ → Type 0
-stands_for_every sink text = Unit {0}
+-- a sink over a writer that tells what it holds stands for that; where the writer does not tell, it stands for no list
+abbrev pub stands_as_told : {W : Type 0} → (W → Option (List ℕ)) → W × ℕ → List ℕ → Type 0
+stands_as_told contents sink text = contents sink.0 ≡ Some text

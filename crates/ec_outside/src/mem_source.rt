@@ -1,11 +1,12 @@
 ghost use Rattle.std.specs.Prelude.{◌≡◌, ◌<◌, ◌≤◌, ◌↔◌, Some, length, take, drop, if◌then◌else◌, IsTrue, IsErr, IfOk, OnOk, OnErr};
 ghost use Rattle.ec_outside.specs.Calls.{no_calls, next_fails, one_more};
 ghost use Rattle.ec_outside.specs.Counts.{Rose, last_count, next_count};
+ghost use Rattle.ec_outside.specs.Reads.{meets_end, next_ended};
 ghost use Rattle.ec_outside.specs.SourceState.{given_count};
 ghost use Rattle.ec_outside.specs.Streams.{Took, IsAtEnd};
 
 use crate::calls::Calls;
-use crate::source::{Failed, Source};
+use crate::source::{Failed, Source, next_ended};
 use ec_lists::NoMemory;
 use std::alloc::Global;
 use std::marker::Model;
@@ -19,15 +20,17 @@ pub struct MemSource {
     most: usize,
     reads: Calls,
     faults: u64,
+    ended: u64,
 }
 
 impl Model for MemSource {
     ghost use Rattle.std.specs.Prelude.{◌≤◌, ◌<◌, drop, vec_len};
+    ghost use Rattle.ec_outside.specs.Reads.{meets_end, next_ended};
     ghost use Rattle.ec_outside.specs.SourceState.{SourceState};
 
     ghost Value = { SourceState };
 
-    ghost view = { λ s. record { left = drop s.at s.bytes.items; most = s.most; reads = s.reads; faults = s.faults } };
+    ghost view = { λ s. record { left = drop s.at s.bytes.items; most = s.most; reads = s.reads; faults = s.faults; ended = s.ended } };
 
     ghost invariant = { λ s. (s.at ≤ vec_len s.bytes) × (0 < s.most) };
 }
@@ -45,6 +48,7 @@ impl MemSource {
         ensures most { IfOk result (λ source. source.most ≡ most) }
         ensures reads { IfOk result (λ source. source.reads ≡ no_calls failing.now) }
         ensures faults { IfOk result (λ source. source.faults ≡ 0) }
+        ensures ended { IfOk result (λ source. source.ended ≡ 0) }
     {
         Ok(MemSource {
             bytes: Vec::from_slice(alloc, bytes)?,
@@ -52,6 +56,7 @@ impl MemSource {
             most,
             reads: Calls::new(alloc, failing)?,
             faults: 0,
+            ended: 0,
         })
     }
 }
@@ -60,6 +65,10 @@ impl Source for MemSource {
     ghost left = { λ s. Some s.left };
 
     ghost faults = { λ s. s.faults };
+
+    ghost reads = { λ s. s.reads.made };
+
+    ghost ended = { λ s. s.ended };
 
     fn read(&mut self, into: &mut [u8]) -> Result<usize, Failed>
         // As for every source.
@@ -71,6 +80,8 @@ impl Source for MemSource {
         ensures quiet { OnOk result (self.new.faults ≡ self.old.faults) }
         ensures counted { self.old.faults ≤ self.new.faults }
         ensures bounded { self.new.faults ≤ last_count }
+        ensures one_more { self.new.reads.made ≡ next_count self.old.reads.made }
+        ensures ended { self.new.ended ≡ next_ended self.old.ended (meets_end result (length into.new)) }
 
         // Exactly which reads fail, and how much the others give.
         ensures fails { IsErr result ↔ IsTrue (next_fails self.old.reads) }
@@ -81,10 +92,12 @@ impl Source for MemSource {
     {
         if self.reads.next_fails() {
             self.faults = self.faults.saturating_add(1);
+            self.ended = next_ended(self.ended, false);
             return Err(Failed);
         }
         let left = &self.bytes[self.at..];
         let count = left.len().min(self.most).min(into.len());
+        self.ended = next_ended(self.ended, count == 0 && !into.is_empty());
         into[..count].copy_from_slice(&left[..count]);
         self.at += count;
         Ok(count)

@@ -12,7 +12,7 @@ use Rattle.ec_terms.specs.declared.theory.Theory.{Theory}
 use Rattle.ec_terms.specs.Domain.{is_strong}
 use Rattle.ec_axioms.specs.Calculus.{PlainEvent, broken_of, instants_of, timeline_by, timeline_of, with_instant}
 use Rattle.ec_axioms.specs.Marks.{PlainMark, broken_spans_of, marks_of, mark_starts, row_begins, row_starts, row_timeline}
-use Rattle.ec_axioms.specs.QueryTexts.{Canon, broken_reply, broken_text, counted_text}
+use Rattle.ec_commands.specs.QueryTexts.{Canon, broken_reply, broken_text, counted_text}
 use Rattle.ec_axioms.specs.Timeline.{Begin, before_all, begin_at, Timeline, begins_of, broken_from, initial_begins, is_start, next_break}
 use Rattle.ec_axioms.proofs.HistoryLaws.{SpansAreTheIntervals-law}
 use Rattle.ec_axioms.proofs.Members.{IsMember, IsMember-from_filter_map, IsMember-from_map, IsPairwise, IsPairwise-map, list_all-member}

@@ -16,7 +16,7 @@ use Rattle.ec_axioms.specs.Marks.{PlainMark, is_marked, mark_at, marks_of}
 use Rattle.ec_axioms.proofs.HistoryMarks.{instant-mark_at}
 use Rattle.ec_axioms.proofs.Members.{IsPairwise, Contains-from_member, IsMember-from_contains, list_all-from_members, IsMember, IsMember-filter, IsMember-from_filter, IsMember-from_map, IsMember-map, length_member, list_any-member, member-list_any, member_length, find-Some, find-None}
 use Rattle.ec_axioms.specs.Links.{is_live}
-use Rattle.ec_axioms.specs.QueryTexts.{Canon, clashes_reply, counted_text}
+use Rattle.ec_commands.specs.QueryTexts.{Canon, clashes_reply, counted_text}
 use Rattle.ec_axioms.proofs.Instants.{IsPairwise-from_ascending, is_ascending-filter, is_ascending-instants_of}
 use Rattle.std.specs.Prelude.{◌≤◌, ◌^◌, ◌-◌}
 use Rattle.ec_changes.specs.Differences.{entries_at}

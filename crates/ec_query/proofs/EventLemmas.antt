@@ -1,7 +1,7 @@
 -- The reply that lists the events, by the events of a store.
 use Rattle.std.proofs.Common.{◌≡◌, ℤ, List, map, ap}
 use Rattle.ec_axioms.specs.Calculus.{PlainEvent}
-use Rattle.ec_axioms.specs.QueryTexts.{Canon, counted_text, event_text, events_reply}
+use Rattle.ec_commands.specs.QueryTexts.{Canon, counted_text, event_text, events_reply}
 use Rattle.ec_store.specs.Store.{Kept, history_of}
 
 pub events_reply-of : {T : Type 0} (rank : T → ℤ) (canon : Canon) (kept : List (Kept T)) (events : List PlainEvent) → history_of rank kept ≡ events

@@ -1,7 +1,7 @@
 -- The intervals of a property, whether it is kept or not, and what they say of it.
 use Rattle.std.proofs.Common.{◌≡◌, ℕ, ℤ, List, [], false, Some, None, is_some, map, sym, ap, ◌∙◌, append-nil}
 use Rattle.std.specs.Prelude.{decimal}
-use Rattle.ec_axioms.specs.QueryTexts.{Canon, counted_text, interval_text, intervals_reply}
+use Rattle.ec_commands.specs.QueryTexts.{Canon, counted_text, interval_text, intervals_reply}
 use Rattle.std.proofs.lemmas.Bool.{false≢true, false_from_ne_true}
 use Rattle.ec_terms.specs.declared.ground.Ground.{Ground}
 use Rattle.ec_terms.specs.declared.theory.Theory.{Theory}

@@ -16,7 +16,7 @@ use Rattle.ec_terms.specs.Term.{term_cmp, term_eq, term_text}
 use Rattle.ec_terms.proofs.OrderLemmas.{term_eq-Decides}
 use Rattle.ec_axioms.specs.Calculus.{PlainEvent, holds_at}
 use Rattle.ec_axioms.specs.Links.{initial_properties, is_live, live_properties, mentions_of}
-use Rattle.ec_axioms.specs.QueryTexts.{at_reply, counted_text, holding_at}
+use Rattle.ec_commands.specs.QueryTexts.{at_reply, counted_text, holding_at}
 use Rattle.ec_axioms.specs.Timeline.{is_held_at}
 use Rattle.ec_axioms.proofs.Members.{IsMember, IsMember-filter, IsMember-from_filter, IsMember-from_map, IsMember-map, IsPairwise, IsPairwise-filter, IsPairwise-map, list_all-member, find-Some}
 use Rattle.ec_changes.specs.LiveLaws.{ListsInitials}

@@ -10,7 +10,7 @@ use Rattle.ec_terms.specs.Domain.{is_initial}
 use Rattle.ec_axioms.specs.Calculus.{PlainEvent, is_current, is_terminated, reason_of, timeline_of}
 use Rattle.ec_axioms.specs.Links.{is_live}
 use Rattle.ec_axioms.specs.Marks.{PlainMark, mark_at}
-use Rattle.ec_axioms.specs.QueryTexts.{Canon, begin_text, cause_text, origin_text, reason_text, why_reply}
+use Rattle.ec_commands.specs.QueryTexts.{Canon, begin_text, cause_text, origin_text, reason_text, why_reply}
 use Rattle.ec_axioms.specs.Timeline.{Begin, before_all, begin_at, Reason as PlainReason, last_begin, next_break}
 use Rattle.ec_axioms.proofs.HistoryMarks.{instant-mark_at}
 use Rattle.ec_intervals.specs.Table.{plain_begin}

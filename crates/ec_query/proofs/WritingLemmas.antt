@@ -7,7 +7,7 @@ use Rattle.ec_lists.proofs.Results.{OnErr-anyway}
 use Rattle.ec_outside.specs.Counts.{Rose}
 use Rattle.ec_outside.specs.Streams.{Appended, AppendedPart}
 use Rattle.ec_outside.proofs.Streams.{Appended-nil, Appended-then, Appended-then-part, AppendedPart-longer, NothingAppended-refl}
-use Rattle.ec_axioms.specs.QueryTexts.{Canon, counted_text, interval_text}
+use Rattle.ec_commands.specs.QueryTexts.{Canon, counted_text, interval_text}
 use Rattle.ec_rows.specs.declared.span.End.{End}
 use Rattle.ec_rows.specs.declared.span.Span.{Span}
 use Rattle.ec_intervals.specs.Table.{front_members, plain_interval, plain_intervals, span_interval}

@@ -1,6 +1,6 @@
 -- The members of a reply, as they follow their count.
 use Rattle.std.specs.Prelude.{ℕ, ℤ, List, ◌∷◌, flat_map}
-use Rattle.ec_axioms.specs.QueryTexts.{Canon, interval_text, event_text}
+use Rattle.ec_commands.specs.QueryTexts.{Canon, interval_text, event_text}
 use Rattle.ec_rows.specs.declared.span.Span.{Span}
 use Rattle.ec_store.specs.Store.{Kept, plain_of}
 use Rattle.ec_intervals.specs.Table.{plain_interval, span_interval}

@@ -1,6 +1,6 @@
 -- The text of a reason with its causes, byte for byte.
 use Rattle.std.specs.Prelude.{ℕ, ℤ, List, ◌++◌, Some, None, codes}
-use Rattle.ec_axioms.specs.QueryTexts.{Canon, begin_text, cause_text}
+use Rattle.ec_commands.specs.QueryTexts.{Canon, begin_text, cause_text}
 use Rattle.ec_intervals.specs.Table.{plain_begin}
 use Rattle.ec_query.specs.declared.reason.Cause.{Cause}
 use Rattle.ec_query.specs.declared.reason.Origin.{Origin}

@@ -1,6 +1,6 @@
 //! The text of a begin, which stands in that of an interval, of a broken begin and of a reason.
 ghost use Rattle.std.specs.Prelude.{◌≡◌, ◌+◌, ◌≤◌, ◌++◌, length};
-ghost use Rattle.ec_axioms.specs.QueryTexts.{begin_text};
+ghost use Rattle.ec_commands.specs.QueryTexts.{begin_text};
 ghost use Rattle.ec_intervals.specs.Table.{plain_begin};
 
 use ec_intervals::Begin;

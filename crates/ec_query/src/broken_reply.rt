@@ -3,7 +3,7 @@ ghost use Rattle.std.specs.Prelude.{◌≡◌, ◌≤◌, ◌-◌, ◌^◌, List
 ghost use Rattle.ec_terms.specs.Term.{ground_of};
 ghost use Rattle.ec_axioms.specs.Calculus.{PlainEvent};
 ghost use Rattle.ec_axioms.specs.Marks.{broken_spans_of};
-ghost use Rattle.ec_axioms.specs.QueryTexts.{broken_reply, broken_text, counted_text};
+ghost use Rattle.ec_commands.specs.QueryTexts.{broken_reply, broken_text, counted_text};
 ghost use Rattle.ec_outside.specs.Counts.{Rose};
 ghost use Rattle.ec_outside.specs.Streams.{Appended, AppendedPart};
 ghost use Rattle.ec_rows.specs.PlainMarks.{plain_marks};

@@ -1,7 +1,7 @@
 //! The reply that lists the times of clashes.
 ghost use Rattle.std.specs.Prelude.{◌≡◌, ◌≤◌, ◌-◌, ◌^◌, ℤ, List, OnOk, OnErr, length, min};
 ghost use Rattle.ec_axioms.specs.Calculus.{PlainEvent};
-ghost use Rattle.ec_axioms.specs.QueryTexts.{clashes_reply};
+ghost use Rattle.ec_commands.specs.QueryTexts.{clashes_reply};
 ghost use Rattle.ec_outside.specs.Counts.{Rose};
 ghost use Rattle.ec_outside.specs.Streams.{Appended, AppendedPart};
 ghost use Rattle.ec_query.specs.Marked.{AreClashTimes, AreMarkedOf};

@@ -1,7 +1,7 @@
 //! The reply that lists the events.
 ghost use Rattle.std.specs.Prelude.{◌≡◌, ◌+◌, ◌≤◌, List, OnOk, OnErr, length};
 ghost use Rattle.ec_axioms.specs.Calculus.{PlainEvent};
-ghost use Rattle.ec_axioms.specs.QueryTexts.{events_reply};
+ghost use Rattle.ec_commands.specs.QueryTexts.{events_reply};
 ghost use Rattle.ec_outside.specs.Counts.{Rose};
 ghost use Rattle.ec_outside.specs.Streams.{Appended, AppendedPart};
 ghost use Rattle.ec_parts.specs.Caches.{AreEventsOf};

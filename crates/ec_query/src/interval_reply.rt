@@ -3,7 +3,7 @@ ghost use Rattle.std.specs.Prelude.{◌≡◌, ◌≤◌, List, OnOk, OnErr, map
 ghost use Rattle.ec_terms.specs.declared.theory.Theory.{Theory};
 ghost use Rattle.ec_terms.specs.Term.{ground_of};
 ghost use Rattle.ec_axioms.specs.Calculus.{PlainEvent};
-ghost use Rattle.ec_axioms.specs.QueryTexts.{counted_text, interval_text, intervals_reply};
+ghost use Rattle.ec_commands.specs.QueryTexts.{counted_text, interval_text, intervals_reply};
 ghost use Rattle.ec_intervals.specs.Table.{front_members, members_at, plain_interval, plain_intervals, spans_at};
 ghost use Rattle.ec_outside.specs.Counts.{Rose};
 ghost use Rattle.ec_outside.specs.Streams.{Appended, AppendedPart};

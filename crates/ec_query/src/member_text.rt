@@ -1,6 +1,6 @@
 //! The text of a member of a reply while it is put together.
 ghost use Rattle.std.specs.Prelude.{◌≡◌, IsTrue, ◌+◌, ◌≤◌, ◌∷◌, ◌++◌, [], length};
-ghost use Rattle.ec_axioms.specs.QueryTexts.{broken_text, end_text, closing_text, interval_text, event_text};
+ghost use Rattle.ec_commands.specs.QueryTexts.{broken_text, end_text, closing_text, interval_text, event_text};
 ghost use Rattle.ec_axioms.specs.Events.{event_of};
 ghost use Rattle.ec_intervals.specs.Table.{plain_broken, plain_end, plain_interval};
 ghost use Rattle.ec_terms.specs.Term.{ground_of, names_are_names, term_text};

@@ -2,7 +2,7 @@
 ghost use Rattle.std.specs.Prelude.{◌≡◌, ◌≤◌, ◌∷◌, [], List, OnOk, OnErr, All, IsSome, map};
 ghost use Rattle.ec_terms.specs.declared.theory.Theory.{Theory};
 ghost use Rattle.ec_axioms.specs.Calculus.{PlainEvent};
-ghost use Rattle.ec_axioms.specs.QueryTexts.{at_reply};
+ghost use Rattle.ec_commands.specs.QueryTexts.{at_reply};
 ghost use Rattle.ec_changes.specs.LiveLaws.{ListsInitials};
 ghost use Rattle.ec_outside.specs.Counts.{Rose};
 ghost use Rattle.ec_outside.specs.Streams.{Appended, AppendedPart};

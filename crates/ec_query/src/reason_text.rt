@@ -1,6 +1,6 @@
 //! The text of a reason while it is put together.
 ghost use Rattle.std.specs.Prelude.{◌≡◌, ◌+◌, ◌≤◌, ◌++◌, [], codes, length};
-ghost use Rattle.ec_axioms.specs.QueryTexts.{begin_text};
+ghost use Rattle.ec_commands.specs.QueryTexts.{begin_text};
 ghost use Rattle.ec_intervals.specs.Table.{plain_begin};
 ghost use Rattle.ec_query.specs.Reasons.{plain_origin};
 ghost use Rattle.ec_query.specs.ReasonTexts.{told_cause, told_origin, told_reason};

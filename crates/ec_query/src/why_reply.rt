@@ -2,7 +2,7 @@
 ghost use Rattle.std.specs.Prelude.{◌≡◌, ◌+◌, ◌≤◌, List, OnOk, OnErr};
 ghost use Rattle.ec_terms.specs.Term.{ground_of};
 ghost use Rattle.ec_axioms.specs.Calculus.{PlainEvent};
-ghost use Rattle.ec_axioms.specs.QueryTexts.{why_reply};
+ghost use Rattle.ec_commands.specs.QueryTexts.{why_reply};
 ghost use Rattle.ec_outside.specs.Counts.{Rose};
 ghost use Rattle.ec_outside.specs.Streams.{Appended, AppendedPart};
 ghost use Rattle.ec_parts.specs.StandFor.{view_of};

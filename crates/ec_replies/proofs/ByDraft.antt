@@ -1,13 +1,13 @@
 -- The replies to updates and to what is done with drafts, where the session's draft is known.
-use Rattle.std.proofs.Common.{◌≡◌, ℕ, true, false, ltb, length, List, [], Option, Some, None}
+use Rattle.std.proofs.Common.{◌≡◌, ℕ, false, ltb, length, List, [], Option, Some, None}
 use Rattle.ec_terms.specs.declared.theory.Theory.{Theory}
 use Rattle.ec_axioms.specs.Changes.{PlainUpdate}
-use Rattle.ec_axioms.specs.declared.limits.TheConstants.{MOST_DRAFTED}
-use Rattle.ec_axioms.specs.Answers.{answer_ok, refused_in_draft, refused_no_draft}
+use Rattle.ec_commands.specs.declared.limits.TheConstants.{MOST_DRAFTED}
+use Rattle.ec_commands.specs.Answers.{answer_ok, refused_in_draft, refused_no_draft}
 use Rattle.ec_replies.specs.State.{State, draft_of, with_draft}
 use Rattle.ec_replies.specs.Updates.{updated, updated_by}
 use Rattle.ec_replies.specs.Replies.{answering, update_reply, drafted_reply, commit_reply, reply_to_update, reply_to_begin, reply_to_commit, reply_to_abort}
-use Rattle.ec_replies.specs.Runs.{may_want_by, update_may_want_memory, commit_may_want_memory}
+use Rattle.ec_replies.specs.Runs.{may_want_by, update_may_want_memory, batch_may_want_memory, commit_may_want_memory}
 
 module _ (prefix : Option ℕ) (session : ℕ) (state : State) where
   -- ---- the draft is closed
@@ -62,10 +62,11 @@ module _ (session : ℕ) (state : State) where
   unfolding update_may_want_memory
   update_may_want_memory-open theory update held opened = rw (opened, update_may_want_memory)
 
-  pub commit_may_want_memory-closed : draft_of session state ≡ None → commit_may_want_memory session state ≡ false
+  pub commit_may_want_memory-closed : (theory : Theory) → draft_of session state ≡ None → commit_may_want_memory theory session state ≡ false
   unfolding commit_may_want_memory
-  commit_may_want_memory-closed closed = rw (closed, commit_may_want_memory)
+  commit_may_want_memory-closed theory closed = rw (closed, commit_may_want_memory)
 
-  pub commit_may_want_memory-open : (held : List PlainUpdate) → draft_of session state ≡ Some held → commit_may_want_memory session state ≡ true
+  pub commit_may_want_memory-open : (theory : Theory) (held : List PlainUpdate) → draft_of session state ≡ Some held
+      → commit_may_want_memory theory session state ≡ batch_may_want_memory theory state.events held
   unfolding commit_may_want_memory
-  commit_may_want_memory-open held opened = rw (opened, commit_may_want_memory)
+  commit_may_want_memory-open theory held opened = rw (opened, commit_may_want_memory)

@@ -2,11 +2,11 @@
 use Rattle.std.proofs.Common.{◌≡◌, ℕ, ◌⊎◌, inl, inr, Bool, true, false, not, ◌||◌, ltb, length, List, [], Option, Some, None, Result, Ok, Err, IsTrue, IsFalse, arith, refl, sym, ap, ◌∙◌, subst}
 use Rattle.std.proofs.lemmas.Bool.{ltb-true}
 use Rattle.ec_axioms.specs.declared.event.Cut.{Cut}
-use Rattle.ec_axioms.specs.declared.limits.TheConstants.{MOST_DRAFTED}
+use Rattle.ec_commands.specs.declared.limits.TheConstants.{MOST_DRAFTED}
 use Rattle.ec_axioms.specs.Calculus.{PlainEvent}
 use Rattle.ec_axioms.specs.Changes.{PlainUpdate, asserting, retracting}
-use Rattle.ec_axioms.specs.Lines.{is_long}
-use Rattle.ec_axioms.specs.Commands.{PlainCommand, assert_event, retract_event, begin_draft, abort_draft, parsed_of}
+use Rattle.ec_commands.specs.Lines.{is_long}
+use Rattle.ec_commands.specs.Commands.{PlainCommand, assert_event, retract_event, begin_draft, abort_draft, parsed_of}
 use Rattle.ec_replies.specs.State.{Draft, State, draft_of, with_draft}
 use Rattle.ec_replies.specs.Updates.{updated}
 use Rattle.ec_replies.specs.Replies.{Language, Reply, session_of, update_reply, drafted_reply, reply_to_update, reply_to_begin, reply_to_abort, command_reply, reply_of}

@@ -4,7 +4,7 @@ use Rattle.std.proofs.lemmas.List.{get_or_past, length-set, get_or-set_same}
 use Rattle.std.proofs.lemmas.Bool.{cases_lt}
 use Rattle.std.specs.Prelude.{slice_set}
 use Rattle.ec_lists.proofs.Places.{get_or-copies}
-use Rattle.ec_axioms.specs.declared.limits.TheConstants.{SESSIONS}
+use Rattle.ec_commands.specs.declared.limits.TheConstants.{SESSIONS}
 use Rattle.ec_replies.specs.State.{Draft, empty_state, draft_of}
 
 -- before the first line each draft is closed

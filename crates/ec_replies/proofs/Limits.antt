@@ -12,12 +12,12 @@ use Rattle.ec_terms.specs.declared.theory.Theory.{Theory}
 use Rattle.ec_terms.specs.declared.ground.Ground.{Ground}
 use Rattle.ec_axioms.specs.declared.event.Cut.{Cut}
 use Rattle.ec_axioms.specs.declared.event.Cut.TheVariants.{Duplicate, Unknown, FullEvents, FullMentions, FullLinks}
-use Rattle.ec_axioms.specs.declared.limits.TheConstants.{MOST_DRAFTED, SESSIONS}
+use Rattle.ec_commands.specs.declared.limits.TheConstants.{MOST_DRAFTED, SESSIONS}
 use Rattle.ec_axioms.specs.Calculus.{PlainEvent}
 use Rattle.ec_axioms.specs.Changes.{PlainUpdate, asserting, retracting, after_update, is_history, has_id, comes_before, with_event, without_event}
-use Rattle.ec_axioms.specs.Commands.{PlainCommand, parsed_of}
+use Rattle.ec_commands.specs.Commands.{PlainCommand, parsed_of}
 use Rattle.ec_axioms.specs.Links.{mentions_of, event_mentions, link_count, most_events, most_mentions, most_links}
-use Rattle.ec_axioms.specs.Lines.{is_long}
+use Rattle.ec_commands.specs.Lines.{is_long}
 use Rattle.ec_axioms.proofs.Histories.{is_history-with_event, is_history-without_event}
 use Rattle.ec_axioms.proofs.Members.{IsMember, list_any-member}
 use Rattle.ec_changes.specs.LinkLaws.{links_of}

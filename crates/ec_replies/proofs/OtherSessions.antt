@@ -7,13 +7,13 @@ use Rattle.std.specs.List.{All}
 use Rattle.ec_lists.proofs.Tests.{list_all-filter}
 use Rattle.ec_axioms.specs.Calculus.{PlainEvent}
 use Rattle.ec_axioms.specs.Changes.{PlainUpdate, asserting, retracting}
-use Rattle.ec_axioms.specs.Lines.{is_long}
-use Rattle.ec_axioms.specs.Commands.{PlainCommand, assert_event, retract_event, commit_draft, parsed_of}
-use Rattle.ec_axioms.specs.Answers.{answer_ok, answer_text}
+use Rattle.ec_commands.specs.Lines.{is_long}
+use Rattle.ec_commands.specs.Commands.{PlainCommand, silent, bad, assert_event, retract_event, begin_draft, commit_draft, abort_draft, ask, ask_last, quit, parsed_of}
+use Rattle.ec_commands.specs.Answers.{answer_ok, answer_text}
 use Rattle.ec_replies.specs.State.{Draft, State, draft_of}
 use Rattle.ec_replies.specs.Updates.{updated}
 use Rattle.ec_replies.specs.Replies.{Language, Reply, session_of, reply_line, reply_of}
-use Rattle.ec_replies.specs.Runs.{Step, is_quit, may_want_memory, command_may_want_memory, update_may_want_memory, commit_may_want_memory, may_want_by}
+use Rattle.ec_replies.specs.Runs.{Step, is_quit, may_want_memory, command_may_want_memory, update_may_want_memory, batch_may_want_memory, commit_may_want_memory, may_want_by}
 use Rattle.ec_replies.specs.Laws.{IsSameTo, is_line_of, may_change, line_command, line_prefix}
 use Rattle.ec_replies.specs.RunLaws.{Answered, is_unanswered, GoesOn, RunOf, IsWithoutEffect, without_session, SessionsWithoutEffectAreUnseen}
 use Rattle.ec_replies.proofs.ByDraft.{update_may_want_memory-closed, update_may_want_memory-open, commit_may_want_memory-closed, commit_may_want_memory-open}
@@ -49,21 +49,32 @@ update_may_want_memory-same language session state other update same = by_draft 
         update_may_want_memory-open session state language.theory update held is
         ∙ sym (update_may_want_memory-open session other language.theory update held (sym same.draft ∙ is))
 
-commit_may_want_memory-same : (session : ℕ) (state other : State) → IsSameTo session state other → commit_may_want_memory session state ≡ commit_may_want_memory session other
-commit_may_want_memory-same session state other same = by_draft (draft_of session state) refl
+commit_may_want_memory-same : (language : Language) (session : ℕ) (state other : State) → IsSameTo session state other
+    → commit_may_want_memory language.theory session state ≡ commit_may_want_memory language.theory session other
+commit_may_want_memory-same language session state other same = by_draft (draft_of session state) refl
   where
-    by_draft : (draft : Draft) → draft_of session state ≡ draft → commit_may_want_memory session state ≡ commit_may_want_memory session other
-    by_draft None is = commit_may_want_memory-closed session state is ∙ sym (commit_may_want_memory-closed session other (sym same.draft ∙ is))
-    by_draft (Some held) is = commit_may_want_memory-open session state held is ∙ sym (commit_may_want_memory-open session other held (sym same.draft ∙ is))
+    by_draft : (draft : Draft) → draft_of session state ≡ draft → commit_may_want_memory language.theory session state ≡ commit_may_want_memory language.theory session other
+    by_draft None is =
+        commit_may_want_memory-closed session state language.theory is ∙ sym (commit_may_want_memory-closed session other language.theory (sym same.draft ∙ is))
+    by_draft (Some held) is =
+        commit_may_want_memory-open session state language.theory held is
+        ∙ ap (λ (events : List PlainEvent). batch_may_want_memory language.theory events held) same.events
+        ∙ sym (commit_may_want_memory-open session other language.theory held (sym same.draft ∙ is))
 
 command_may_want_memory-same : (language : Language) (session : ℕ) (state other : State) (command : PlainCommand) → IsSameTo session state other
     → command_may_want_memory language.theory session state command ≡ command_may_want_memory language.theory session other command
 unfolding command_may_want_memory
+command_may_want_memory-same language session state other silent same = refl
+command_may_want_memory-same language session state other bad same = refl
 command_may_want_memory-same language session state other (assert_event id t term) same =
     update_may_want_memory-same language session state other (asserting (record { id = id; rank = t; term = term })) same
 command_may_want_memory-same language session state other (retract_event id) same = update_may_want_memory-same language session state other (retracting id) same
-command_may_want_memory-same language session state other commit_draft same = commit_may_want_memory-same session state other same
-command_may_want_memory-same language session state other command same = refl
+command_may_want_memory-same language session state other begin_draft same = refl
+command_may_want_memory-same language session state other commit_draft same = commit_may_want_memory-same language session state other same
+command_may_want_memory-same language session state other abort_draft same = refl
+command_may_want_memory-same language session state other (ask query) same = refl
+command_may_want_memory-same language session state other ask_last same = refl
+command_may_want_memory-same language session state other quit same = refl
 
 may_want_memory-same : (language : Language) (session : ℕ) (state other : State) (line : List ℕ) → IsTrue (is_line_of language session line) → IsSameTo session state other
     → may_want_memory language state line ≡ may_want_memory language other line

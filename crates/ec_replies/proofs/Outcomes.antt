@@ -3,12 +3,12 @@ use Rattle.std.proofs.Common.{◌≡◌, ℕ, ◌<◌, ◌⊎◌, inl, inr, Bool
 use Rattle.std.proofs.lemmas.Bool.{ltb-true}
 use Rattle.ec_terms.specs.declared.theory.Theory.{Theory}
 use Rattle.ec_axioms.specs.declared.event.Cut.{Cut}
-use Rattle.ec_axioms.specs.declared.limits.TheConstants.{MOST_DRAFTED}
+use Rattle.ec_commands.specs.declared.limits.TheConstants.{MOST_DRAFTED}
 use Rattle.ec_axioms.specs.Calculus.{PlainEvent}
 use Rattle.ec_axioms.specs.Changes.{PlainUpdate, asserting, retracting, PlacedCut}
-use Rattle.ec_axioms.specs.Lines.{is_long}
-use Rattle.ec_axioms.specs.Commands.{PlainCommand, silent, assert_event, retract_event, begin_draft, commit_draft, abort_draft, parsed_of}
-use Rattle.ec_axioms.specs.Answers.{answer_ok, answer_drafted, answer_text, refused_no_draft, refused_in_draft, refused_full_draft, refused_update, refused_commit}
+use Rattle.ec_commands.specs.Lines.{is_long}
+use Rattle.ec_commands.specs.Commands.{PlainCommand, silent, bad, assert_event, retract_event, begin_draft, commit_draft, abort_draft, ask, ask_last, quit, parsed_of}
+use Rattle.ec_commands.specs.Answers.{answer_ok, answer_bye, answer_drafted, answer_last, answer_text, refused_syntax, refused_no_draft, refused_in_draft, refused_full_draft, refused_update, refused_commit}
 use Rattle.ec_replies.specs.State.{Draft, State, draft_of, with_draft}
 use Rattle.ec_replies.specs.Updates.{updated, updated_by}
 use Rattle.ec_replies.specs.Replies.{Language, Reply, session_of, reply_line, answering, revised, update_reply, drafted_reply, commit_reply, reply_to_update, reply_to_begin, reply_to_commit, reply_to_abort, query_text, command_reply, parsed_reply}
@@ -89,13 +89,16 @@ pub command_outcome : (language : Language) (prefix : Option ℕ) (session : ℕ
     → Outcome language.theory prefix session state command (command_reply language prefix session state command)
 unfolding command_reply
 command_outcome language prefix session state silent = is_kept []
+command_outcome language prefix session state bad = is_kept (reply_line prefix (answer_text refused_syntax))
 command_outcome language prefix session state (assert_event id t term) =
     update_outcome language prefix session state (assert_event id t term) refl (asserting (record { id = id; rank = t; term = term }))
 command_outcome language prefix session state (retract_event id) = update_outcome language prefix session state (retract_event id) refl (retracting id)
 command_outcome language prefix session state begin_draft = begin_outcome language prefix session state begin_draft
 command_outcome language prefix session state commit_draft = commit_outcome language prefix session state commit_draft refl
 command_outcome language prefix session state abort_draft = abort_outcome language prefix session state abort_draft
-command_outcome language prefix session state command = is_kept (reply_line prefix (query_text language state command))
+command_outcome language prefix session state (ask query) = is_kept (reply_line prefix (query_text language state.events query))
+command_outcome language prefix session state ask_last = is_kept (reply_line prefix (answer_text (answer_last state.last)))
+command_outcome language prefix session state quit = is_kept (reply_line prefix (answer_text answer_bye))
 
 -- ---- steps
 

@@ -4,15 +4,15 @@ use Rattle.std.proofs.lemmas.Bool.{and_parts, not-true, eqb-true}
 use Rattle.std.proofs.lemmas.List.{length-set}
 use Rattle.ec_axioms.specs.declared.event.Cut.{Cut}
 use Rattle.ec_axioms.specs.declared.event.Seen.{Seen}
-use Rattle.ec_axioms.specs.declared.limits.TheConstants.{MOST_DRAFTED}
+use Rattle.ec_commands.specs.declared.limits.TheConstants.{MOST_DRAFTED}
 use Rattle.ec_axioms.specs.Calculus.{PlainEvent}
 use Rattle.ec_axioms.specs.Changes.{PlainUpdate, asserting, retracting, PlacedCut}
-use Rattle.ec_axioms.specs.Lines.{is_long}
-use Rattle.ec_axioms.specs.Commands.{PlainCommand, silent, assert_event, retract_event, begin_draft, commit_draft, abort_draft, PlainParsed, parsed_of}
-use Rattle.ec_axioms.specs.Answers.{refused_long_line}
+use Rattle.ec_commands.specs.Lines.{is_long}
+use Rattle.ec_commands.specs.Commands.{PlainCommand, silent, bad, assert_event, retract_event, begin_draft, commit_draft, abort_draft, ask, ask_last, quit, PlainParsed, parsed_of}
+use Rattle.ec_commands.specs.Answers.{refused_long_line}
 use Rattle.ec_replies.specs.State.{Draft, State, draft_of, with_draft}
 use Rattle.ec_replies.specs.Updates.{updated, updated_by}
-use Rattle.ec_replies.specs.Replies.{Language, Reply, session_of, answering, revised, update_reply, drafted_reply, commit_reply, reply_to_update, reply_to_begin, reply_to_commit, reply_to_abort, query_text, command_reply, parsed_reply, reply_of}
+use Rattle.ec_replies.specs.Replies.{Language, Reply, session_of, answering, revised, update_reply, drafted_reply, commit_reply, reply_to_update, reply_to_begin, reply_to_commit, reply_to_abort, command_reply, parsed_reply, reply_of}
 use Rattle.ec_replies.specs.Laws.{IsSameTo, RepliesDependOnOwnDraft, QueriesIgnoreDrafts, is_line_of, is_query, line_command}
 use Rattle.ec_replies.proofs.Drafts.{get_or-set_both}
 use Rattle.ec_replies.proofs.ByDraft.{reply_to_update-closed, reply_to_begin-closed, reply_to_commit-closed, reply_to_abort-closed, reply_to_update-open, reply_to_begin-open, reply_to_commit-open, reply_to_abort-open}
@@ -137,14 +137,17 @@ module _ (language : Language) (prefix : Option ℕ) (session : ℕ) (state : St
   -- ---- commands
 
   same_command : (command : PlainCommand) → AreSame session (command_reply language prefix session state command) (command_reply language prefix session other command)
-  unfolding command_reply query_text
+  unfolding command_reply
   same_command silent = (refl, same_here)
+  same_command bad = (refl, same_here)
   same_command (assert_event id t term) = same_update (asserting (record { id = id; rank = t; term = term }))
   same_command (retract_event id) = same_update (retracting id)
   same_command begin_draft = same_begin
   same_command commit_draft = same_commit
   same_command abort_draft = same_abort
-  same_command command = (refl, same_here)
+  same_command (ask query) = (refl, same_here)
+  same_command ask_last = (refl, same_here)
+  same_command quit = (refl, same_here)
 
 -- ---- the laws
 
@@ -173,13 +176,17 @@ RepliesDependOnOwnDraft-law language session state other line own same =
 -- the text of a reply to a query, whatever the drafts
 query_text-drafts : (language : Language) (prefix : Option ℕ) (session : ℕ) (state : State) (drafts : List Draft) (command : PlainCommand) → IsTrue (is_query command)
     → (command_reply language prefix session state command).text ≡ (command_reply language prefix session (record state { drafts = drafts }) command).text
-unfolding command_reply query_text
+unfolding command_reply
+query_text-drafts language prefix session state drafts silent query = cc
+query_text-drafts language prefix session state drafts bad query = cc
 query_text-drafts language prefix session state drafts (assert_event id t term) query = cc
 query_text-drafts language prefix session state drafts (retract_event id) query = cc
 query_text-drafts language prefix session state drafts begin_draft query = cc
 query_text-drafts language prefix session state drafts commit_draft query = cc
 query_text-drafts language prefix session state drafts abort_draft query = cc
-query_text-drafts language prefix session state drafts command query = refl
+query_text-drafts language prefix session state drafts (ask asked) query = refl
+query_text-drafts language prefix session state drafts ask_last query = refl
+query_text-drafts language prefix session state drafts quit query = cc
 
 pub QueriesIgnoreDrafts-law : QueriesIgnoreDrafts
 QueriesIgnoreDrafts-law language state other line query events last = by_length (is_long line) refl

@@ -3,8 +3,8 @@ use Rattle.std.proofs.Common.{◌≡◌, ℕ, inl, inr, Bool, true, false, not, 
 use Rattle.std.proofs.lemmas.Bool.{and_parts, false≢true}
 use Rattle.std.proofs.lemmas.List.{append-nil}
 use Rattle.std.specs.List.{list_all}
-use Rattle.ec_axioms.specs.Lines.{is_long}
-use Rattle.ec_axioms.specs.Commands.{PlainCommand, assert_event, retract_event, commit_draft, parsed_of}
+use Rattle.ec_commands.specs.Lines.{is_long}
+use Rattle.ec_commands.specs.Commands.{PlainCommand, silent, bad, assert_event, retract_event, begin_draft, commit_draft, abort_draft, ask, ask_last, quit, parsed_of}
 use Rattle.ec_replies.specs.State.{State}
 use Rattle.ec_replies.specs.Replies.{Language, session_of}
 use Rattle.ec_replies.specs.Runs.{Step, IsReply, is_quit, has_quit, Run, RunsOn, may_want_memory, command_may_want_memory}
@@ -118,10 +118,16 @@ module _ (language : Language) where
 command_without_memory : (language : Language) (session : ℕ) (state : State) (command : PlainCommand) → may_change command ≡ false
     → command_may_want_memory language.theory session state command ≡ false
 unfolding command_may_want_memory
+command_without_memory language session state silent keeps = refl
+command_without_memory language session state bad keeps = refl
 command_without_memory language session state (assert_event id t term) keeps = cc
 command_without_memory language session state (retract_event id) keeps = cc
+command_without_memory language session state begin_draft keeps = refl
 command_without_memory language session state commit_draft keeps = cc
-command_without_memory language session state command keeps = refl
+command_without_memory language session state abort_draft keeps = refl
+command_without_memory language session state (ask query) keeps = refl
+command_without_memory language session state ask_last keeps = refl
+command_without_memory language session state quit keeps = refl
 
 -- a step on such a line is its reply
 pub step_without_memory : (language : Language) (state after : State) (line text : List ℕ) → IsTrue (is_without_memory language line) → Step language state line text after

@@ -4,8 +4,8 @@ use Rattle.std.proofs.lemmas.List.{get_or-set_other}
 use Rattle.ec_lists.proofs.Numbers.{eqb-apart}
 use Rattle.ec_axioms.specs.Calculus.{PlainEvent}
 use Rattle.ec_axioms.specs.Changes.{PlainUpdate, PlacedCut}
-use Rattle.ec_axioms.specs.Lines.{is_long}
-use Rattle.ec_axioms.specs.Commands.{PlainCommand, assert_event, retract_event, begin_draft, commit_draft, abort_draft, parsed_of}
+use Rattle.ec_commands.specs.Lines.{is_long}
+use Rattle.ec_commands.specs.Commands.{PlainCommand, silent, bad, assert_event, retract_event, begin_draft, commit_draft, abort_draft, ask, ask_last, quit, parsed_of}
 use Rattle.ec_replies.specs.State.{Draft, State, draft_of}
 use Rattle.ec_replies.specs.Updates.{updated_by}
 use Rattle.ec_replies.specs.Replies.{Language, Reply, session_of, commit_reply, reply_to_commit, command_reply, reply_of}
@@ -45,12 +45,16 @@ OthersKeepADraft-law language session state after line text other step = by_leng
 query_after : (language : Language) (prefix : Option ℕ) (session : ℕ) (state : State) (command : PlainCommand) → IsTrue (is_query command)
     → (command_reply language prefix session state command).after ≡ state
 unfolding command_reply
+query_after language prefix session state silent query = cc
+query_after language prefix session state bad query = cc
 query_after language prefix session state (assert_event id t term) query = cc
 query_after language prefix session state (retract_event id) query = cc
 query_after language prefix session state begin_draft query = cc
 query_after language prefix session state commit_draft query = cc
 query_after language prefix session state abort_draft query = cc
-query_after language prefix session state command query = refl
+query_after language prefix session state (ask asked) query = refl
+query_after language prefix session state ask_last query = refl
+query_after language prefix session state quit query = cc
 
 pub QueriesChangeNothing-law : QueriesChangeNothing
 QueriesChangeNothing-law language state after line text query (inr refused) = refused.after_is

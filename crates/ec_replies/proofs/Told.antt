@@ -4,12 +4,12 @@ use Rattle.std.proofs.lemmas.Bool.{and_parts, not-true, false≢true}
 use Rattle.std.proofs.lemmas.List.{append_cancel_left}
 use Rattle.ec_axioms.specs.declared.event.Cut.{Cut}
 use Rattle.ec_axioms.specs.declared.event.Cut.TheVariants.{Duplicate, Unknown, FullEvents, FullMentions, FullLinks}
-use Rattle.ec_axioms.specs.declared.limits.TheConstants.{MOST_DRAFTED}
+use Rattle.ec_commands.specs.declared.limits.TheConstants.{MOST_DRAFTED}
 use Rattle.ec_axioms.specs.Calculus.{PlainEvent}
 use Rattle.ec_axioms.specs.Changes.{PlainUpdate, asserting, retracting, PlacedCut}
-use Rattle.ec_axioms.specs.Lines.{is_long, line_feed}
-use Rattle.ec_axioms.specs.Commands.{PlainCommand, assert_event, retract_event, commit_draft, parsed_of}
-use Rattle.ec_axioms.specs.Answers.{answer_ok, answer_drafted, refused_memory, refused_no_draft, refused_full_draft, refused_update, refused_commit, answer_text, cut_text, front_text}
+use Rattle.ec_commands.specs.Lines.{is_long, line_feed}
+use Rattle.ec_commands.specs.Commands.{PlainCommand, silent, bad, assert_event, retract_event, begin_draft, commit_draft, abort_draft, ask, ask_last, quit, parsed_of}
+use Rattle.ec_commands.specs.Answers.{answer_ok, answer_drafted, refused_memory, refused_no_draft, refused_full_draft, refused_update, refused_commit, answer_text, cut_text, front_text}
 use Rattle.ec_replies.specs.State.{Draft, State, draft_of}
 use Rattle.ec_replies.specs.Updates.{updated, updated_by}
 use Rattle.ec_replies.specs.Replies.{Language, Reply, session_of, reply_line, update_reply, drafted_reply, commit_reply, reply_to_update, reply_to_commit, command_reply, reply_of}
@@ -102,10 +102,16 @@ module _ (prefix : Option ℕ) (rest more : List ℕ) where
   command_reply-other : (language : Language) (session : ℕ) (state : State) (command : PlainCommand)
       → IsTrue (command_may_want_memory language.theory session state command) → IsOther (command_reply language prefix session state command).text
   unfolding command_reply command_may_want_memory
+  command_reply-other language session state silent may = absurd (false≢true may)
+  command_reply-other language session state bad may = absurd (false≢true may)
   command_reply-other language session state (assert_event id t term) may = reply_to_update-other language session state (asserting (record { id = id; rank = t; term = term }))
   command_reply-other language session state (retract_event id) may = reply_to_update-other language session state (retracting id)
+  command_reply-other language session state begin_draft may = absurd (false≢true may)
   command_reply-other language session state commit_draft may = reply_to_commit-other language session state
-  command_reply-other language session state command may = absurd (false≢true may)
+  command_reply-other language session state abort_draft may = absurd (false≢true may)
+  command_reply-other language session state (ask query) may = absurd (false≢true may)
+  command_reply-other language session state ask_last may = absurd (false≢true may)
+  command_reply-other language session state quit may = absurd (false≢true may)
 
 -- the reply to a line for which memory may be wanting is not that refusal
 reply_of-other : (language : Language) (state : State) (line rest more : List ℕ) → IsTrue (may_want_memory language state line)

@@ -1,9 +1,9 @@
 -- Dialogues with a lamp and with people who move, for the worked examples.
 use Rattle.std.specs.Prelude.{ℕ, List, [], ◌∷◌, ◌++◌, Some}
 use Rattle.ec_moment.specs.Number.{number_value}
-use Rattle.ec_axioms.specs.Answers.{front_text}
+use Rattle.ec_commands.specs.Answers.{front_text}
 use Rattle.ec_axioms.specs.Examples.{theory_a, short_number}
-use Rattle.ec_axioms.specs.Lines.{line_feed}
+use Rattle.ec_commands.specs.Lines.{line_feed}
 use Rattle.ec_replies.specs.State.{State, empty_state}
 use Rattle.ec_replies.specs.Replies.{Language, reply_of}
 

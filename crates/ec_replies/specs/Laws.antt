@@ -1,11 +1,11 @@
 -- The laws of replies, as statements. Each is the contract of a function of the module of laws.
 use Rattle.std.specs.Prelude.{◌≡◌, ◌<◌, ◌⊎◌, ℕ, ◌==◌, Bool, true, false, not, ◌&&◌, List, [], ◌∷◌, ◌++◌, length, Option, Some, None, Ok, slice_set, IsTrue, IsFalse}
 use Rattle.ec_terms.specs.declared.theory.Theory.{Theory}
-use Rattle.ec_axioms.specs.declared.limits.TheConstants.{MOST_DRAFTED}
+use Rattle.ec_commands.specs.declared.limits.TheConstants.{MOST_DRAFTED}
 use Rattle.ec_axioms.specs.Changes.{PlainUpdate, asserting, retracting, change_counts}
-use Rattle.ec_axioms.specs.Lines.{is_long}
-use Rattle.ec_axioms.specs.Commands.{PlainCommand, ask_holds, ask_through, ask_intervals, ask_broken, ask_at, ask_clashes, ask_events, ask_why, ask_last, assert_event, retract_event, begin_draft, commit_draft, abort_draft, parsed_of}
-use Rattle.ec_axioms.specs.Answers.{answer_ok, answer_drafted, answer_text}
+use Rattle.ec_commands.specs.Lines.{is_long}
+use Rattle.ec_commands.specs.Commands.{PlainCommand, silent, bad, assert_event, retract_event, begin_draft, commit_draft, abort_draft, ask, ask_last, quit, parsed_of}
+use Rattle.ec_commands.specs.Answers.{answer_ok, answer_drafted, answer_text}
 use Rattle.ec_replies.specs.State.{State, draft_of, with_draft}
 use Rattle.ec_replies.specs.Updates.{updated, updated_by}
 use Rattle.ec_replies.specs.Replies.{Language, session_of, reply_line, reply_of}
@@ -48,18 +48,18 @@ OthersKeepADraft =
 
 -- ---- queries
 
--- the command is a query
+-- the command asks: a query of the present events, or what the last accepted update changed
 abbrev pub is_query : PlainCommand → Bool
-is_query (ask_holds p t) = true
-is_query (ask_through p s e) = true
-is_query (ask_intervals p) = true
-is_query (ask_broken p) = true
-is_query (ask_at t) = true
-is_query ask_clashes = true
-is_query ask_events = true
-is_query (ask_why p t) = true
+is_query silent = false
+is_query bad = false
+is_query (assert_event id t term) = false
+is_query (retract_event id) = false
+is_query begin_draft = false
+is_query commit_draft = false
+is_query abort_draft = false
+is_query (ask query) = true
 is_query ask_last = true
-is_query command = false
+is_query quit = false
 
 -- A reply to a query depends on the events and the counts alone, whatever drafts are open.
 abbrev pub QueriesIgnoreDrafts : Type 0
@@ -77,10 +77,16 @@ QueriesChangeNothing =
 
 -- the command may change the events: it is an assert, a retract or a commit
 abbrev pub may_change : PlainCommand → Bool
+may_change silent = false
+may_change bad = false
 may_change (assert_event id t term) = true
 may_change (retract_event id) = true
+may_change begin_draft = false
 may_change commit_draft = true
-may_change command = false
+may_change abort_draft = false
+may_change (ask query) = false
+may_change ask_last = false
+may_change quit = false
 
 -- the text accepts the line: it is `ok`, or `drafted` with a number
 abbrev pub IsAccepting : Option ℕ → List ℕ → Type 0
@@ -115,11 +121,18 @@ CommitsAreWhole =
 abbrev pub IsOpen : ℕ → State → Type 0
 IsOpen session state = (held : List PlainUpdate) × (draft_of session state ≡ Some held)
 
--- the update that a command asks for
+-- the single update that a command asks for
 abbrev pub asked_update : PlainCommand → Option PlainUpdate
+asked_update silent = None
+asked_update bad = None
 asked_update (assert_event id t term) = Some (asserting (record { id = id; rank = t; term = term }))
 asked_update (retract_event id) = Some (retracting id)
-asked_update command = None
+asked_update begin_draft = None
+asked_update commit_draft = None
+asked_update abort_draft = None
+asked_update (ask query) = None
+asked_update ask_last = None
+asked_update quit = None
 
 -- the draft is closed and the update was made
 pub record IsUpdated (theory : Theory) (session : ℕ) (update : PlainUpdate) (state after : State) : Type 0 where

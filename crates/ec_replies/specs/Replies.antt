@@ -2,13 +2,14 @@
 use Rattle.std.specs.Prelude.{ℕ, ◌+◌, Bool, nat_lt, int_lt, if◌then◌else◌, List, [], ◌∷◌, ◌++◌, ℤ, Option, Some, None, Result, Ok, Err, length, unwrap_or, true, false}
 use Rattle.ec_terms.specs.declared.theory.Theory.{Theory}
 use Rattle.ec_axioms.specs.declared.event.Cut.{Cut}
-use Rattle.ec_axioms.specs.declared.limits.TheConstants.{MOST_DRAFTED}
+use Rattle.ec_commands.specs.declared.limits.TheConstants.{MOST_DRAFTED}
 use Rattle.ec_axioms.specs.Calculus.{PlainEvent, holds_at, holds_through}
 use Rattle.ec_axioms.specs.Changes.{PlainUpdate, asserting, retracting, PlacedCut, change_counts}
-use Rattle.ec_axioms.specs.Lines.{is_long, line_feed}
-use Rattle.ec_axioms.specs.Commands.{PlainCommand, silent, bad, assert_event, retract_event, begin_draft, commit_draft, abort_draft, ask_holds, ask_through, ask_intervals, ask_broken, ask_at, ask_clashes, ask_events, ask_why, ask_last, quit, PlainParsed, parsed_of}
-use Rattle.ec_axioms.specs.Answers.{PlainAnswer, answer_ok, answer_yes, answer_no, answer_bye, answer_drafted, answer_last, refused_long_line, refused_syntax, refused_in_draft, refused_no_draft, refused_full_draft, refused_order, refused_update, refused_commit, answer_text, front_text}
-use Rattle.ec_axioms.specs.QueryTexts.{Canon, intervals_reply, broken_reply, at_reply, clashes_reply, events_reply, why_reply}
+use Rattle.ec_commands.specs.Lines.{is_long, line_feed}
+use Rattle.ec_commands.specs.Commands.{PlainQuery, ask_holds, ask_through, ask_intervals, ask_broken, ask_at, ask_clashes, ask_events, ask_why}
+use Rattle.ec_commands.specs.Commands.{PlainCommand, silent, bad, assert_event, retract_event, begin_draft, commit_draft, abort_draft, ask, ask_last, quit, PlainParsed, parsed_of}
+use Rattle.ec_commands.specs.Answers.{PlainAnswer, answer_ok, answer_yes, answer_no, answer_bye, answer_drafted, answer_last, refused_long_line, refused_syntax, refused_in_draft, refused_no_draft, refused_full_draft, refused_order, refused_update, refused_commit, answer_text, front_text}
+use Rattle.ec_commands.specs.QueryTexts.{Canon, intervals_reply, broken_reply, at_reply, clashes_reply, events_reply, why_reply}
 use Rattle.ec_replies.specs.State.{Draft, State, draft_of, with_draft}
 use Rattle.ec_replies.specs.Updates.{updated, updated_by}
 
@@ -99,35 +100,34 @@ yes_or_no true = answer_text answer_yes
 yes_or_no false = answer_text answer_no
 
 -- whether a property holds through a stretch, whose end must not come before its beginning
-abbrev pub through_text : Theory → State → ℤ → ℤ → Bool → List ℕ
-through_text theory state from until holds = if int_lt until from then answer_text refused_order else yes_or_no holds
+abbrev pub through_text : ℤ → ℤ → Bool → List ℕ
+through_text from until holds = if int_lt until from then answer_text refused_order else yes_or_no holds
 
--- the text of the reply to a query
-unfoldable pub query_text : Language → State → PlainCommand → List ℕ
-query_text language state (ask_holds p t) = yes_or_no (holds_at language.theory state.events p t)
-query_text language state (ask_through p s e) = through_text language.theory state s e (holds_through language.theory state.events p s e)
-query_text language state (ask_intervals p) = intervals_reply language.theory state.events language.canon p
-query_text language state (ask_broken p) = broken_reply language.theory state.events language.canon p
-query_text language state (ask_at t) = at_reply language.theory state.events t
-query_text language state ask_clashes = clashes_reply language.theory state.events language.canon
-query_text language state ask_events = events_reply state.events language.canon
-query_text language state (ask_why p t) = why_reply language.theory state.events language.canon p t
-query_text language state ask_last = answer_text (answer_last state.last)
-query_text language state quit = answer_text answer_bye
-query_text language state bad = answer_text refused_syntax
-query_text language state command = answer_text refused_syntax
+-- the text of the reply to a query of a list of events
+unfoldable pub query_text : Language → List PlainEvent → PlainQuery → List ℕ
+query_text language events (ask_holds p t) = yes_or_no (holds_at language.theory events p t)
+query_text language events (ask_through p s e) = through_text s e (holds_through language.theory events p s e)
+query_text language events (ask_intervals p) = intervals_reply language.theory events language.canon p
+query_text language events (ask_broken p) = broken_reply language.theory events language.canon p
+query_text language events (ask_at t) = at_reply language.theory events t
+query_text language events ask_clashes = clashes_reply language.theory events language.canon
+query_text language events ask_events = events_reply events language.canon
+query_text language events (ask_why p t) = why_reply language.theory events language.canon p t
 
 -- ---- lines
 
 -- the reply to a command of a session, whose line had this prefix
 unfoldable pub command_reply : Language → Option ℕ → ℕ → State → PlainCommand → Reply
 command_reply language prefix session state silent = record { text = []; after = state }
+command_reply language prefix session state bad = answering prefix refused_syntax state
 command_reply language prefix session state (assert_event id t term) = reply_to_update language.theory prefix session state (asserting (record { id = id; rank = t; term = term }))
 command_reply language prefix session state (retract_event id) = reply_to_update language.theory prefix session state (retracting id)
 command_reply language prefix session state begin_draft = reply_to_begin prefix session state
 command_reply language prefix session state commit_draft = reply_to_commit language.theory prefix session state
 command_reply language prefix session state abort_draft = reply_to_abort prefix session state
-command_reply language prefix session state command = record { text = reply_line prefix (query_text language state command); after = state }
+command_reply language prefix session state (ask query) = record { text = reply_line prefix (query_text language state.events query); after = state }
+command_reply language prefix session state ask_last = answering prefix (answer_last state.last) state
+command_reply language prefix session state quit = answering prefix answer_bye state
 
 -- the reply to what a line says
 abbrev pub parsed_reply : Language → State → PlainParsed → Reply

@@ -2,12 +2,12 @@
 use Rattle.std.specs.Prelude.{◌≡◌, ◌≢◌, ◌≤◌, ◌↔◌, ℕ, Some, None, length, Bool, true, false, not, ◌||◌, List, [], ◌∷◌, ◌++◌, map, filter, flat_map, IsTrue, IsFalse}
 use Rattle.std.specs.List.{All, list_all}
 use Rattle.ec_terms.specs.declared.theory.Theory.{Theory}
-use Rattle.ec_axioms.specs.declared.limits.TheConstants.{MOST_DRAFTED, SESSIONS}
+use Rattle.ec_commands.specs.declared.limits.TheConstants.{MOST_DRAFTED, SESSIONS}
 use Rattle.ec_axioms.specs.Calculus.{PlainEvent}
 use Rattle.ec_axioms.specs.Changes.{is_history}
 use Rattle.ec_axioms.specs.Links.{mentions_of, link_count, most_events, most_mentions, most_links}
-use Rattle.ec_axioms.specs.Lines.{is_long}
-use Rattle.ec_axioms.specs.Answers.{answer_ok, answer_text}
+use Rattle.ec_commands.specs.Lines.{is_long}
+use Rattle.ec_commands.specs.Answers.{answer_ok, answer_text}
 use Rattle.ec_replies.specs.State.{Draft, State, draft_of, empty_state}
 use Rattle.ec_replies.specs.Replies.{Language, reply_line}
 use Rattle.ec_replies.specs.Runs.{Step, is_quit, has_quit, Run, RunsOn}

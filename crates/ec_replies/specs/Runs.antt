@@ -4,12 +4,12 @@ use Rattle.std.specs.List.{list_any}
 use Rattle.ec_terms.specs.declared.theory.Theory.{Theory}
 use Rattle.ec_axioms.specs.declared.event.Cut.{Cut}
 use Rattle.ec_axioms.specs.declared.event.Cut.TheVariants.{Duplicate, Unknown, FullEvents, FullMentions, FullLinks}
-use Rattle.ec_axioms.specs.declared.limits.TheConstants.{MOST_DRAFTED}
+use Rattle.ec_commands.specs.declared.limits.TheConstants.{MOST_DRAFTED}
 use Rattle.ec_axioms.specs.Calculus.{PlainEvent}
 use Rattle.ec_axioms.specs.Changes.{PlainUpdate, asserting, retracting}
-use Rattle.ec_axioms.specs.Lines.{is_long}
-use Rattle.ec_axioms.specs.Commands.{PlainCommand, assert_event, retract_event, commit_draft, quit, PlainParsed, parsed_of}
-use Rattle.ec_axioms.specs.Answers.{refused_memory, answer_text}
+use Rattle.ec_commands.specs.Lines.{is_long}
+use Rattle.ec_commands.specs.Commands.{PlainCommand, silent, bad, assert_event, retract_event, begin_draft, commit_draft, abort_draft, ask, ask_last, quit, PlainParsed, parsed_of}
+use Rattle.ec_commands.specs.Answers.{refused_memory, answer_text}
 use Rattle.ec_replies.specs.State.{Draft, State, draft_of, empty_state}
 use Rattle.ec_replies.specs.Updates.{updated}
 use Rattle.ec_replies.specs.Replies.{Language, reply_line, reply_of, session_of}
@@ -37,20 +37,32 @@ update_may_want_memory theory session state update = by_draft (draft_of session 
     by_draft None = may_want_by (updated theory state.events update)
     by_draft (Some held) = nat_lt (length held) MOST_DRAFTED
 
--- memory may be wanting for a commit, if the draft is open
-unfoldable pub commit_may_want_memory : ℕ → State → Bool
-commit_may_want_memory session state = by_draft (draft_of session state)
+-- Memory may be wanting for updates that are applied together if it may for the first of them. What is accepted takes memory to
+-- be tried, so behind a first update that is accepted it may be wanting, whatever the others would be refused for.
+unfoldable pub batch_may_want_memory : Theory → List PlainEvent → List PlainUpdate → Bool
+batch_may_want_memory theory events [] = false
+batch_may_want_memory theory events (update ∷ updates) = may_want_by (updated theory events update)
+
+-- memory may be wanting for a commit, if the draft is open and it may for the updates that it holds
+unfoldable pub commit_may_want_memory : Theory → ℕ → State → Bool
+commit_may_want_memory theory session state = by_draft (draft_of session state)
   where
     by_draft : Draft → Bool
     by_draft None = false
-    by_draft (Some held) = true
+    by_draft (Some held) = batch_may_want_memory theory state.events held
 
 -- memory may be wanting for a command
 unfoldable pub command_may_want_memory : Theory → ℕ → State → PlainCommand → Bool
+command_may_want_memory theory session state silent = false
+command_may_want_memory theory session state bad = false
 command_may_want_memory theory session state (assert_event id t term) = update_may_want_memory theory session state (asserting (record { id = id; rank = t; term = term }))
 command_may_want_memory theory session state (retract_event id) = update_may_want_memory theory session state (retracting id)
-command_may_want_memory theory session state commit_draft = commit_may_want_memory session state
-command_may_want_memory theory session state command = false
+command_may_want_memory theory session state begin_draft = false
+command_may_want_memory theory session state commit_draft = commit_may_want_memory theory session state
+command_may_want_memory theory session state abort_draft = false
+command_may_want_memory theory session state (ask query) = false
+command_may_want_memory theory session state ask_last = false
+command_may_want_memory theory session state quit = false
 
 -- memory may be wanting for what a line says
 abbrev pub parsed_may_want_memory : Theory → State → PlainParsed → Bool
@@ -83,8 +95,16 @@ Step language state line text after = IsReply language state line text after ⊎
 
 -- the command of a parsed line is `quit`
 abbrev pub command_quits : PlainCommand → Bool
+command_quits silent = false
+command_quits bad = false
+command_quits (assert_event id t term) = false
+command_quits (retract_event id) = false
+command_quits begin_draft = false
+command_quits commit_draft = false
+command_quits abort_draft = false
+command_quits (ask query) = false
+command_quits ask_last = false
 command_quits quit = true
-command_quits command = false
 
 -- the line is `quit`
 unfoldable pub is_quit : Language → List ℕ → Bool

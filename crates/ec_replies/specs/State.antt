@@ -2,7 +2,7 @@
 use Rattle.std.specs.Prelude.{ℕ, List, [], Option, None, replicate, slice_set}
 use Rattle.std.specs.List.{slice_index_or}
 use Rattle.ec_axioms.specs.declared.event.Seen.{Seen}
-use Rattle.ec_axioms.specs.declared.limits.TheConstants.{SESSIONS}
+use Rattle.ec_commands.specs.declared.limits.TheConstants.{SESSIONS}
 use Rattle.ec_axioms.specs.Calculus.{PlainEvent}
 use Rattle.ec_axioms.specs.Changes.{PlainUpdate}
 

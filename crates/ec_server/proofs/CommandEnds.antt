@@ -67,12 +67,12 @@ module _ {K : Type 0} (stands : K → List ℕ → Type 0) (faults : K → ℕ) 
     only_memory never status.LongLines says = absurd says
 
   -- a theory that is refused is told so
-  pub told_refused : {Says : Theory → Status → Type 0} {Unchanged : Type 0} → ((theory : Theory) → Says theory status.BadTheory → ⊥) → IsSome told
+  pub told_refused : {Says : Theory → Status → Type 0} {Unchanged : Type 0} → ((theory : Theory) → Says theory status.BadTheory → ⊥)
       → WithTheory stands faults told name before after old new Says Unchanged status.BadTheory
-      → (text : List ℕ) × IsNoTheory told name text × Wrote stands faults old new (theory_line text)
-  told_refused never tells ends =
+      → (text : List ℕ) × (IsSome told → IsNoTheory told name text) × Wrote stands faults old new (theory_line text)
+  told_refused never ends =
       let none = second_of_two ends.says (λ with. never with.0 with.2) in
-      (none.0.text, none.0.why tells, none.0.wrote)
+      (none.0.text, none.0.why, none.0.wrote)
 
   -- where the bytes of the file have a fault, it is refused or memory runs out
   pub refuses_with : {Says : Theory → Status → Type 0} {Unchanged : Type 0} {text : List ℕ} {s : Status} → ¬ Rose before after → IsNoTheory told name text

@@ -1,7 +1,7 @@
 -- How the serving of an input ends.
 use Rattle.std.proofs.Common.{◌≡◌, ◌≤◌, ◌<◌, ℕ, ◌+◌, arith, Bool, true, false, ◌⊎◌, List, [], ◌∷◌, ◌++◌, length, refl, sym, ◌∙◌, subst, inl, inr}
 use Rattle.std.specs.Prelude.{Option}
-use Rattle.ec_axioms.specs.Lines.{lines_of, whole_lines}
+use Rattle.ec_commands.specs.Lines.{lines_of, whole_lines}
 use Rattle.ec_replies.specs.State.{State}
 use Rattle.ec_replies.specs.Replies.{Language}
 use Rattle.ec_sessions.specs.Handling.{IsHandled}

@@ -1,14 +1,18 @@
 -- How far an input is served, turn by turn.
-use Rattle.std.proofs.Common.{◌≡◌, ◌≤◌, ◌<◌, ℕ, zero, suc, ◌+◌, ◌-◌, true, false, List, [], ◌++◌, length, take, Result, Ok, Err, OnErr, OnOk, append-nil, sym, refl, ap, ◌∙◌, subst, arith, length-append}
-use Rattle.std.specs.Prelude.{Option, is_err}
+use Rattle.std.proofs.Common.{◌≡◌, ◌≤◌, ◌<◌, ℕ, zero, suc, ◌+◌, ◌-◌, ◌⊎◌, Bool, true, false, ◌==◌, ◌&&◌, inl, inr, List, [], ◌++◌, length, take, Result, Ok, Err, IfOk, OnErr, OnOk, append-nil, sym, refl, ap, ◌∙◌, subst, arith, length-append}
+use Rattle.std.specs.Prelude.{Option, is_err, nat_lt}
+use Rattle.std.proofs.lemmas.Bool.{ne_eqb}
 use Rattle.std.proofs.lemmas.List.{length-take-le}
-use Rattle.ec_axioms.specs.Lines.{cut_of}
+use Rattle.ec_commands.specs.Lines.{cut_of}
 use Rattle.ec_replies.specs.State.{State, empty_state}
 use Rattle.ec_replies.specs.Replies.{Language}
 use Rattle.ec_server.specs.Answered.{IsServing}
 use Rattle.ec_lines.specs.FeedState.{FeedState, IsPart}
+use Rattle.ec_outside.specs.Counts.{Rose, next_count}
+use Rattle.ec_outside.specs.Reads.{meets_end, next_ended}
 use Rattle.ec_outside.specs.Streams.{Took, NothingAppended}
-use Rattle.ec_outside.proofs.Streams.{Took-then, Took-nil, NothingAppended-refl}
+use Rattle.ec_outside.proofs.Counts.{Rose-next, next_count-Rose}
+use Rattle.ec_outside.proofs.Streams.{Took-then, Took-nil, NothingAppended-refl, NothingAppended-then}
 use Rattle.ec_server.specs.Serving.{IsAt}
 use Rattle.ec_server.proofs.Serving.{IsServing-start, IsServing-kept}
 
@@ -59,11 +63,52 @@ pub some_left : (remaining : ℕ) → (remaining ≡ 0 → ⊥) → 0 < remainin
 some_left zero some = absurd (some refl)
 some_left (suc remaining) some = omega arith
 
+-- ---- counts of reads
+
+-- a read that does not meet the end leaves the count at none
+ended-none : (met : Bool) (ended : ℕ) → met ≡ false → ended ≡ 0 → next_ended ended met ≡ 0
+ended-none met ended unmet none = subst (λ (b : Bool). next_ended ended b ≡ 0) (sym unmet) (subst (λ (n : ℕ). next_ended n false ≡ 0) (sym none) refl)
+
+-- a read that gave a byte does not meet it
+ended-going : (count room ended : ℕ) → 0 < count → ended ≡ 0 → next_ended ended ((count == 0) && nat_lt 0 room) ≡ 0
+ended-going count room ended some none =
+    let given : (count == 0) ≡ false = ne_eqb count 0 (λ same. omega (arith, some, same)) in
+    ended-none ((count == 0) && nat_lt 0 room) ended (ap (λ (b : Bool). b && nat_lt 0 room) given) none
+
+-- one read meets the end at the most, where none met it before
+pub ended-once : (met : Bool) (ended : ℕ) → ended ≡ 0 → next_ended ended met ≤ 1
+ended-once true ended none = rw none (omega arith)
+ended-once false ended none = rw none (omega arith)
+
+-- so it is with what a read answers
+pub going-read : {E : Type 0} (result : Result ℕ E) (room before after : ℕ) → after ≡ next_ended before (meets_end result room)
+    → IfOk result (λ count. 0 < count → before ≡ 0 → after ≡ 0)
+going-read (Ok count) room before after is = λ some none. is ∙ ended-going count room before some none
+going-read (Err failed) room before after is = tt
+
+pub once-read : {E : Type 0} (result : Result ℕ E) (room before after : ℕ) → after ≡ next_ended before (meets_end result room)
+    → before ≡ 0 → after ≤ 1
+once-read result room before after is none = rw is (ended-once (meets_end result room) before none)
+
+pub none_within : {count : ℕ} → count ≡ 0 → count ≤ 1
+none_within none = omega (arith, none)
+
+-- where a read was made, or none so far, one more is one that was made
+pub reads_begun : {Unread : Type 0} {before middle after : ℕ} → Rose before middle ⊎ ((middle ≡ before) × Unread) → after ≡ next_count middle → Rose before after
+reads_begun {before = before} {middle = middle} (inl rose) one_more = rw one_more (Rose-next before middle rose)
+reads_begun {before = before} (inr unread) one_more = rw (one_more, unread.0) (next_count-Rose before)
+
 -- ---- turns
 
 -- a read that failed took nothing
 pub Took-same : {a b c : Option (List ℕ)} {taken : List ℕ} → c ≡ b → Took a b taken → Took a c taken
 Took-same {a} {taken = taken} same took = subst (λ (o : Option (List ℕ)). Took a o taken) (sym same) took
+
+-- where nothing was written before the first read, a flush changes nothing in that
+pub unread_kept : {K : Type 0} {stands : K → List ℕ → Type 0} {start now next : K} {before middle : ℕ}
+    → Rose before middle ⊎ ((middle ≡ before) × NothingAppended stands start now) → NothingAppended stands now next → Rose before middle ⊎ NothingAppended stands start next
+unread_kept (inl rose) kept = inl rose
+unread_kept (inr unread) kept = inr (NothingAppended-then unread.1 kept)
 
 -- So many bytes of the limit are left, and the bytes taken so far are served.
 pub record IsTaking {S K : Type 0} (left : S → Option (List ℕ)) (stands : K → List ℕ → Type 0) (language : Language)

@@ -6,9 +6,9 @@ use Rattle.std.proofs.lemmas.Bool.{or_parts}
 use Rattle.std.proofs.lemmas.List.Folds.{list_any-append}
 use Rattle.std.proofs.lemmas.List.Sums.{sum_by-cons}
 use Rattle.ec_terms.specs.Pieces.{pieces_between}
-use Rattle.ec_axioms.specs.Answers.{answer_text, front_text, refused_memory}
-use Rattle.ec_axioms.specs.Commands.{parsed_of, parsed_words}
-use Rattle.ec_axioms.specs.Lines.{cut_of, is_blank, lines_of, words_of}
+use Rattle.ec_commands.specs.Answers.{answer_text, front_text, refused_memory}
+use Rattle.ec_commands.specs.Commands.{parsed_of, parsed_words}
+use Rattle.ec_commands.specs.Lines.{cut_of, is_blank, lines_of, words_of}
 use Rattle.ec_outside.specs.Counts.{last_count}
 use Rattle.ec_replies.specs.Replies.{Language, reply_line}
 use Rattle.ec_replies.specs.Runs.{IsReply, Run, RunsOn, Step, is_quit, memory_text}

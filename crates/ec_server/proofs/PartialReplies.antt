@@ -1,6 +1,6 @@
 -- Runs go on for ever, so what was written before a fault is a first part of the replies to all lines taken.
 use Rattle.std.proofs.Common.{◌≡◌, ℕ, Bool, true, false, List, [], ◌∷◌, ◌++◌, refl, sym, ap, ◌∙◌, subst, append_assoc, append-nil, inl}
-use Rattle.ec_axioms.specs.Lines.{whole_lines, lines_of}
+use Rattle.ec_commands.specs.Lines.{whole_lines, lines_of}
 use Rattle.ec_replies.specs.State.{State, empty_state}
 use Rattle.ec_replies.specs.Runs.{Run, RunsOn, is_quit}
 use Rattle.ec_replies.specs.Replies.{reply_of, Language}

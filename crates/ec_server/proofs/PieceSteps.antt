@@ -1,7 +1,7 @@
 -- How a piece of the input is served, line by line.
 use Rattle.std.proofs.Common.{◌≡◌, ℕ, ◌-◌, Bool, true, false, List, [], ◌∷◌, ◌++◌, length, take, drop, refl, sym, ap, ◌∙◌, subst, append_assoc, append-nil, take-append-drop, arith}
 use Rattle.std.proofs.lemmas.List.{take_rest}
-use Rattle.ec_axioms.specs.Lines.{cut_of, whole_lines}
+use Rattle.ec_commands.specs.Lines.{cut_of, whole_lines}
 use Rattle.ec_replies.specs.State.{State}
 use Rattle.ec_replies.specs.Replies.{Language}
 use Rattle.ec_sessions.specs.Handling.{IsHandled}

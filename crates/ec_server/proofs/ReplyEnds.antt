@@ -1,12 +1,12 @@
 -- Each reply ends with a line end, or is empty.
 use Rattle.std.proofs.Common.{◌≡◌, ℕ, Bool, true, false, ltb, length, List, [], ◌∷◌, ◌++◌, ◌+◌, Option, Some, None, Result, Ok, Err, refl, sym, ap, ◌∙◌, subst, append-nil}
 use Rattle.ec_axioms.specs.declared.event.Cut.{Cut}
-use Rattle.ec_axioms.specs.declared.limits.TheConstants.{MOST_DRAFTED}
-use Rattle.ec_axioms.specs.Answers.{answer_ok, answer_drafted, answer_text, front_text, refused_commit, refused_full_draft, refused_in_draft, refused_long_line, refused_no_draft, refused_update}
+use Rattle.ec_commands.specs.declared.limits.TheConstants.{MOST_DRAFTED}
+use Rattle.ec_commands.specs.Answers.{answer_ok, answer_bye, answer_drafted, answer_last, answer_text, front_text, refused_commit, refused_full_draft, refused_in_draft, refused_long_line, refused_no_draft, refused_syntax, refused_update}
 use Rattle.ec_axioms.specs.Calculus.{PlainEvent}
 use Rattle.ec_axioms.specs.Changes.{PlacedCut, PlainUpdate, asserting, retracting}
-use Rattle.ec_axioms.specs.Commands.{PlainCommand, abort_draft, assert_event, begin_draft, commit_draft, parsed_of, retract_event, silent}
-use Rattle.ec_axioms.specs.Lines.{CutText, cut_of, is_long, line_feed}
+use Rattle.ec_commands.specs.Commands.{PlainCommand, silent, bad, assert_event, retract_event, begin_draft, commit_draft, abort_draft, ask, ask_last, quit, parsed_of}
+use Rattle.ec_commands.specs.Lines.{CutText, cut_of, is_long, line_feed}
 use Rattle.ec_lines.proofs.CutLines.{behind, cut_of-append}
 use Rattle.ec_replies.specs.Replies.{Language, Reply, commit_reply, command_reply, drafted_reply, query_text, reply_line, reply_of, reply_to_abort, reply_to_begin, reply_to_commit, reply_to_update, session_of, update_reply}
 use Rattle.ec_replies.specs.State.{Draft, State, draft_of}
@@ -87,12 +87,15 @@ module _ (prefix : Option ℕ) where
     command_ended : (command : PlainCommand) → IsEnded (command_reply language prefix session state command).text
     unfolding command_reply
     command_ended silent = IsEnded-nil
+    command_ended bad = reply_ended (answer_text refused_syntax)
     command_ended (assert_event id t term) = update_ended (asserting (record { id = id; rank = t; term = term }))
     command_ended (retract_event id) = update_ended (retracting id)
     command_ended begin_draft = begin_ended
     command_ended commit_draft = commit_ended
     command_ended abort_draft = abort_ended
-    command_ended command = reply_ended (query_text language state command)
+    command_ended (ask query) = reply_ended (query_text language state.events query)
+    command_ended ask_last = reply_ended (answer_text (answer_last state.last))
+    command_ended quit = reply_ended (answer_text answer_bye)
 
 -- the reply to a line is ended
 pub reply_of-ended : (language : Language) (state : State) (line : List ℕ) → IsEnded (reply_of language state line).text

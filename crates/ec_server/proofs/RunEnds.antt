@@ -1,7 +1,7 @@
 -- What a command says by its status is what the run says by its exit status.
-use Rattle.std.proofs.Common.{◌≡◌, ◌≤◌, ◌⊎◌, ◌↔◌, ℕ, true, false, List, [], length, take, drop, Option, Some, None, IsSome, refl, sym, ap, ◌∙◌, subst, inl, inr, append-nil, arith}
+use Rattle.std.proofs.Common.{◌≡◌, ◌≤◌, ◌⊎◌, ◌↔◌, ℕ, true, false, List, [], length, take, drop, Option, Some, None, IsSome, refl, sym, ap, ◌∙◌, subst, inl, inr, arith}
 use Rattle.ec_terms.specs.declared.theory.Theory.{Theory}
-use Rattle.ec_axioms.specs.Lines.{lines_of, whole_lines}
+use Rattle.ec_commands.specs.Lines.{lines_of, whole_lines}
 use Rattle.ec_outside.specs.Counts.{Rose}
 use Rattle.ec_outside.specs.Files.{Files, IsMissing, IsTooLong}
 use Rattle.ec_outside.specs.Streams.{Appended, AppendedPart, IsAtEnd, Took}
@@ -9,23 +9,22 @@ use Rattle.ec_outside.proofs.Streams.{Took-nil}
 use Rattle.ec_replies.specs.Runs.{has_quit, is_quit}
 use Rattle.ec_server.specs.declared.status.Status.{Status}
 use Rattle.ec_server.specs.declared.status.Status.TheVariants as status
-use Rattle.ec_server.specs.Answered.{AnswersLines, AnswersPart, in_ticks}
-use Rattle.ec_server.specs.ByShape.{HasLongTheory, IsReady, IsRefused, LacksFile, Serves, TellsFiles, TellsServed, WrotePart, takes_input}
+use Rattle.ec_server.specs.Answered.{AnswersLines, in_ticks}
+use Rattle.ec_server.specs.ByShape.{HasLongTheory, IsReady, IsRefused, LacksFile, Serves, TellsServed, WrotePart, takes_input}
 use Rattle.ec_server.specs.CommandEnds.{Wrote}
-use Rattle.ec_server.specs.Ending.{GoesOn, IsBroken}
+use Rattle.ec_server.specs.Ending.{GoesOn}
 use Rattle.ec_server.specs.Ends.{Ends}
 use Rattle.ec_server.specs.ExitStatus.{code_of}
-use Rattle.ec_server.specs.InputLimits.{most_input, IsShort, IsLong, StopsAtLimit}
+use Rattle.ec_server.specs.InputLimits.{most_input, IsShort, IsLong}
 use Rattle.ec_server.specs.LineFiles.{most_replayed}
 use Rattle.ec_server.specs.Soaking.{IsSoakLine}
 use Rattle.ec_server.specs.TheoryFiles.{HasTheory, accepted_line, theory_line}
 use Rattle.ec_server.specs.Words.{Shape, check_theory, replay_lines, serve_theory, soak_lines, usage_line}
-use Rattle.ec_server.proofs.PartialReplies.{AnswersPart-longer}
 use Rattle.ec_server.proofs.CommandEnds.{IsInputStatus, IsUntouched, done_if_short, limit_if_long, line_done, never_replayed, no_line, no_refusal, no_replay, only_memory, refuses_with, replay_done, replay_long, same_line, same_refusal, same_replay, same_serve, told_refused}
 use Rattle.ec_server.proofs.StatusCodes.{by_either, either_code, first_of_two, second_of_two, some_of, status_same, told_code}
 use Rattle.ec_server.proofs.TheoryTexts.{HasTheory-not_refused}
 use Rattle.ec_server.proofs.ToldFaults.{line_told, read_told, refusal_told, replay_told, write_told}
-use Rattle.ec_server.proofs.WholeInput.{left_at_limit, lines_done, read_done, stops_at_limit, taken_within}
+use Rattle.ec_server.proofs.WholeInput.{left_at_limit, lines_done, read_done, taken_within}
 
 -- whether a line is `quit` is the same with every theory
 same_quit : (theory other : Theory) (lines : List (List ℕ)) → has_quit (in_ticks theory) lines ≡ false → has_quit (in_ticks other) lines ≡ false
@@ -124,12 +123,12 @@ module _ {S K : Type 0} {left : S → Option (List ℕ)} {read_faults : S → �
       let with = first_of_two (ends_at run status.Done is (serve_theory name) asked).says.says (λ none. none.0) in
       (with.0, with.1, read_done with.2)
 
-  pub accepted : IsRan left read_faults stands write_faults told before after input_before input output_before output asks code → code ≡ 0 → (name : List ℕ) → asks ≡ Some (check_theory name) → IsSome told
-      → (theory : Theory) × HasTheory told name theory × Appended stands output_before output (accepted_line theory)
+  pub accepted : IsRan left read_faults stands write_faults told before after input_before input output_before output asks code → code ≡ 0 → (name : List ℕ) → asks ≡ Some (check_theory name)
+      → (theory : Theory) × (IsSome told → HasTheory told name theory) × Appended stands output_before output (accepted_line theory)
   unfolding code_of
-  accepted run is name asked tells =
+  accepted run is name asked =
       let with = first_of_two (ends_at run status.Done is (check_theory name) asked).says.0.says (λ none. none.0) in
-      (with.0, with.1 tells, subst (λ (t : List ℕ). Appended stands output_before output t) with.2.1 with.2.2)
+      (with.0, with.1, subst (λ (t : List ℕ). Appended stands output_before output t) with.2.1 with.2.2)
 
   pub soaks : IsRan left read_faults stands write_faults told before after input_before input output_before output asks code → code ≡ 0 → (lines seed : ℕ) → asks ≡ Some (soak_lines lines seed) → (text : List ℕ) × IsSoakLine lines seed text × Appended stands output_before output text
   unfolding code_of
@@ -161,15 +160,15 @@ module _ {S K : Type 0} {left : S → Option (List ℕ)} {read_faults : S → �
 
   -- ---- 3
 
-  pub refused : IsRan left read_faults stands write_faults told before after input_before input output_before output asks code → code ≡ 3 → (shape : Shape) → asks ≡ Some shape → IsSome told
-      → (text : List ℕ) × IsRefused shape told text × Wrote stands write_faults output_before output (theory_line text)
+  pub refused : IsRan left read_faults stands write_faults told before after input_before input output_before output asks code → code ≡ 3 → (shape : Shape) → asks ≡ Some shape
+      → (text : List ℕ) × (IsSome told → IsRefused shape told text) × Wrote stands write_faults output_before output (theory_line text)
   unfolding code_of
-  refused run is shape asked tells = by_shape shape (ends_at run status.BadTheory is shape asked)
+  refused run is shape asked = by_shape shape (ends_at run status.BadTheory is shape asked)
     where
-      by_shape : (shape : Shape) → Ends left read_faults stands write_faults told before after input_before input output_before output (Some shape) status.BadTheory → (text : List ℕ) × IsRefused shape told text × Wrote stands write_faults output_before output (theory_line text)
-      by_shape (check_theory name) ends = told_refused stands write_faults told _ before after output_before output (λ theory says. says) tells ends.says.0
-      by_shape (serve_theory name) ends = told_refused stands write_faults told _ before after output_before output (λ theory says. says) tells ends.says
-      by_shape (replay_lines name lines) ends = told_refused stands write_faults told _ before after output_before output (never_replayed stands write_faults told lines before after output_before output) tells ends.says.0
+      by_shape : (shape : Shape) → Ends left read_faults stands write_faults told before after input_before input output_before output (Some shape) status.BadTheory → (text : List ℕ) × (IsSome told → IsRefused shape told text) × Wrote stands write_faults output_before output (theory_line text)
+      by_shape (check_theory name) ends = told_refused stands write_faults told _ before after output_before output (λ theory says. says) ends.says.0
+      by_shape (serve_theory name) ends = told_refused stands write_faults told _ before after output_before output (λ theory says. says) ends.says
+      by_shape (replay_lines name lines) ends = told_refused stands write_faults told _ before after output_before output (never_replayed stands write_faults told lines before after output_before output) ends.says.0
       by_shape (soak_lines lines seed) ends = absurd ends.says.0
 
   pub refuses : IsRan left read_faults stands write_faults told before after input_before input output_before output asks code → (shape : Shape) (text : List ℕ) → asks ≡ Some shape → IsRefused shape told text → ¬ Rose before after → (code ≡ 3) ⊎ (code ≡ 6)
@@ -214,20 +213,20 @@ module _ {S K : Type 0} {left : S → Option (List ℕ)} {read_faults : S → �
       let alone = serves_alone run (inl is) in
       (first_of_two (ends_at run status.ReadFault is (serve_theory alone.0) alone.1).says.says (λ none. none.0)).2.read_fault refl
 
-  pub whole : IsRan left read_faults stands write_faults told before after input_before input output_before output asks code → code ≡ 4 → (name : List ℕ) → asks ≡ Some (serve_theory name) → IsSome told
-      → (theory : Theory) × HasTheory told name theory × ((taken : List ℕ) × Took (left input_before) (left input) taken × GoesOn stands (in_ticks theory) taken output_before output)
+  pub whole : IsRan left read_faults stands write_faults told before after input_before input output_before output asks code → code ≡ 4 → (name : List ℕ) → asks ≡ Some (serve_theory name)
+      → (theory : Theory) × (IsSome told → HasTheory told name theory) × ((taken : List ℕ) × Took (left input_before) (left input) taken × GoesOn stands (in_ticks theory) taken output_before output)
   unfolding code_of
-  whole run is name asked tells =
+  whole run is name asked =
       let with = first_of_two (ends_at run status.ReadFault is (serve_theory name) asked).says.says (λ none. none.0) in
-      (with.0, with.1 tells, (with.2.taken, with.2.took, with.2.ended.says))
+      (with.0, with.1, (with.2.taken, with.2.took, with.2.ended.says))
 
-  pub limit : IsRan left read_faults stands write_faults told before after input_before input output_before output asks code → code ≡ 8 → (name : List ℕ) → asks ≡ Some (serve_theory name) → IsSome told
-      → (theory : Theory) × HasTheory told name theory
-      × ((text : List ℕ) → left input_before ≡ Some text → StopsAtLimit stands (in_ticks theory) most_input text output_before output)
+  pub limit : IsRan left read_faults stands write_faults told before after input_before input output_before output asks code → code ≡ 8 → (name : List ℕ) → asks ≡ Some (serve_theory name)
+      → (theory : Theory) × (IsSome told → HasTheory told name theory)
+      × ((taken : List ℕ) × Took (left input_before) (left input) taken × (length taken ≡ most_input) × GoesOn stands (in_ticks theory) taken output_before output)
   unfolding code_of
-  limit run is name asked tells =
+  limit run is name asked =
       let with = first_of_two (ends_at run status.LimitReached is (serve_theory name) asked).says.says (λ none. none.0) in
-      (with.0, with.1 tells, (λ text is_text. stops_at_limit with.2 text is_text))
+      (with.0, with.1, (with.2.taken, with.2.took, with.2.ended.says.1, with.2.ended.says.0))
 
   pub rest : IsRan left read_faults stands write_faults told before after input_before input output_before output asks code → code ≡ 8 → (text : List ℕ) → left input_before ≡ Some text → left input ≡ Some (drop most_input text)
   unfolding code_of
@@ -262,29 +261,24 @@ module _ {S K : Type 0} {left : S → Option (List ℕ)} {read_faults : S → �
           let read = first_of_two with.2 (λ unread. unread) in read.2.0
       by_shape (soak_lines lines seed) ends = ends.says.0.0
 
-  pub part : IsRan left read_faults stands write_faults told before after input_before input output_before output asks code → code ≡ 5 → (shape : Shape) → asks ≡ Some shape → TellsFiles told shape
+  pub part : IsRan left read_faults stands write_faults told before after input_before input output_before output asks code → code ≡ 5 → (shape : Shape) → asks ≡ Some shape
       → WrotePart stands told (left input_before) (left input) shape output_before output
   unfolding code_of
-  part run is shape asked tells = by_shape shape (ends_at run status.WriteFault is shape asked) tells
+  part run is shape asked = by_shape shape (ends_at run status.WriteFault is shape asked)
     where
-      lines_part : (theory : Theory) (taken : List ℕ) → IsBroken stands (in_ticks theory) (left input) taken output_before output
-          → AnswersPart stands (in_ticks theory) (lines_of taken) output_before output
-      lines_part theory taken (inl some) = AnswersPart-longer taken [] (sym (append-nil taken)) some
-      lines_part theory taken (inr last) = last.1
-
-      by_shape : (shape : Shape) → Ends left read_faults stands write_faults told before after input_before input output_before output (Some shape) status.WriteFault → TellsFiles told shape
+      by_shape : (shape : Shape) → Ends left read_faults stands write_faults told before after input_before input output_before output (Some shape) status.WriteFault
           → WrotePart stands told (left input_before) (left input) shape output_before output
-      by_shape (check_theory name) ends tells =
+      by_shape (check_theory name) ends =
           let with = first_of_two ends.says.0.says (λ none. none.0) in
-          (with.0, with.1 tells, subst (λ (t : List ℕ). AppendedPart stands output_before output t) with.2.1.1 with.2.1.2)
-      by_shape (serve_theory name) ends tells =
+          (with.0, with.1, subst (λ (t : List ℕ). AppendedPart stands output_before output t) with.2.1.1 with.2.1.2)
+      by_shape (serve_theory name) ends =
           let with = first_of_two ends.says.says (λ none. none.0) in
-          (with.0, with.1 tells, (with.2.taken, with.2.took, lines_part with.0 with.2.taken with.2.ended.says))
-      by_shape (replay_lines name lines) ends tells =
+          (with.0, with.1, (with.2.taken, with.2.took, with.2.ended.says))
+      by_shape (replay_lines name lines) ends =
           let with = first_of_two ends.says.0.says (λ none. none.0) in
           let read = first_of_two with.2 (λ unread. unread) in
-          (with.0, with.1 tells, (read.0, read.1 tells, read.2.1))
-      by_shape (soak_lines lines seed) ends tells = ends.says.0.1
+          (with.0, with.1, (read.0, read.1, read.2.1))
+      by_shape (soak_lines lines seed) ends = ends.says.0.1
 
   -- ---- 7 and 9
 

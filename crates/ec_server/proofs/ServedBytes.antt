@@ -1,6 +1,6 @@
 -- Serving an input whose bytes are told, that never fails and stays below the limit.
 use Rattle.std.proofs.Common.{◌≡◌, ◌<◌, ℕ, List, [], ◌++◌, length, Option, Some, refl, sym, ap, ◌∙◌, subst, inl, inr, append-nil, length-append, arith}
-use Rattle.ec_axioms.specs.Lines.{lines_of}
+use Rattle.ec_commands.specs.Lines.{lines_of}
 use Rattle.ec_outside.specs.Counts.{Rose}
 use Rattle.ec_replies.specs.Replies.{Language}
 use Rattle.ec_server.specs.declared.ending.Ending.TheVariants as ending

@@ -1,7 +1,7 @@
 -- How serving goes on: line by line, through flushes, and at its ends.
 use Rattle.std.proofs.Common.{◌≡◌, ℕ, Bool, true, false, ◌||◌, List, [], ◌∷◌, ◌++◌, map, refl, sym, ap, ◌∙◌, subst, append_assoc, append-nil}
 use Rattle.std.proofs.lemmas.List.{map-append}
-use Rattle.ec_axioms.specs.Lines.{CutText, cut_of, whole_lines, lines_of, last_line, without_return}
+use Rattle.ec_commands.specs.Lines.{CutText, cut_of, whole_lines, lines_of, last_line, without_return}
 use Rattle.ec_replies.specs.State.{State, empty_state}
 use Rattle.ec_replies.specs.Runs.{Run, is_quit, has_quit}
 use Rattle.ec_replies.specs.Replies.{Language}

@@ -2,7 +2,7 @@
 use Rattle.std.proofs.Common.{◌≡◌, ◌*◌, ◌<◌, ◌≤◌, ℕ, List, [], ◌∷◌, length, Some, Result, Ok, Err, IfOk, sym, subst, ap, ◌∙◌, length-append, arith}
 use Rattle.std.proofs.lemmas.Bool.Decides.{nat_tests}
 use Rattle.ec_terms.specs.declared.theory.Theory.{Theory}
-use Rattle.ec_axioms.specs.Lines.{is_long, lines_of}
+use Rattle.ec_commands.specs.Lines.{is_long, lines_of}
 use Rattle.ec_soak.specs.declared.counts.Counts.{Counts}
 use Rattle.ec_soak.specs.declared.generated_line.GeneratedLine.{GeneratedLine}
 use Rattle.ec_soak.specs.Load.{ended_text, generated_load, generated_lines, line_text, load_of}

@@ -1,5 +1,5 @@
 -- Exit statuses and their numbers, and shapes.
-use Rattle.std.proofs.Common.{◌≡◌, ◌≤◌, ◌==◌, ◌⊎◌, ℕ, arith, true, Option, Some, None, IsSome, IsTrue, refl, sym, ap, subst, ◌∙◌, inl, inr, cond}
+use Rattle.std.proofs.Common.{◌≡◌, ◌≤◌, ◌==◌, ◌⊎◌, ℕ, arith, true, List, Option, Some, None, IsSome, IsTrue, refl, sym, ap, subst, ◌∙◌, inl, inr, cond}
 use Rattle.std.proofs.lemmas.Bool.{false≢true}
 use Rattle.ec_outside.specs.Counts.{Rose}
 use Rattle.ec_server.specs.declared.ending.Ending.{Ending}
@@ -56,11 +56,25 @@ hands_on-code s is (inl none) = subst (λ (t : Status). IsTrue (hands_on t)) (st
 hands_on-code s is (inr (inl four)) = subst (λ (t : Status). IsTrue (hands_on t)) (status_same {s = status.ReadFault} s four is) refl
 hands_on-code s is (inr (inr eight)) = subst (λ (t : Status). IsTrue (hands_on t)) (status_same {s = status.LimitReached} s eight is) refl
 
+-- 5 is the number of a write that failed alone
+pub fault_status : {code : ℕ} (s : Status) → code ≡ code_of s → code ≡ 5 → s ≡ status.WriteFault
+unfolding code_of
+fault_status s is five = status_same {s = s} status.WriteFault is five
+
 -- where serving ended other than by a write that failed, nothing waits
 pub hands_on-ending : (e : Ending) (waits : ℕ) → (e ≡ ending.WriteFault) ⊎ (waits ≡ 0) → IsTrue (hands_on (status_of e)) → waits ≡ 0
 unfolding hands_on status_of
 hands_on-ending e waits (inr none) on = none
 hands_on-ending e waits (inl fault) on = absurd (false≢true (subst (λ (e : Ending). hands_on (status_of e) ≡ true) fault on))
+
+-- a status that tells a write that failed is of an ending that does
+pub write_fault-ending : (e : Ending) → status_of e ≡ status.WriteFault → e ≡ ending.WriteFault
+unfolding status_of
+write_fault-ending ending.End same = absurd (cc)
+write_fault-ending ending.Quit same = absurd (cc)
+write_fault-ending ending.Limit same = absurd (cc)
+write_fault-ending ending.ReadFault same = absurd (cc)
+write_fault-ending ending.WriteFault same = refl
 
 -- an ending at which no read failed, and one at which no write did
 abbrev pub IsNoReadFault : Ending → Type 0
@@ -105,6 +119,17 @@ IsNoSoak (soak_lines lines seed) = ⊥
 -- words of such a shape ask for none
 pub no_soak : {a : Shape} {shape : Option Shape} {lines seed : ℕ} → shape ≡ Some a → IsNoSoak a → shape ≡ Some (soak_lines lines seed) → ⊥
 no_soak one is other = subst (λ (s : Shape). IsNoSoak s) (shape_same one other) is
+
+-- a shape that asks for no input
+abbrev pub IsNoServe : Shape → Type 0
+IsNoServe (check_theory name) = Unit {0}
+IsNoServe (serve_theory name) = ⊥
+IsNoServe (replay_lines name lines) = Unit {0}
+IsNoServe (soak_lines lines seed) = Unit {0}
+
+-- words of such a shape ask for none
+pub no_serve : {a : Shape} {shape : Option Shape} {name : List ℕ} → shape ≡ Some a → IsNoServe a → shape ≡ Some (serve_theory name) → ⊥
+no_serve one is other = subst (λ (s : Shape). IsNoServe s) (shape_same one other) is
 
 -- ---- either of two
 

@@ -2,7 +2,7 @@
 use Rattle.std.proofs.Common.{◌≡◌, ◌≤◌, ◌+◌, ◌-◌, ◌⊎◌, ℕ, true, false, List, [], ◌++◌, length, take, drop, Option, Some, sym, ap, ◌∙◌, subst, inl, inr, append-nil, length-append, true≢false, arith}
 use Rattle.std.proofs.lemmas.List.{take_at, drop_at}
 use Rattle.std.proofs.Math.Seq.{take-append-add}
-use Rattle.ec_axioms.specs.Lines.{whole_lines, lines_of}
+use Rattle.ec_commands.specs.Lines.{whole_lines, lines_of}
 use Rattle.ec_replies.specs.Runs.{has_quit}
 use Rattle.ec_replies.specs.Replies.{Language}
 use Rattle.ec_server.specs.Answered.{AnswersLines}
@@ -12,7 +12,7 @@ use Rattle.ec_server.specs.declared.ending.Ending.TheVariants as ending
 use Rattle.ec_server.specs.declared.status.Status.{Status}
 use Rattle.ec_server.specs.declared.status.Status.TheVariants as status
 use Rattle.ec_server.specs.Ending.{HasEnded, SaysServed}
-use Rattle.ec_server.specs.InputLimits.{IsShort, StopsAtLimit}
+use Rattle.ec_server.specs.InputLimits.{IsShort}
 use Rattle.ec_server.proofs.Serving.{AnswersLines-quit, whole_lines-append, has_quit-more, has_quit-taken}
 
 -- `quit` among the whole lines of a first part is among those of all
@@ -54,19 +54,7 @@ module _ {S K : Type 0} {left : S → Option (List ℕ)} {read_faults : S → �
   read_done (inl has) = (has.taken, has.took, inl has.ended.says.at_end)
   read_done (inr has) = (has.taken, has.took, inr (has_quit-taken has.ended.says))
 
-  -- as many bytes were taken as the limit allows: they are the first of the input
-  pub stops_at_limit : HasEnded left read_faults stands write_faults language limit input_before input output_before output ending.Limit → (text : List ℕ) → left input_before ≡ Some text → StopsAtLimit stands language limit text output_before output
-  stops_at_limit has text told =
-      let rest = has.took.rest text told in
-      let full = has.ended.says.1 in
-      let same = first_taken text has.taken rest.0 limit rest.2 full in record {
-        input = record {
-          long = first_within text has.taken rest.0 limit rest.2 full;
-          going = ap (λ (t : List ℕ). has_quit language (whole_lines t)) same ∙ has.ended.says.0.going;
-        };
-        answers = subst (λ (t : List ℕ). AnswersLines stands language (whole_lines t) output_before output) (sym same) has.ended.says.0.answers;
-      }
-
+  -- as many bytes were taken as the limit allows: they are gone from the input
   pub left_at_limit : HasEnded left read_faults stands write_faults language limit input_before input output_before output ending.Limit → (text : List ℕ) → left input_before ≡ Some text → left input ≡ Some (drop limit text)
   left_at_limit has text told =
       let rest = has.took.rest text told in

@@ -2,7 +2,7 @@
 use Rattle.std.specs.Prelude.{◌≡◌, ℕ, true, false, List, ◌++◌}
 use Rattle.ec_moment.specs.Number.{number_text, number_value}
 use Rattle.ec_terms.specs.declared.theory.Theory.{Theory}
-use Rattle.ec_axioms.specs.Lines.{whole_lines}
+use Rattle.ec_commands.specs.Lines.{whole_lines}
 use Rattle.ec_outside.specs.Streams.{Appended, AppendedPart}
 use Rattle.ec_replies.specs.State.{State, empty_state}
 use Rattle.ec_replies.specs.Replies.{Language}

@@ -1,10 +1,11 @@
 -- What a run needs and what it may leave, by the shape of its words.
 use Rattle.std.specs.Prelude.{◌≡◌, ◌⊎◌, ℕ, Bool, true, false, List, Option, Some, IsSome}
 use Rattle.ec_terms.specs.declared.theory.Theory.{Theory}
-use Rattle.ec_axioms.specs.Lines.{lines_of}
+use Rattle.ec_commands.specs.Lines.{lines_of}
 use Rattle.ec_outside.specs.Files.{Files, IsMissing, IsTooLong}
 use Rattle.ec_outside.specs.Streams.{AppendedPart, Took}
 use Rattle.ec_server.specs.Answered.{AnswersPart, in_ticks}
+use Rattle.ec_server.specs.Ending.{IsBroken}
 use Rattle.ec_server.specs.InputLimits.{most_input, IsShort}
 use Rattle.ec_server.specs.LineFiles.{HasLines}
 use Rattle.ec_server.specs.Soaking.{IsSoakLine}
@@ -58,13 +59,6 @@ TellsServed told left (serve_theory name) = IsSome told × IsSome left
 TellsServed told left (replay_lines name lines) = IsSome told
 TellsServed told left (soak_lines lines seed) = ⊥
 
--- the folder tells the files that the words name
-abbrev pub TellsFiles : Option Files → Shape → Type 0
-TellsFiles told (check_theory name) = IsSome told
-TellsFiles told (serve_theory name) = IsSome told
-TellsFiles told (replay_lines name lines) = IsSome told
-TellsFiles told (soak_lines lines seed) = Unit {0}
-
 -- all is there for a run that is to end with 0: the theory, and an input or a file of lines that is not too long
 abbrev pub IsReady : Option Files → Option (List ℕ) → Shape → Type 0
 IsReady told left (check_theory name) = (theory : Theory) × HasTheory told name theory
@@ -75,11 +69,15 @@ IsReady told left (soak_lines lines seed) = Unit {0}
 
 -- ---- what is written where the output fails
 
--- A first part of the replies to the lines that were read, or of the one line that is to be written.
+-- A first part of the one line that is to be written, or of the replies to the lines that were read: the whole lines of what was
+-- taken of an input, and its last line only at its end. The files are those of the folder, where it tells them.
 abbrev pub WrotePart : {K : Type 0} → (K → List ℕ → Type 0) → Option Files → Option (List ℕ) → Option (List ℕ) → Shape → K → K → Type 0
-WrotePart stands told before after (check_theory name) old new = (theory : Theory) × HasTheory told name theory × AppendedPart stands old new (accepted_line theory)
+WrotePart stands told before after (check_theory name) old new =
+    (theory : Theory) × (IsSome told → HasTheory told name theory) × AppendedPart stands old new (accepted_line theory)
 WrotePart stands told before after (serve_theory name) old new =
-    (theory : Theory) × HasTheory told name theory × ((taken : List ℕ) × Took before after taken × AnswersPart stands (in_ticks theory) (lines_of taken) old new)
+    (theory : Theory) × (IsSome told → HasTheory told name theory)
+    × ((taken : List ℕ) × Took before after taken × IsBroken stands (in_ticks theory) after taken old new)
 WrotePart stands told before after (replay_lines name lines) old new =
-    (theory : Theory) × HasTheory told name theory × ((text : List ℕ) × HasLines told lines text × AnswersPart stands (in_ticks theory) (lines_of text) old new)
+    (theory : Theory) × (IsSome told → HasTheory told name theory)
+    × ((text : List ℕ) × (IsSome told → HasLines told lines text) × AnswersPart stands (in_ticks theory) (lines_of text) old new)
 WrotePart stands told before after (soak_lines lines seed) old new = (text : List ℕ) × IsSoakLine lines seed text × AppendedPart stands old new text

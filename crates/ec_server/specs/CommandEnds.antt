@@ -1,7 +1,7 @@
 -- What the status of a command says of the theory, of the input and of the output.
 use Rattle.std.specs.Prelude.{◌≡◌, ◌⊎◌, ℕ, List, Option, IsSome}
 use Rattle.ec_terms.specs.declared.theory.Theory.{Theory}
-use Rattle.ec_axioms.specs.Lines.{lines_of}
+use Rattle.ec_commands.specs.Lines.{lines_of}
 use Rattle.ec_outside.specs.Counts.{Rose}
 use Rattle.ec_outside.specs.Files.{Files, IsMissing, IsTooLong}
 use Rattle.ec_outside.specs.Streams.{Appended, AppendedPart}

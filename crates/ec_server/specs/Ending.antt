@@ -1,6 +1,6 @@
 -- What is known of the bytes taken and of the output where the serving of an input ended, by the way it ended and by its status.
 use Rattle.std.specs.Prelude.{◌≡◌, ◌≤◌, ◌<◌, ◌⊎◌, ℕ, false, List, length, Option}
-use Rattle.ec_axioms.specs.Lines.{whole_lines, lines_of}
+use Rattle.ec_commands.specs.Lines.{whole_lines, lines_of}
 use Rattle.ec_replies.specs.Runs.{has_quit}
 use Rattle.ec_replies.specs.Replies.{Language}
 use Rattle.ec_server.specs.Answered.{AnswersLines, AnswersPart, HasQuit}

@@ -1,6 +1,6 @@
 -- How far a piece of the input has been served.
 use Rattle.std.specs.Prelude.{ℕ, List}
-use Rattle.ec_axioms.specs.Lines.{cut_of}
+use Rattle.ec_commands.specs.Lines.{cut_of}
 use Rattle.ec_replies.specs.State.{State}
 use Rattle.ec_replies.specs.Replies.{Language}
 use Rattle.ec_server.specs.Answered.{AnswersLines, AnswersPart, IsServing, BreaksOff, HasQuit}

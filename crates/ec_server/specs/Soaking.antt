@@ -2,7 +2,7 @@
 use Rattle.std.specs.Prelude.{◌≡◌, ℕ, List, codes}
 use Rattle.ec_terms.specs.declared.theory.Theory.{Theory}
 use Rattle.ec_axioms.specs.Examples.{theory_b}
-use Rattle.ec_axioms.specs.Lines.{lines_of}
+use Rattle.ec_commands.specs.Lines.{lines_of}
 use Rattle.ec_replies.specs.Runs.{IsRun}
 use Rattle.ec_soak.specs.declared.counts.Counts.{Counts}
 use Rattle.ec_soak.specs.Load.{generated_load}

@@ -1,5 +1,7 @@
 //! What the shapes of the words that name a theory do, and what is said where there is none.
-ghost use Rattle.std.specs.Prelude.{◌≡◌, IsTrue, false};
+ghost use Rattle.std.specs.Prelude.{◌≡◌, ◌≢◌, ◌≤◌, ◌⊎◌, IsTrue, false};
+ghost use Rattle.ec_outside.specs.Counts.{Rose};
+ghost use Rattle.ec_outside.specs.Streams.{NothingAppended};
 ghost use Rattle.ec_server.specs.CommandEnds.{HasChecked, HasReplayed, HasServed, SaysAccepted, Wrote};
 ghost use Rattle.ec_server.specs.ExitStatus.{hands_on};
 ghost use Rattle.ec_server.specs.Loading.{IsRefusal, IsShortReason};
@@ -31,6 +33,7 @@ fn refuse<K: Sink>(reason: NoTheory, output: &mut K) -> Status
     requires { IsShortReason reason }
     ensures refusal { IsRefusal K.stands K.faults reason result output.old output.new }
     ensures handed_on { hands_on result ≡ false }
+    ensures no_fault { result ≢ Status.WriteFault }
 {
     match reason {
         NoTheory::FolderFault => Status::FolderFault,
@@ -89,6 +92,9 @@ pub fn serve_command<F: Folder, S: Source, K: Sink>(
     ensures served { HasServed S.left S.faults K.stands K.faults (F.files files.old) theory.now (F.faults files.old) (F.faults files.new)
         input.old input.new output.old output.new result }
     ensures handed_on { IsTrue (hands_on result) → K.waiting output.new ≡ 0 }
+    ensures read_first { result ≡ Status.WriteFault →
+        Rose (S.reads input.old) (S.reads input.new) ⊎ NothingAppended K.stands output.old output.new }
+    ensures one_end { S.ended input.old ≡ 0 → S.ended input.new ≤ 1 }
 {
     match load(alloc, theory, files) {
         Ok(checked) => serve(alloc, checked, input, output, MOST_INPUT),

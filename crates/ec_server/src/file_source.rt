@@ -1,5 +1,6 @@
 //! The bytes of a file as an input.
 ghost use Rattle.std.specs.Prelude.{◌≡◌, ◌<◌, ◌≤◌, Some, drop};
+ghost use Rattle.ec_outside.specs.Counts.{last_count};
 
 use ec_outside::{Failed, Source};
 use std::marker::Model;
@@ -34,6 +35,10 @@ impl Source for FileSource {
     ghost left = { λ s. Some s };
 
     ghost faults = { λ _. 0 };
+
+    ghost reads = { λ _. last_count };
+
+    ghost ended = { λ _. last_count };
 
     fn read(&mut self, into: &mut [u8]) -> Result<usize, Failed> {
         let left = &self.bytes[self.at..];

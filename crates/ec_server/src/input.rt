@@ -1,11 +1,11 @@
 //! The loop that serves an input: reads and flushes round its pieces, up to its end, a `quit` or a limit.
 ghost use Rattle.std.specs.Prelude.{◌≡◌, ◌≤◌, ◌<◌, ◌⊎◌, ℕ, List, [], false, take, IfOk, OnOk, OnErr};
-ghost use Rattle.ec_axioms.specs.Lines.{lines_of};
+ghost use Rattle.ec_commands.specs.Lines.{lines_of};
 ghost use Rattle.ec_replies.specs.State.{empty_state};
 ghost use Rattle.ec_server.specs.Answered.{AnswersLines, AnswersPart};
 ghost use Rattle.ec_replies.specs.Replies.{Language};
 ghost use Rattle.ec_lines.specs.FeedState.{IsPart};
-ghost use Rattle.ec_outside.specs.Counts.{Rose};
+ghost use Rattle.ec_outside.specs.Counts.{Rose, next_count};
 ghost use Rattle.ec_outside.specs.Streams.{NothingAppended, Took, IsAtEnd};
 ghost use Rattle.ec_server.specs.Ending.{IsEnding};
 ghost use Rattle.ec_server.specs.Serving.{IsAt, IsLast};
@@ -37,6 +37,9 @@ fn read_piece<S: Source>(
     ensures failed { OnErr result (Rose (S.faults input.old) (S.faults input.new)) }
     ensures quiet { OnOk result (S.faults input.new ≡ S.faults input.old) }
     ensures counted { S.faults input.old ≤ S.faults input.new }
+    ensures one_more { S.reads input.new ≡ next_count (S.reads input.old) }
+    ensures going { IfOk result (λ count. 0 < count → S.ended input.old ≡ 0 → S.ended input.new ≡ 0) }
+    ensures one_end { S.ended input.old ≡ 0 → S.ended input.new ≤ 1 }
 {
     let most = left.min(PIECE as u64) as usize;
     input.read(&mut buffer[..most])
@@ -130,6 +133,9 @@ pub(crate) fn serve_input<
     ensures read_told { (result ≡ Ending.ReadFault) ⊎ (S.faults input.new ≡ S.faults input.old) }
     ensures write_told { (result ≡ Ending.WriteFault) ⊎ (K.faults output.new ≡ K.faults output.old) }
     ensures handed_on { (result ≡ Ending.WriteFault) ⊎ (K.waiting output.new ≡ 0) }
+    ensures read_first { result ≡ Ending.WriteFault →
+        Rose (S.reads input.old) (S.reads input.new) ⊎ NothingAppended K.stands output.old output.new }
+    ensures one_end { S.ended input.old ≡ 0 → S.ended input.new ≤ 1 }
 {
     let mut buffer = [0; PIECE];
     let mut left = limit;

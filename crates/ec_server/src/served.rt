@@ -1,5 +1,7 @@
 //! Serving an input with a theory.
-ghost use Rattle.std.specs.Prelude.{◌≡◌, ◌<◌, IsTrue};
+ghost use Rattle.std.specs.Prelude.{◌≡◌, ◌<◌, ◌≤◌, ◌⊎◌, IsTrue};
+ghost use Rattle.ec_outside.specs.Counts.{Rose};
+ghost use Rattle.ec_outside.specs.Streams.{NothingAppended};
 ghost use Rattle.ec_server.specs.Answered.{in_ticks};
 ghost use Rattle.ec_server.specs.Ending.{SaysServed};
 ghost use Rattle.ec_server.specs.ExitStatus.{hands_on};
@@ -43,6 +45,9 @@ fn serve_counted<
     requires some { 0 < L.parts }
     ensures served { SaysServed S.left S.faults K.stands K.faults (in_ticks checked) limit input.old input.new output.old output.new result }
     ensures handed_on { IsTrue (hands_on result) → K.waiting output.new ≡ 0 }
+    ensures read_first { result ≡ Status.WriteFault →
+        Rose (S.reads input.old) (S.reads input.new) ⊎ NothingAppended K.stands output.old output.new }
+    ensures one_end { S.ended input.old ≡ 0 → S.ended input.new ≤ 1 }
 {
     let mut steps = Steps::<L>::new(blank);
     let Ok(mut feed) = Feed::new(alloc) else {
@@ -69,6 +74,9 @@ pub fn serve<S: Source, K: Sink>(
 ) -> Status
     ensures served { SaysServed S.left S.faults K.stands K.faults (in_ticks checked) limit input.old input.new output.old output.new result }
     ensures handed_on { IsTrue (hands_on result) → K.waiting output.new ≡ 0 }
+    ensures read_first { result ≡ Status.WriteFault →
+        Rose (S.reads input.old) (S.reads input.new) ⊎ NothingAppended K.stands output.old output.new }
+    ensures one_end { S.ended input.old ≡ 0 → S.ended input.new ≤ 1 }
 {
     serve_counted::<S, K, Brand, BlockMarks<Tick>, BlockSpans<Tick>, BlockTimes<Tick>>(
         alloc,

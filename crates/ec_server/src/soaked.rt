@@ -8,7 +8,6 @@ ghost use Rattle.ec_server.specs.Soaking.{IsSoaked, soak_text};
 
 use crate::served::serve;
 use crate::status::Status;
-use ec_lists::NoMemory;
 use ec_outside::Sink;
 use ec_soak::{Counts, SoakSource, TallySink, write_summary};
 use ec_theory::accept;
@@ -32,23 +31,27 @@ strong at/2.
 "
 }
 
-/// Serves so many lines drawn from the seed, and counts the replies. `Err`: memory ran out, be it for one line.
-fn soak(alloc: Global, lines: u32, seed: u64) -> Result<Counts, NoMemory>
+/// Memory ran out while generated lines were served, be it for one line.
+#[derive(Drop)]
+struct Unsoaked;
+
+/// Serves so many lines drawn from the seed, and counts the replies.
+fn soak(alloc: Global, lines: u32, seed: u64) -> Result<Counts, Unsoaked>
     ensures { IfOk result (λ counts. IsSoaked lines seed counts) }
 {
     let Ok(checked) = accept(alloc, soak_text()) else {
-        return Err(NoMemory); // there is no other fault: the text is a theory
+        return Err(Unsoaked); // there is no other fault: the text is a theory
     };
     let mut input = SoakSource::new(lines, seed);
     let mut output = TallySink::new();
     match serve(alloc, checked, &mut input, &mut output, u64::MAX) {
         Status::Done => without_refusals(output.counts()),
-        _ => Err(NoMemory),
+        _ => Err(Unsoaked),
     }
 }
 
 /// The counts, if no line says that memory ran out.
-fn without_refusals(counts: Counts) -> Result<Counts, NoMemory>
+fn without_refusals(counts: Counts) -> Result<Counts, Unsoaked>
     ensures same { IfOk result (λ all. all ≡ counts) }
     ensures none { IfOk result (λ all. all.memory ≡ 0) }
     ensures some { OnErr result (0 < counts.memory) }
@@ -56,7 +59,7 @@ fn without_refusals(counts: Counts) -> Result<Counts, NoMemory>
     if counts.memory == 0 {
         Ok(counts)
     } else {
-        Err(NoMemory)
+        Err(Unsoaked)
     }
 }
 
@@ -98,6 +101,6 @@ pub fn soak_command<K: Sink>(alloc: Global, lines: u32, seed: u64, output: &mut 
 {
     match soak(alloc, lines, seed) {
         Ok(counts) => tell_summary(lines, seed, &counts, output),
-        Err(NoMemory) => Status::NoMemory,
+        Err(Unsoaked) => Status::NoMemory,
     }
 }

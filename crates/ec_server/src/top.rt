@@ -1,18 +1,18 @@
 //! The top call: what the words ask for, done whole.
 ghost use Rattle.std.specs.Prelude.{◌≡◌, ◌≤◌, ◌⊎◌, ◌↔◌, ℕ, true, false, List, Some, None, IsSome, IsTrue, length, drop};
 ghost use Rattle.ec_terms.specs.declared.theory.Theory.{Theory};
-ghost use Rattle.ec_axioms.specs.Lines.{lines_of, whole_lines};
+ghost use Rattle.ec_commands.specs.Lines.{lines_of, whole_lines};
 ghost use Rattle.ec_outside.specs.Counts.{Rose};
 ghost use Rattle.ec_outside.specs.Files.{IsTooLong};
-ghost use Rattle.ec_outside.specs.Streams.{Appended, IsAtEnd, Took};
+ghost use Rattle.ec_outside.specs.Streams.{Appended, IsAtEnd, NothingAppended, Took};
 ghost use Rattle.ec_replies.specs.Runs.{has_quit};
 ghost use Rattle.ec_server.specs.Answered.{AnswersLines, in_ticks};
-ghost use Rattle.ec_server.specs.ByShape.{HasLongTheory, IsReady, IsRefused, LacksFile, Serves, TellsFiles, TellsServed, WrotePart, takes_input};
+ghost use Rattle.ec_server.specs.ByShape.{HasLongTheory, IsReady, IsRefused, LacksFile, Serves, TellsServed, WrotePart, takes_input};
 ghost use Rattle.ec_server.specs.CommandEnds.{Wrote};
 ghost use Rattle.ec_server.specs.Ending.{GoesOn};
 ghost use Rattle.ec_server.specs.Ends.{Ends};
 ghost use Rattle.ec_server.specs.ExitStatus.{IsExitCode, hands_on};
-ghost use Rattle.ec_server.specs.InputLimits.{most_input, IsLong, StopsAtLimit};
+ghost use Rattle.ec_server.specs.InputLimits.{most_input, IsLong};
 ghost use Rattle.ec_server.specs.LineFiles.{most_replayed};
 ghost use Rattle.ec_server.specs.ShownShape.{asked};
 ghost use Rattle.ec_server.specs.Soaking.{IsSoakLine};
@@ -41,6 +41,9 @@ fn obey<F: Folder, S: Source, K: Sink>(
     ensures folder { (lines seed : ℕ) → asked words.now ≡ Some (soak_lines lines seed) → files.new ≡ files.old }
     ensures no_words { asked words.now ≡ None → files.new ≡ files.old }
     ensures handed_on { IsTrue (hands_on result) → K.waiting output.new ≡ 0 }
+    ensures read_first { (name : List ℕ) → asked words.now ≡ Some (serve_theory name) → result ≡ Status.WriteFault →
+        Rose (S.reads input.old) (S.reads input.new) ⊎ NothingAppended K.stands output.old output.new }
+    ensures one_end { S.ended input.old ≡ 0 → S.ended input.new ≤ 1 }
 {
     match shape_of(words) {
         Some(Shape::Check(theory)) => check_command(alloc, theory, files, output),
@@ -88,8 +91,9 @@ pub fn run<F: Folder, S: Source, K: Sink>(
         × ((taken : List ℕ) × Took (S.left input.old) (S.left input.new) taken × (IsAtEnd (S.left input.new) ⊎ (has_quit (in_ticks theory) (whole_lines taken) ≡ true))) }
 
     // The one line of `check`, and that of `soak`.
-    ensures accepted { result ≡ 0 → (name : List ℕ) → asked words.now ≡ Some (check_theory name) → IsSome (F.files files.old) →
-        (theory : Theory) × HasTheory (F.files files.old) name theory × Appended K.stands output.old output.new (accepted_line theory) }
+    ensures accepted { result ≡ 0 → (name : List ℕ) → asked words.now ≡ Some (check_theory name) →
+        (theory : Theory) × (IsSome (F.files files.old) → HasTheory (F.files files.old) name theory)
+        × Appended K.stands output.old output.new (accepted_line theory) }
     ensures soaks { result ≡ 0 → (lines seed : ℕ) → asked words.now ≡ Some (soak_lines lines seed) →
         (text : List ℕ) × IsSoakLine lines seed text × Appended K.stands output.old output.new text }
 
@@ -99,8 +103,9 @@ pub fn run<F: Folder, S: Source, K: Sink>(
     ensures no_file { result ≡ 2 → files.new ≡ files.old }
 
     // A theory that is not accepted. A file is found too long only if no call on the folder failed.
-    ensures refused { result ≡ 3 → (shape : PlainShape) → asked words.now ≡ Some shape → IsSome (F.files files.old) →
-        (text : List ℕ) × IsRefused shape (F.files files.old) text × Wrote K.stands K.faults output.old output.new (theory_line text) }
+    ensures refused { result ≡ 3 → (shape : PlainShape) → asked words.now ≡ Some shape →
+        (text : List ℕ) × (IsSome (F.files files.old) → IsRefused shape (F.files files.old) text)
+        × Wrote K.stands K.faults output.old output.new (theory_line text) }
     ensures refuses { (shape : PlainShape) (text : List ℕ) → asked words.now ≡ Some shape → IsRefused shape (F.files files.old) text →
         ¬ Rose (F.faults files.old) (F.faults files.new) → (result ≡ 3) ⊎ (result ≡ 6) }
     ensures long_theory { result ≡ 3 → (shape : PlainShape) → asked words.now ≡ Some shape → HasLongTheory shape (F.files files.old) →
@@ -108,14 +113,16 @@ pub fn run<F: Folder, S: Source, K: Sink>(
 
     // The input failed: the whole lines of what was taken are answered, and `quit` is not among them.
     ensures read_fault { result ≡ 4 → Rose (S.faults input.old) (S.faults input.new) }
-    ensures whole { result ≡ 4 → (name : List ℕ) → asked words.now ≡ Some (serve_theory name) → IsSome (F.files files.old) →
-        (theory : Theory) × HasTheory (F.files files.old) name theory
+    ensures whole { result ≡ 4 → (name : List ℕ) → asked words.now ≡ Some (serve_theory name) →
+        (theory : Theory) × (IsSome (F.files files.old) → HasTheory (F.files files.old) name theory)
         × ((taken : List ℕ) × Took (S.left input.old) (S.left input.new) taken × GoesOn K.stands (in_ticks theory) taken output.old output.new) }
 
-    // The output failed: a first part of what was to be written is written.
+    // The output failed: a first part of what was to be written is written. Before the first read of `serve` that is nothing.
     ensures write_fault { result ≡ 5 → Rose (K.faults output.old) (K.faults output.new) }
-    ensures part { result ≡ 5 → (shape : PlainShape) → asked words.now ≡ Some shape → TellsFiles (F.files files.old) shape →
+    ensures part { result ≡ 5 → (shape : PlainShape) → asked words.now ≡ Some shape →
         WrotePart K.stands (F.files files.old) (S.left input.old) (S.left input.new) shape output.old output.new }
+    ensures read_first { result ≡ 5 → (name : List ℕ) → asked words.now ≡ Some (serve_theory name) →
+        Rose (S.reads input.old) (S.reads input.new) ⊎ NothingAppended K.stands output.old output.new }
 
     // A file could not be read, or the file of lines is too long.
     ensures folder_fault { result ≡ 7 → (shape : PlainShape) × (asked words.now ≡ Some shape)
@@ -125,10 +132,11 @@ pub fn run<F: Folder, S: Source, K: Sink>(
     ensures finds_long { (name lines : List ℕ) (theory : Theory) → asked words.now ≡ Some (replay_lines name lines) → HasTheory (F.files files.old) name theory →
         IsTooLong (F.files files.old) lines most_replayed → ¬ Rose (F.faults files.old) (F.faults files.new) → (result ≡ 9) ⊎ (result ≡ 6) }
 
-    // The limit of the input: exactly the first bytes were taken, as many as may be.
-    ensures limit { result ≡ 8 → (name : List ℕ) → asked words.now ≡ Some (serve_theory name) → IsSome (F.files files.old) →
-        (theory : Theory) × HasTheory (F.files files.old) name theory
-        × ((text : List ℕ) → S.left input.old ≡ Some text → StopsAtLimit K.stands (in_ticks theory) most_input text output.old output.new) }
+    // The limit of the input: exactly the first bytes were taken, as many as may be. Their whole lines are answered, and `quit` is not
+    // among them.
+    ensures limit { result ≡ 8 → (name : List ℕ) → asked words.now ≡ Some (serve_theory name) →
+        (theory : Theory) × (IsSome (F.files files.old) → HasTheory (F.files files.old) name theory)
+        × ((taken : List ℕ) × Took (S.left input.old) (S.left input.new) taken × (length taken ≡ most_input) × GoesOn K.stands (in_ticks theory) taken output.old output.new) }
     ensures stops { (name text : List ℕ) (theory : Theory) → asked words.now ≡ Some (serve_theory name) → HasTheory (F.files files.old) name theory →
         S.left input.old ≡ Some text → IsLong (in_ticks theory) most_input text → ¬ Rose (F.faults files.old) (F.faults files.new) →
         ¬ Rose (S.faults input.old) (S.faults input.new) → ¬ Rose (K.faults output.old) (K.faults output.new) →
@@ -141,8 +149,9 @@ pub fn run<F: Folder, S: Source, K: Sink>(
     ensures files_told { (result ≡ 7) ⊎ (F.faults files.new ≡ F.faults files.old) }
     ensures output_told { ((result ≡ 5) ⊎ ((result ≡ 2) ⊎ (result ≡ 3))) ⊎ (K.faults output.new ≡ K.faults output.old) }
 
-    // What is taken and left, whatever the status.
+    // What is taken and left, whatever the status. No read comes after one that met the end of the input.
     ensures within { (taken : List ℕ) × Took (S.left input.old) (S.left input.new) taken × (length taken ≤ most_input) }
+    ensures one_end { S.ended input.old ≡ 0 → S.ended input.new ≤ 1 }
     ensures unasked { (shape : PlainShape) → asked words.now ≡ Some shape → takes_input shape ≡ false → input.new ≡ input.old }
     ensures folder { (lines seed : ℕ) → asked words.now ≡ Some (soak_lines lines seed) → files.new ≡ files.old }
     ensures untouched { (result ≡ 6) ⊎ ((result ≡ 7) ⊎ (result ≡ 9)) → (output.new ≡ output.old) × (input.new ≡ input.old) }

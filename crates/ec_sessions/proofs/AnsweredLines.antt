@@ -1,21 +1,18 @@
 -- What answers a command is a step of the line that says it.
 use Rattle.std.proofs.Common.{◌≡◌, ◌⊎◌, inl, inr, ℕ, Bool, true, false, not, ◌&&◌, List, [], Option, None, IsTrue, refl, sym, ap, ◌∙◌, subst}
 use Rattle.std.specs.Prelude.{ℤ}
-use Rattle.ec_axioms.specs.Commands.{PlainCommand, silent, bad, quit, assert_event, retract_event, begin_draft, commit_draft, abort_draft, ask_holds, ask_through, ask_last, PlainParsed, parsed_of}
-use Rattle.ec_axioms.specs.Answers.{PlainAnswer, answer_bye, answer_last, answer_text, refused_long_line, refused_memory, refused_syntax}
-use Rattle.ec_axioms.specs.Calculus.{holds_at, holds_through}
+use Rattle.ec_commands.specs.Commands.{PlainQuery, PlainCommand, silent, bad, quit, assert_event, retract_event, begin_draft, commit_draft, abort_draft, ask, ask_last, PlainParsed, parsed_of}
+use Rattle.ec_commands.specs.Answers.{PlainAnswer, answer_bye, answer_last, answer_text, refused_long_line, refused_memory, refused_syntax}
 use Rattle.ec_axioms.specs.Changes.{asserting, retracting}
-use Rattle.ec_axioms.specs.Lines.{is_long}
+use Rattle.ec_commands.specs.Lines.{is_long}
 use Rattle.ec_terms.specs.declared.ground.Ground.{Ground}
 use Rattle.ec_replies.specs.State.{State}
-use Rattle.ec_replies.specs.Replies.{Language, Reply, session_of, answering, reply_line, query_text, command_reply, parsed_reply, reply_of, reply_to_update, reply_to_begin, reply_to_commit, reply_to_abort, through_text, yes_or_no}
+use Rattle.ec_replies.specs.Replies.{Language, Reply, session_of, answering, reply_line, query_text, command_reply, parsed_reply, reply_of, reply_to_update, reply_to_begin, reply_to_commit, reply_to_abort}
 use Rattle.ec_replies.specs.Runs.{Step, is_quit, command_quits, command_may_want_memory, parsed_may_want_memory, may_want_memory, update_may_want_memory, commit_may_want_memory}
 use Rattle.ec_replies.proofs.OwnDraft.{reply_of-long, reply_of-short}
 use Rattle.ec_sessions.specs.declared.handled.Handled.{Handled}
 use Rattle.ec_sessions.specs.declared.handled.Handled.TheVariants.{Go, Bye, WriteFault}
-use Rattle.ec_sessions.specs.declared.told.Listing.{Listing}
-use Rattle.ec_sessions.specs.declared.told.Listing.TheVariants.{Intervals, Broken, At, Clashes, Events, Why}
-use Rattle.ec_sessions.specs.Answering.{IsAnswerBy, IsAnswerTo, IsWritten, is_bye, plain_listing}
+use Rattle.ec_sessions.specs.Answering.{IsAnswerBy, IsAnswerTo, IsWritten, is_bye}
 use Rattle.ec_sessions.specs.Handling.{IsHandled}
 
 -- ---- commands
@@ -39,49 +36,26 @@ pub CommandStep-silent : (language : Language) (prefix : Option ℕ) (session : 
 unfolding command_reply
 CommandStep-silent language prefix session before = inl refl
 
--- a query that lists is answered by its text, and is not `quit`
-pub CommandStep-listing : {T : Type 0} (rank : T → ℤ) (listing : Listing T) (language : Language) (prefix : Option ℕ) (session : ℕ) (before : State)
-    → CommandStep language prefix session before (plain_listing rank listing) (reply_line prefix (query_text language before (plain_listing rank listing))) before
+-- a query is answered by its text, from the present events
+pub CommandStep-query : (query : PlainQuery) (language : Language) (prefix : Option ℕ) (session : ℕ) (before : State)
+    → CommandStep language prefix session before (ask query) (reply_line prefix (query_text language before.events query)) before
 unfolding command_reply
-CommandStep-listing rank (Intervals prop) language prefix session before = inl refl
-CommandStep-listing rank (Broken prop) language prefix session before = inl refl
-CommandStep-listing rank (At at) language prefix session before = inl refl
-CommandStep-listing rank Clashes language prefix session before = inl refl
-CommandStep-listing rank Events language prefix session before = inl refl
-CommandStep-listing rank (Why prop at) language prefix session before = inl refl
-
-pub listing-goes_on : {T : Type 0} (rank : T → ℤ) (listing : Listing T) → command_quits (plain_listing rank listing) ≡ false
-listing-goes_on rank (Intervals prop) = refl
-listing-goes_on rank (Broken prop) = refl
-listing-goes_on rank (At at) = refl
-listing-goes_on rank Clashes = refl
-listing-goes_on rank Events = refl
-listing-goes_on rank (Why prop at) = refl
+CommandStep-query query language prefix session before = inl refl
 
 -- ---- answers
 
 module _ (language : Language) (session : ℕ) (before : State) where
   pub IsAnswerTo-bad : IsAnswerTo language session before bad refused_syntax before
-  unfolding command_reply query_text
+  unfolding command_reply
   IsAnswerTo-bad = record { by = inl (λ prefix. refl); quits = refl }
 
   pub IsAnswerTo-quit : IsAnswerTo language session before quit answer_bye before
-  unfolding command_reply query_text
+  unfolding command_reply
   IsAnswerTo-quit = record { by = inl (λ prefix. refl); quits = refl }
 
   pub IsAnswerTo-last : IsAnswerTo language session before ask_last (answer_last before.last) before
-  unfolding command_reply query_text
+  unfolding command_reply
   IsAnswerTo-last = record { by = inl (λ prefix. refl); quits = refl }
-
-  pub IsAnswerTo-holds : (p : Ground) (t : ℤ) (answer : PlainAnswer) → answer_text answer ≡ yes_or_no (holds_at language.theory before.events p t) → is_bye answer ≡ false
-      → IsAnswerTo language session before (ask_holds p t) answer before
-  unfolding command_reply query_text
-  IsAnswerTo-holds p t answer is goes_on = record { by = inl (λ prefix. ap (λ text. record { text = reply_line prefix text; after = before }) (sym is)); quits = goes_on }
-
-  pub IsAnswerTo-through : (p : Ground) (s e : ℤ) (answer : PlainAnswer) → answer_text answer ≡ through_text language.theory before s e (holds_through language.theory before.events p s e)
-      → is_bye answer ≡ false → IsAnswerTo language session before (ask_through p s e) answer before
-  unfolding command_reply query_text
-  IsAnswerTo-through p s e answer is goes_on = record { by = inl (λ prefix. ap (λ text. record { text = reply_line prefix text; after = before }) (sym is)); quits = goes_on }
 
   pub IsAnswerTo-begin : (answer : PlainAnswer) (after : State) → ((prefix : Option ℕ) → reply_to_begin prefix session before ≡ answering prefix answer after) → is_bye answer ≡ false
       → IsAnswerTo language session before begin_draft answer after
@@ -94,7 +68,7 @@ module _ (language : Language) (session : ℕ) (before : State) where
   IsAnswerTo-abort answer after replies goes_on = record { by = inl replies; quits = goes_on }
 
   pub IsAnswerTo-commit : (answer : PlainAnswer) (after : State)
-      → IsAnswerBy (λ prefix. reply_to_commit language.theory prefix session before) (commit_may_want_memory session before) before answer after → is_bye answer ≡ false
+      → IsAnswerBy (λ prefix. reply_to_commit language.theory prefix session before) (commit_may_want_memory language.theory session before) before answer after → is_bye answer ≡ false
       → IsAnswerTo language session before commit_draft answer after
   unfolding command_reply command_may_want_memory
   IsAnswerTo-commit answer after by goes_on = record { by = by; quits = goes_on }

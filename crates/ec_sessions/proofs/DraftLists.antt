@@ -4,7 +4,7 @@ use Rattle.std.proofs.lemmas.List.{map-set, get_or-map, get_or-set_same, get_or-
 use Rattle.std.proofs.lemmas.Bool.{cases_eq}
 use Rattle.std.specs.Prelude.{ℤ, slice_set}
 use Rattle.ec_axioms.specs.declared.event.Update.{Update}
-use Rattle.ec_axioms.specs.declared.limits.TheConstants.{MOST_DRAFTED, SESSIONS}
+use Rattle.ec_commands.specs.declared.limits.TheConstants.{MOST_DRAFTED, SESSIONS}
 use Rattle.ec_axioms.specs.Changes.{PlainUpdate}
 use Rattle.ec_axioms.specs.Events.{plain_update}
 use Rattle.ec_replies.specs.State.{Draft, empty_state}

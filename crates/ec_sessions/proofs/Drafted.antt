@@ -3,8 +3,8 @@ use Rattle.std.proofs.Common.{◌≡◌, ◌+◌, inl, inr, ℕ, Bool, List, [],
 use Rattle.std.proofs.lemmas.Bool.{lt-ltb, le-ltb}
 use Rattle.std.specs.Prelude.{slice_set, if◌then◌else◌}
 use Rattle.ec_terms.specs.declared.theory.Theory.{Theory}
-use Rattle.ec_axioms.specs.declared.limits.TheConstants.{MOST_DRAFTED}
-use Rattle.ec_axioms.specs.Answers.{PlainAnswer, answer_drafted, refused_full_draft}
+use Rattle.ec_commands.specs.declared.limits.TheConstants.{MOST_DRAFTED}
+use Rattle.ec_commands.specs.Answers.{PlainAnswer, answer_drafted, refused_full_draft}
 use Rattle.ec_axioms.specs.Changes.{PlainUpdate}
 use Rattle.ec_replies.specs.State.{Draft, State, draft_of, with_draft}
 use Rattle.ec_replies.specs.Updates.{updated}

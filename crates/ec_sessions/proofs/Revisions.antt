@@ -1,20 +1,18 @@
 -- What the engine says of a batch is the reply to an update or to a commit.
-use Rattle.std.proofs.Common.{◌≡◌, ℕ, true, false, List, [], ◌∷◌, Option, Some, None, Result, Ok, Err, IsTrue, refl, sym, ap, ◌∙◌}
+use Rattle.std.proofs.Common.{◌≡◌, ℕ, List, [], ◌∷◌, Option, Some, None, Result, Ok, Err, IsTrue, sym, ap, ◌∙◌}
 use Rattle.std.specs.Prelude.{slice_set}
 use Rattle.ec_terms.specs.declared.theory.Theory.{Theory}
 use Rattle.ec_axioms.specs.declared.event.Cut.{Cut}
-use Rattle.ec_axioms.specs.declared.event.Cut.TheVariants.{Unknown}
 use Rattle.ec_axioms.specs.declared.event.Seen.{Seen}
-use Rattle.ec_axioms.specs.Answers.{answer_ok, refused_commit, refused_update}
+use Rattle.ec_commands.specs.Answers.{answer_ok, refused_commit, refused_update}
 use Rattle.ec_axioms.specs.Calculus.{PlainEvent}
-use Rattle.ec_axioms.specs.Changes.{PlainUpdate, PlacedCut, after_update, has_id}
+use Rattle.ec_axioms.specs.Changes.{PlainUpdate, PlacedCut, after_update}
 use Rattle.ec_replies.specs.State.{State, draft_of}
-use Rattle.ec_replies.specs.Updates.{retracted, updated, updated_by, updated_from}
+use Rattle.ec_replies.specs.Updates.{updated, updated_by, updated_from}
 use Rattle.ec_replies.specs.Replies.{answering, commit_reply, reply_to_commit, update_reply}
-use Rattle.ec_replies.specs.Runs.{may_want_by}
+use Rattle.ec_replies.specs.Runs.{batch_may_want_memory, may_want_by}
 use Rattle.ec_replies.proofs.ByDraft.{reply_to_commit-open}
 use Rattle.ec_batch.specs.declared.refusal.Refusal.TheVariants.{Update, Memory}
-use Rattle.ec_batch.specs.BatchMemory.{batch_may_want_memory}
 use Rattle.ec_engine.specs.Revise.{IsRevised}
 
 -- the state with other events, counts and drafts
@@ -76,13 +74,3 @@ module _ (theory : Theory) (state : State) where
   reply_to_commit-refused session held place cut after opened refused prefix =
       reply_to_commit-open prefix session state theory held opened ∙ ap (commit_reply theory prefix session state) refused.0
       ∙ ap (λ (events : List PlainEvent). answering prefix (refused_commit place cut) (state_of events state.last state)) (sym refused.1)
-
--- ---- what is always told
-
-pub retracted-unknown : (events : List PlainEvent) (id : List ℕ) → has_id id events ≡ false → retracted events id ≡ Err (Unknown id)
-unfolding retracted
-retracted-unknown events id absent = rw absent refl
-
-pub retracted-may_want : (events : List PlainEvent) (id : List ℕ) → has_id id events ≡ true → IsTrue (may_want_by (retracted events id))
-unfolding retracted
-retracted-may_want events id present = rw present refl

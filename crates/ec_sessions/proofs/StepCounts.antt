@@ -2,8 +2,8 @@
 use Rattle.std.proofs.Common.{◌≡◌, ℕ, true, false, List, [], ◌∷◌, Some, None}
 use Rattle.ec_terms.specs.declared.theory.Theory.{Theory}
 use Rattle.ec_axioms.specs.Changes.{PlainUpdate}
-use Rattle.ec_axioms.specs.Commands.{parsed_of}
-use Rattle.ec_axioms.specs.Lines.{is_long}
+use Rattle.ec_commands.specs.Commands.{parsed_of}
+use Rattle.ec_commands.specs.Lines.{is_long}
 use Rattle.ec_replies.specs.State.{State, draft_of}
 use Rattle.ec_replies.specs.Replies.{Language}
 use Rattle.ec_engine.specs.Revise.{most_steps}

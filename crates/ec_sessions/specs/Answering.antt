@@ -1,19 +1,17 @@
--- What it is to answer a command: by one of the fixed forms, or by a list that is still to be written.
+-- What it is to answer a command: by one of the fixed forms, or by a query whose reply is still to be written.
 use Rattle.std.specs.Prelude.{◌≡◌, ◌⊎◌, ℕ, ℤ, Bool, true, false, List, Option, IsTrue}
-use Rattle.ec_terms.specs.Term.{ground_of}
-use Rattle.ec_axioms.specs.Commands.{PlainCommand, silent, ask_intervals, ask_broken, ask_at, ask_clashes, ask_events, ask_why}
-use Rattle.ec_axioms.specs.Answers.{PlainAnswer, answer_bye, refused_memory}
+use Rattle.ec_commands.specs.Commands.{PlainCommand, silent, ask}
+use Rattle.ec_commands.specs.Answers.{PlainAnswer, answer_bye, refused_memory}
 use Rattle.ec_lines.specs.ShownAnswer.{plain_answer}
+use Rattle.ec_lines.specs.ShownCommand.{plain_query}
 use Rattle.ec_outside.specs.Streams.{Appended, AppendedPart}
 use Rattle.ec_replies.specs.State.{State}
 use Rattle.ec_replies.specs.Replies.{Language, Reply, answering, command_reply}
 use Rattle.ec_replies.specs.Runs.{command_may_want_memory, command_quits}
 use Rattle.ec_sessions.specs.declared.handled.Handled.{Handled}
 use Rattle.ec_sessions.specs.declared.handled.Handled.TheVariants.{Go, Bye, WriteFault}
-use Rattle.ec_sessions.specs.declared.told.Listing.{Listing}
-use Rattle.ec_sessions.specs.declared.told.Listing.TheVariants.{Intervals, Broken, At, Clashes, Events, Why}
 use Rattle.ec_sessions.specs.declared.told.Told.{Told}
-use Rattle.ec_sessions.specs.declared.told.Told.TheVariants.{Nothing, Answer, List as ToList}
+use Rattle.ec_sessions.specs.declared.told.Told.TheVariants.{Nothing, Answer, Query}
 
 -- The answer is that of a reply, whatever prefix the line has, and the state is the one after the reply; or memory ran out,
 -- where it may, and the state is as it was.
@@ -31,20 +29,11 @@ pub record IsAnswerTo (language : Language) (session : ℕ) (before : State) (co
   pub by : IsAnswerBy (λ prefix. command_reply language prefix session before command) (command_may_want_memory language.theory session before command) before answer after
   pub quits : is_bye answer ≡ command_quits command
 
--- the query that asks for a list or a reason
-abbrev pub plain_listing : {T : Type 0} → (T → ℤ) → Listing T → PlainCommand
-plain_listing rank (Intervals prop) = ask_intervals (ground_of prop)
-plain_listing rank (Broken prop) = ask_broken (ground_of prop)
-plain_listing rank (At at) = ask_at (rank at)
-plain_listing rank Clashes = ask_clashes
-plain_listing rank Events = ask_events
-plain_listing rank (Why prop at) = ask_why (ground_of prop) (rank at)
-
--- A command is silent, or its answer is told, or it is a query whose list is still to be written.
+-- A command is silent, or its answer is told, or it asks a query whose reply is still to be written.
 abbrev pub IsTold : {T : Type 0} → (T → ℤ) → Language → ℕ → State → PlainCommand → Told T → State → Type 0
 IsTold rank language session before command Nothing after = (command ≡ silent) × (after ≡ before)
 IsTold rank language session before command (Answer answer) after = IsAnswerTo language session before command (plain_answer answer) after
-IsTold rank language session before command (ToList listing) after = (command ≡ plain_listing rank listing) × (after ≡ before)
+IsTold rank language session before command (Query query) after = (command ≡ ask (plain_query rank query)) × (after ≡ before)
 
 -- a text was written whole, and how the line was handled says whether it quits; or a first part of the text was written
 abbrev pub IsWritten : {K : Type 0} → (K → List ℕ → Type 0) → Handled → Bool → List ℕ → K → K → Type 0

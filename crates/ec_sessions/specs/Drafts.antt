@@ -2,7 +2,7 @@
 use Rattle.std.specs.Prelude.{◌≡◌, ◌<◌, ◌≤◌, ℕ, ℤ, List, map, length, Option, Some, None, option_map}
 use Rattle.std.specs.List.{slice_index_or}
 use Rattle.ec_axioms.specs.declared.event.Update.{Update}
-use Rattle.ec_axioms.specs.declared.limits.TheConstants.{MOST_DRAFTED, SESSIONS}
+use Rattle.ec_commands.specs.declared.limits.TheConstants.{MOST_DRAFTED, SESSIONS}
 use Rattle.ec_axioms.specs.Changes.{PlainUpdate}
 use Rattle.ec_axioms.specs.Events.{plain_update}
 use Rattle.ec_replies.specs.State.{Draft}

@@ -1,10 +1,12 @@
 -- How many steps the answer to a line may take.
-use Rattle.std.specs.Prelude.{ℕ, ◌+◌, if◌then◌else◌, List, [], ◌∷◌, length, Some, None}
+use Rattle.std.specs.Prelude.{ℕ, ℤ, ◌+◌, if◌then◌else◌, List, [], ◌∷◌, length, Some, None}
+use Rattle.ec_terms.specs.declared.ground.Ground.{Ground}
 use Rattle.ec_terms.specs.declared.theory.Theory.{Theory}
 use Rattle.ec_axioms.specs.Calculus.{PlainEvent}
 use Rattle.ec_axioms.specs.Changes.{PlainUpdate, asserting, retracting}
-use Rattle.ec_axioms.specs.Commands.{PlainCommand, assert_event, retract_event, commit_draft, ask_events, ask_why, PlainParsed, parsed_of}
-use Rattle.ec_axioms.specs.Lines.{is_long}
+use Rattle.ec_commands.specs.Commands.{PlainQuery, ask_holds, ask_through, ask_intervals, ask_broken, ask_at, ask_clashes, ask_events, ask_why}
+use Rattle.ec_commands.specs.Commands.{PlainCommand, silent, bad, assert_event, retract_event, begin_draft, commit_draft, abort_draft, ask, ask_last, quit, PlainParsed, parsed_of}
+use Rattle.ec_commands.specs.Lines.{is_long}
 use Rattle.ec_engine.specs.Revise.{most_steps}
 use Rattle.ec_query.specs.ReasonSteps.{why_steps}
 use Rattle.ec_replies.specs.State.{Draft, State, draft_of}
@@ -26,22 +28,61 @@ most_commit_steps theory session state = by_draft (draft_of session state)
     by_draft None = 0
     by_draft (Some held) = most_steps theory state.events held
 
--- a command that may change the events; no other has any
+-- the change that a command makes
 unfoldable pub most_change_steps : Theory → ℕ → State → PlainCommand → ℕ
+most_change_steps theory session state silent = 0
+most_change_steps theory session state bad = 0
 most_change_steps theory session state (assert_event id t term) = most_update_steps theory session state (asserting (record { id = id; rank = t; term = term }))
 most_change_steps theory session state (retract_event id) = most_update_steps theory session state (retracting id)
+most_change_steps theory session state begin_draft = 0
 most_change_steps theory session state commit_draft = most_commit_steps theory session state
-most_change_steps theory session state command = 0
+most_change_steps theory session state abort_draft = 0
+most_change_steps theory session state (ask query) = 0
+most_change_steps theory session state ask_last = 0
+most_change_steps theory session state quit = 0
 
--- a query that reads events: each event where all are listed, and the events at the instants of a reason; no other has any
-unfoldable pub most_query_steps : Theory → List PlainEvent → PlainCommand → ℕ
-most_query_steps theory events ask_events = length events
-most_query_steps theory events (ask_why p t) = why_steps theory events p t
-most_query_steps theory events command = 0
+-- what the reply to a query reads of the events: none, since the caches have what is asked; each of them; or those at the
+-- instants of a reason
+pub data Reading : Type 0 where
+  reads_none : Reading
+  reads_each : Reading
+  reads_reason : Ground → ℤ → Reading
+
+abbrev pub reading_of : PlainQuery → Reading
+reading_of (ask_holds p t) = reads_none
+reading_of (ask_through p s e) = reads_none
+reading_of (ask_intervals p) = reads_none
+reading_of (ask_broken p) = reads_none
+reading_of (ask_at t) = reads_none
+reading_of ask_clashes = reads_none
+reading_of ask_events = reads_each
+reading_of (ask_why p t) = reads_reason p t
+
+abbrev pub reading_steps : Theory → List PlainEvent → Reading → ℕ
+reading_steps theory events reads_none = 0
+reading_steps theory events reads_each = length events
+reading_steps theory events (reads_reason p t) = why_steps theory events p t
+
+-- a query
+unfoldable pub most_query_steps : Theory → List PlainEvent → PlainQuery → ℕ
+most_query_steps theory events query = reading_steps theory events (reading_of query)
+
+-- the query that a command asks
+unfoldable pub most_asked_steps : Theory → List PlainEvent → PlainCommand → ℕ
+most_asked_steps theory events silent = 0
+most_asked_steps theory events bad = 0
+most_asked_steps theory events (assert_event id t term) = 0
+most_asked_steps theory events (retract_event id) = 0
+most_asked_steps theory events begin_draft = 0
+most_asked_steps theory events commit_draft = 0
+most_asked_steps theory events abort_draft = 0
+most_asked_steps theory events (ask query) = most_query_steps theory events query
+most_asked_steps theory events ask_last = 0
+most_asked_steps theory events quit = 0
 
 -- a line that is not long: those of its command
 abbrev pub most_parsed_steps : Theory → State → PlainParsed → ℕ
-most_parsed_steps theory state parsed = most_change_steps theory (session_of parsed) state parsed.command + most_query_steps theory state.events parsed.command
+most_parsed_steps theory state parsed = most_change_steps theory (session_of parsed) state parsed.command + most_asked_steps theory state.events parsed.command
 
 -- a line
 unfoldable pub most_line_steps : Language → State → List ℕ → ℕ

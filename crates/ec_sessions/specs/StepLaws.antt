@@ -2,23 +2,34 @@
 use Rattle.std.specs.Prelude.{◌≡◌, ℕ, ℤ, Bool, true, false, ◌||◌, List, length, Some, IsTrue, IsFalse}
 use Rattle.ec_terms.specs.declared.ground.Ground.{Ground}
 use Rattle.ec_axioms.specs.Changes.{PlainUpdate}
-use Rattle.ec_axioms.specs.Commands.{PlainCommand, assert_event, retract_event, commit_draft, ask_events, ask_why, parsed_of}
-use Rattle.ec_axioms.specs.Lines.{is_long}
+use Rattle.ec_commands.specs.Commands.{ask_events, ask_why}
+use Rattle.ec_commands.specs.Commands.{PlainCommand, silent, bad, assert_event, retract_event, begin_draft, commit_draft, abort_draft, ask, ask_last, quit, parsed_of}
+use Rattle.ec_commands.specs.Lines.{is_long}
 use Rattle.ec_engine.specs.Revise.{most_steps}
 use Rattle.ec_query.specs.ReasonSteps.{why_steps}
 use Rattle.ec_replies.specs.State.{State, draft_of}
 use Rattle.ec_replies.specs.Replies.{Language, session_of}
 use Rattle.ec_replies.specs.Laws.{IsOpen, asked_update, line_command}
-use Rattle.ec_sessions.specs.LineSteps.{most_line_steps}
+use Rattle.ec_sessions.specs.LineSteps.{Reading, reads_none, reads_each, reads_reason, reading_of, most_line_steps}
+
+-- the reply to a query reads no event
+abbrev pub is_none : Reading → Bool
+is_none reads_none = true
+is_none reads_each = false
+is_none (reads_reason p t) = false
 
 -- the command changes no event, lists none and names none as a cause
 abbrev pub reads_no_event : PlainCommand → Bool
+reads_no_event silent = true
+reads_no_event bad = true
 reads_no_event (assert_event id t term) = false
 reads_no_event (retract_event id) = false
+reads_no_event begin_draft = true
 reads_no_event commit_draft = false
-reads_no_event ask_events = false
-reads_no_event (ask_why p t) = false
-reads_no_event command = true
+reads_no_event abort_draft = true
+reads_no_event (ask query) = is_none (reading_of query)
+reads_no_event ask_last = true
+reads_no_event quit = true
 
 -- Such a line takes no step, and neither does a long one: its answer is read off the caches.
 abbrev pub OtherLinesTakeNoStep : Type 0
@@ -28,12 +39,12 @@ OtherLinesTakeNoStep =
 -- To list the events takes one step for each of them.
 abbrev pub EventsTakeAStepEach : Type 0
 EventsTakeAStepEach =
-    (language : Language) (state : State) (line : List ℕ) → IsFalse (is_long line) → line_command language line ≡ ask_events → most_line_steps language state line ≡ length state.events
+    (language : Language) (state : State) (line : List ℕ) → IsFalse (is_long line) → line_command language line ≡ ask ask_events → most_line_steps language state line ≡ length state.events
 
 -- To tell a reason takes two steps for each event at its instants.
 abbrev pub ReasonsTakeTheirSteps : Type 0
 ReasonsTakeTheirSteps =
-    (language : Language) (state : State) (line : List ℕ) (p : Ground) (t : ℤ) → IsFalse (is_long line) → line_command language line ≡ ask_why p t
+    (language : Language) (state : State) (line : List ℕ) (p : Ground) (t : ℤ) → IsFalse (is_long line) → line_command language line ≡ ask (ask_why p t)
     → most_line_steps language state line ≡ why_steps language.theory state.events p t
 
 -- An update that is held in a draft, or refused by one that is full, takes no step.

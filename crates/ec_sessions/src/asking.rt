@@ -1,14 +1,13 @@
-//! What queries read of an engine, and the answers of fixed form.
-ghost use Rattle.std.specs.Prelude.{◌≡◌, false, int_lt, if◌then◌else◌};
+//! What queries read of an engine, and their answers of fixed form.
+ghost use Rattle.std.specs.Prelude.{◌≡◌, int_lt, if◌then◌else◌};
 ghost use Rattle.ec_terms.specs.Term.{ground_of};
-ghost use Rattle.ec_axioms.specs.Answers.{answer_text, refused_order};
+ghost use Rattle.ec_commands.specs.Answers.{answer_text, refused_order};
 ghost use Rattle.ec_axioms.specs.Calculus.{holds_at, holds_through};
 ghost use Rattle.ec_changes.specs.LiveLaws.{ListsInitials};
 ghost use Rattle.ec_lines.specs.ShownAnswer.{plain_answer};
 ghost use Rattle.ec_query.specs.Held.{AreHeldOf};
 ghost use Rattle.ec_query.specs.Marked.{AreMarkedOf};
 ghost use Rattle.ec_replies.specs.Replies.{yes_or_no};
-ghost use Rattle.ec_sessions.specs.Answering.{is_bye};
 
 use ec_engine::Engine;
 use ec_lines::Answer;
@@ -49,8 +48,7 @@ pub(crate) fn marked<T: Moment, M: MarkRow<T>, I: SpanRow<T>, X: TimeRow<T>>(
 
 /// Yes or no.
 fn yes_or_no(holds: bool) -> Answer
-    ensures text { answer_text (plain_answer result) ≡ yes_or_no holds }
-    ensures goes_on { is_bye (plain_answer result) ≡ false }
+    ensures { answer_text (plain_answer result) ≡ yes_or_no holds }
 {
     if holds { Answer::Yes } else { Answer::No }
 }
@@ -61,8 +59,7 @@ pub(crate) fn answer_holds<T: Moment, M: MarkRow<T>, I: SpanRow<T>, X: TimeRow<T
     prop: &GroundRef<'_>,
     at: T,
 ) -> Answer
-    ensures text { answer_text (plain_answer result) ≡ yes_or_no (holds_at engine.now.theory engine.now.events (ground_of prop.now) (T.rank at)) }
-    ensures goes_on { is_bye (plain_answer result) ≡ false }
+    ensures { answer_text (plain_answer result) ≡ yes_or_no (holds_at engine.now.theory engine.now.events (ground_of prop.now) (T.rank at)) }
 {
     yes_or_no(holds_at(&held(engine), prop, at))
 }
@@ -74,8 +71,7 @@ pub(crate) fn answer_through<T: Moment, M: MarkRow<T>, I: SpanRow<T>, X: TimeRow
     from: T,
     until: T,
 ) -> Answer
-    ensures text { answer_text (plain_answer result) ≡ (if int_lt (T.rank until) (T.rank from) then answer_text refused_order else yes_or_no (holds_through engine.now.theory engine.now.events (ground_of prop.now) (T.rank from) (T.rank until))) }
-    ensures goes_on { is_bye (plain_answer result) ≡ false }
+    ensures { answer_text (plain_answer result) ≡ (if int_lt (T.rank until) (T.rank from) then answer_text refused_order else yes_or_no (holds_through engine.now.theory engine.now.events (ground_of prop.now) (T.rank from) (T.rank until))) }
 {
     if until.order(&from).is_lt() {
         Answer::Order

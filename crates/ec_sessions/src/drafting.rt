@@ -1,6 +1,6 @@
 //! Beginning, committing and aborting the draft of a session.
 ghost use Rattle.std.specs.Prelude.{◌≡◌, false, ◌≤◌, ◌+◌, ◌<◌, ℕ, Option};
-ghost use Rattle.ec_axioms.specs.declared.limits.TheConstants.{SESSIONS};
+ghost use Rattle.ec_commands.specs.declared.limits.TheConstants.{SESSIONS};
 ghost use Rattle.ec_lines.specs.ShownAnswer.{plain_answer};
 ghost use Rattle.ec_replies.specs.Replies.{answering, reply_to_abort, reply_to_begin, reply_to_commit};
 ghost use Rattle.ec_replies.specs.Runs.{commit_may_want_memory};
@@ -53,7 +53,7 @@ impl<T: Moment, M: MarkRow<T>, I: SpanRow<T>, X: TimeRow<T>> Sessions<T, M, I, X
     pub(crate) fn commit<L: Ledger>(&mut self, session: u8, steps: &mut Steps<L>) -> Answer
         requires { session < SESSIONS }
         ensures theory { self.new.theory ≡ self.old.theory }
-        ensures reply { IsAnswerBy (λ prefix. reply_to_commit self.old.theory prefix session self.old.state) (commit_may_want_memory session self.old.state) self.old.state (plain_answer result) self.new.state }
+        ensures reply { IsAnswerBy (λ prefix. reply_to_commit self.old.theory prefix session self.old.state) (commit_may_want_memory self.old.theory session self.old.state) self.old.state (plain_answer result) self.new.state }
         ensures goes_on { is_bye (plain_answer result) ≡ false }
         ensures steps { steps.new ≤ steps.old + most_commit_steps self.old.theory session self.old.state }
     {

@@ -4,7 +4,8 @@ ghost use Rattle.ec_axioms.specs.Changes.{PlainUpdate};
 ghost use Rattle.ec_axioms.specs.Events.{plain_update};
 ghost use Rattle.ec_sessions.specs.Drafts.{draft_in, plain_draft, IsOpenWithRoom, IsRoomOf};
 
-use ec_axioms::{MOST_DRAFTED, SESSIONS, Update};
+use ec_axioms::Update;
+use ec_commands::{MOST_DRAFTED, SESSIONS};
 use ec_lists::NoMemory;
 use ec_moment::Moment;
 use ec_terms::Sequence;

@@ -1,13 +1,12 @@
 //! The handling of one line from the caches: the events, what the last update changed, and the draft of each session.
 #![tactic(auto)]
 
+mod asked;
 mod asking;
 mod drafting;
 mod drafts;
 mod handled;
 mod laws;
-mod listing;
-mod present;
 mod reply;
 mod sessions;
 mod told;

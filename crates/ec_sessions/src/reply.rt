@@ -1,6 +1,6 @@
 //! A reply of fixed form, and what follows it.
 ghost use Rattle.std.specs.Prelude.{◌≡◌, ◌≤◌, ◌⊎◌};
-ghost use Rattle.ec_axioms.specs.Answers.{answer_text};
+ghost use Rattle.ec_commands.specs.Answers.{answer_text};
 ghost use Rattle.ec_lines.specs.ShownAnswer.{plain_answer};
 ghost use Rattle.ec_outside.specs.Counts.{Rose};
 ghost use Rattle.ec_replies.specs.Replies.{reply_line};
@@ -18,7 +18,7 @@ fn is_bye(answer: &Answer) -> bool
 }
 
 /// Writes an answer, and says what follows.
-#[tactic(auto, unfolding(ec_axioms::specs::Answers::reply_text))]
+#[tactic(auto, unfolding(ec_commands::specs::Answers::reply_text))]
 pub(crate) fn reply<K: Sink>(session: Option<u8>, answer: &Answer, out: &mut K) -> Handled
     ensures written { IsWritten K.stands result (is_bye (plain_answer answer.now)) (reply_line session (answer_text (plain_answer answer.now))) out.old out.new }
     ensures failed { result ≡ Handled.WriteFault → Rose (K.faults out.old) (K.faults out.new) }

@@ -1,8 +1,8 @@
 //! The sessions, and how they handle one line.
 ghost use Rattle.std.specs.Prelude.{◌≡◌, ◌≤◌, ◌+◌, ◌<◌, ◌⊎◌, ℕ, List, false, IfOk, IfSome};
-ghost use Rattle.ec_axioms.specs.Commands.{parsed_of};
-ghost use Rattle.ec_axioms.specs.Lines.{is_long};
-ghost use Rattle.ec_axioms.specs.declared.limits.TheConstants.{SESSIONS};
+ghost use Rattle.ec_commands.specs.Commands.{parsed_of};
+ghost use Rattle.ec_commands.specs.Lines.{is_long};
+ghost use Rattle.ec_commands.specs.declared.limits.TheConstants.{SESSIONS};
 ghost use Rattle.ec_lines.specs.ShownCommand.{plain_command, plain_parsed, AreNamed};
 ghost use Rattle.ec_lines.specs.ShownLine.{ShowsLine};
 ghost use Rattle.ec_outside.specs.Counts.{Rose};
@@ -11,11 +11,10 @@ ghost use Rattle.ec_sessions.specs.Answering.{IsTold};
 ghost use Rattle.ec_sessions.specs.Handling.{IsHandled};
 ghost use Rattle.ec_sessions.specs.LineSteps.{most_change_steps, most_line_steps, most_parsed_steps};
 
-use crate::asking::{answer_holds, answer_through};
 use crate::drafts::Drafts;
 use crate::handled::Handled;
 use crate::reply::reply;
-use crate::told::{Listing, Told};
+use crate::told::Told;
 use ec_axioms::{Seen, Steps};
 use ec_check::Checked;
 use ec_engine::Engine;
@@ -114,11 +113,11 @@ impl<T: Moment, M: MarkRow<T>, I: SpanRow<T>, X: TimeRow<T>> Sessions<T, M, I, X
         match self.answer(prefix.unwrap_or(0), parsed.command, steps) {
             Told::Nothing => Handled::Go,
             Told::Answer(answer) => reply(prefix, &answer, out),
-            Told::List(listing) => self.list(prefix, &listing, out, steps),
+            Told::Query(query) => self.ask(prefix, &query, out, steps),
         }
     }
 
-    /// Does what a command of a session says, and tells its answer, or what is to be listed.
+    /// Does what a command of a session says, and tells its answer, or the query that it asks.
     fn answer<'a, L: Ledger>(
         &mut self,
         session: u8,
@@ -141,16 +140,7 @@ impl<T: Moment, M: MarkRow<T>, I: SpanRow<T>, X: TimeRow<T>> Sessions<T, M, I, X
             Command::Begin => Told::Answer(self.begin(session)),
             Command::Commit => Told::Answer(self.commit(session, steps)),
             Command::Abort => Told::Answer(self.abort(session)),
-            Command::Holds { prop, at } => Told::Answer(answer_holds(&self.engine, &prop, at)),
-            Command::Through { prop, from, until } => {
-                Told::Answer(answer_through(&self.engine, &prop, from, until))
-            }
-            Command::Intervals { prop } => Told::List(Listing::Intervals(prop)),
-            Command::Broken { prop } => Told::List(Listing::Broken(prop)),
-            Command::At { at } => Told::List(Listing::At(at)),
-            Command::Clashes => Told::List(Listing::Clashes),
-            Command::Events => Told::List(Listing::Events),
-            Command::Why { prop, at } => Told::List(Listing::Why(prop, at)),
+            Command::Ask(query) => Told::Query(query),
             Command::Last => Told::Answer(Answer::Last(self.last)),
             Command::Quit => Told::Answer(Answer::Bye),
         }

@@ -1,7 +1,6 @@
 //! What a command is answered by.
 
-use ec_lines::Answer;
-use ec_terms::GroundRef;
+use ec_lines::{Answer, Query};
 
 /// What a command is answered by.
 #[derive(Drop)]
@@ -10,17 +9,6 @@ pub(crate) enum Told<'a, T> {
     Nothing,
     /// One of the fixed forms.
     Answer(Answer),
-    /// A list or a reason, which is written member by member.
-    List(Listing<'a, T>),
-}
-
-/// A query whose reply is as long as what it tells.
-#[derive(Drop)]
-pub(crate) enum Listing<'a, T> {
-    Intervals(GroundRef<'a>),
-    Broken(GroundRef<'a>),
-    At(T),
-    Clashes,
-    Events,
-    Why(GroundRef<'a>, T),
+    /// The reply to a query, which is written from the engine as it is read.
+    Query(Query<'a, T>),
 }

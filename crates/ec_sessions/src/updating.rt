@@ -2,7 +2,7 @@
 ghost use Rattle.std.specs.Prelude.{◌≡◌, false, ◌≤◌, ◌+◌, ◌<◌, List, [], ◌∷◌, Err, IsTrue, IfOk};
 ghost use Rattle.ec_terms.specs.declared.theory.Theory.{Theory};
 ghost use Rattle.ec_terms.specs.Term.{ground_of, names_are_names};
-ghost use Rattle.ec_axioms.specs.declared.limits.TheConstants.{SESSIONS};
+ghost use Rattle.ec_commands.specs.declared.limits.TheConstants.{SESSIONS};
 ghost use Rattle.ec_axioms.specs.Calculus.{PlainEvent};
 ghost use Rattle.ec_axioms.specs.Changes.{PlainUpdate, asserting, retracting};
 ghost use Rattle.ec_axioms.specs.Events.{event_of, plain_update};
@@ -17,15 +17,14 @@ ghost use Rattle.ec_sessions.specs.Drafts.{IsOpenWithRoom};
 ghost use Rattle.ec_sessions.specs.LineSteps.{most_update_steps};
 
 use crate::drafts::Room;
-use crate::present::is_present;
 use crate::sessions::Sessions;
-use ec_axioms::{Cut, Event, Seen, Steps, Update};
+use ec_axioms::{Event, Seen, Steps, Update};
 use ec_engine::Refusal;
 use ec_lines::Answer;
 use ec_lists::NoMemory;
 use ec_moment::Moment;
 use ec_rows::{MarkRow, SpanRow, TimeRow};
-use ec_terms::{GroundRef, Name, Sequence};
+use ec_terms::{GroundRef, Name};
 use std::alloc::Global;
 use std::sync::ledger::Ledger;
 
@@ -52,7 +51,7 @@ impl<T: Moment, M: MarkRow<T>, I: SpanRow<T>, X: TimeRow<T>> Sessions<T, M, I, X
             Room::Closed => self.assert_at_once(id, at, event, steps),
             Room::Open => match made(self.alloc, id, at, event) {
                 Ok(event) => self.hold(session, Update::Assert(event)),
-                Err(NoMemory) => Answer::Memory,
+                Err(_) => Answer::Memory,
             },
             Room::Full => Answer::FullDraft,
         }
@@ -88,7 +87,7 @@ impl<T: Moment, M: MarkRow<T>, I: SpanRow<T>, X: TimeRow<T>> Sessions<T, M, I, X
     {
         match self.drafts.push(session, update) {
             Ok(count) => Answer::Drafted(count),
-            Err(NoMemory) => Answer::Memory,
+            Err(_) => Answer::Memory,
         }
     }
 
@@ -111,7 +110,7 @@ impl<T: Moment, M: MarkRow<T>, I: SpanRow<T>, X: TimeRow<T>> Sessions<T, M, I, X
         answer_revised(&mut self.last, revised)
     }
 
-    /// Retracts an event, if its identity is present.
+    /// Retracts an event.
     fn retract_at_once<L: Ledger>(&mut self, id: Name, steps: &mut Steps<L>) -> Answer
         ensures theory { self.new.theory ≡ self.old.theory }
         ensures reply { let outcome = retracted self.old.state.events id in
@@ -119,26 +118,7 @@ impl<T: Moment, M: MarkRow<T>, I: SpanRow<T>, X: TimeRow<T>> Sessions<T, M, I, X
         ensures goes_on { is_bye (plain_answer result) ≡ false }
         ensures steps { steps.new ≤ steps.old + most_steps self.old.theory self.old.state.events (retracting id ∷ []) }
     {
-        if is_present(&self.engine, &id) {
-            self.update_at_once(Update::Retract(id), steps)
-        } else {
-            Answer::Update(Cut::Unknown(id))
-        }
-    }
-
-    /// Makes an update that is not refused for a cause that is always told.
-    fn update_at_once<L: Ledger>(&mut self, update: Update<T>, steps: &mut Steps<L>) -> Answer
-        requires may_want { IsTrue (may_want_by (updated self.old.theory self.old.state.events (plain_update T.rank update))) }
-        ensures theory { self.new.theory ≡ self.old.theory }
-        ensures reply { let outcome = updated self.old.theory self.old.state.events (plain_update T.rank update) in
-            IsAnswerBy (λ prefix. update_reply self.old.theory prefix self.old.state outcome) (may_want_by outcome) self.old.state (plain_answer result) self.new.state }
-        ensures goes_on { is_bye (plain_answer result) ≡ false }
-        ensures steps { steps.new ≤ steps.old + most_steps self.old.theory self.old.state.events (plain_update T.rank update ∷ []) }
-    {
-        let Ok(batch) = batch_of(self.alloc, update) else {
-            return Answer::Memory;
-        };
-        let revised = self.engine.revise(batch.as_slice(), steps);
+        let revised = self.engine.retract(id, steps);
         answer_revised(&mut self.last, revised)
     }
 }
@@ -171,13 +151,4 @@ fn made<T: Moment>(
 {
     let term = event.to_ground(alloc)?;
     Ok(Event { id, at, term })
-}
-
-/// A batch of one update. `Err`: memory ran out.
-fn batch_of<T: Moment>(alloc: Global, update: Update<T>) -> Result<Sequence<Update<T>>, NoMemory>
-    ensures { IfOk result (λ batch. batch ≡ update ∷ []) }
-{
-    let mut batch = Vec::with_capacity(alloc, 1)?;
-    batch.push_reserved(update);
-    Ok(Sequence::from_vec(batch))
 }

@@ -5,8 +5,8 @@ use Rattle.std.specs.Fmt.{decimal, digits, digits_onto, digit_glyph}
 use Rattle.std.proofs.lemmas.Bool.{cond-false, ne_eqb, lt-ltb}
 use Rattle.std.proofs.lemmas.Bool.Decides.{nat_tests}
 use Rattle.std.proofs.lemmas.List.Folds.{list_all-append}
-use Rattle.ec_axioms.specs.Lines.{CutText, cut_of, before_parts, line_feed, carriage_return, without_return, whole_lines, last_line, lines_of, is_long}
-use Rattle.ec_axioms.proofs.LineEnds.{without_return-one, without_return-cons}
+use Rattle.ec_commands.specs.Lines.{CutText, cut_of, before_parts, line_feed, carriage_return, without_return, whole_lines, last_line, lines_of, is_long}
+use Rattle.ec_commands.proofs.LineEnds.{without_return-one, without_return-cons}
 use Rattle.ec_soak.specs.declared.generated_line.GeneratedEvent.{GeneratedEvent}
 use Rattle.ec_soak.specs.declared.generated_line.GeneratedEvent.TheVariants.{Push, Plug, Unplug, Move, Leave}
 use Rattle.ec_soak.specs.declared.generated_line.GeneratedLine.{GeneratedLine}

@@ -5,7 +5,7 @@ use Rattle.std.specs.List.{position_or_len}
 use Rattle.std.specs.Str.{bytes_eq}
 use Rattle.std.proofs.lemmas.List.Sums.{sum_by-append}
 use Rattle.std.proofs.lemmas.Bool.{cond-false, ne_eqb}
-use Rattle.ec_axioms.specs.Lines.{CutText, cut_of, line_feed, before_parts}
+use Rattle.ec_commands.specs.Lines.{CutText, cut_of, line_feed, before_parts}
 use Rattle.ec_outside.specs.Counts.{next_count}
 use Rattle.ec_outside.specs.Streams.{Appended}
 use Rattle.ec_soak.specs.declared.counts.Counts.{Counts}

@@ -1,6 +1,6 @@
 -- The generated lines of a soak run: what is drawn of each, its text, and the bytes of all of them.
 use Rattle.std.specs.Prelude.{ℕ, zero, suc, ◌+◌, ◌==◌, nat_lt, if◌then◌else◌, List, [], ◌∷◌, ◌++◌, codes, decimal, flat_map}
-use Rattle.ec_axioms.specs.Lines.{line_feed}
+use Rattle.ec_commands.specs.Lines.{line_feed}
 use Rattle.ec_soak.specs.declared.generated_line.GeneratedEvent.{GeneratedEvent}
 use Rattle.ec_soak.specs.declared.generated_line.GeneratedEvent.TheVariants.{Push, Plug, Unplug, Move, Leave}
 use Rattle.ec_soak.specs.declared.generated_line.GeneratedLine.{GeneratedLine}

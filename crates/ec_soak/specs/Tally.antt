@@ -2,7 +2,7 @@
 use Rattle.std.specs.Prelude.{◌≡◌, ℕ, ◌==◌, if◌then◌else◌, Bool, List, [], ◌∷◌, ◌++◌, length, take, min, count_by, codes, decimal}
 use Rattle.std.specs.List.{before_first}
 use Rattle.std.specs.Str.{bytes_eq}
-use Rattle.ec_axioms.specs.Lines.{cut_of, line_feed}
+use Rattle.ec_commands.specs.Lines.{cut_of, line_feed}
 use Rattle.ec_outside.specs.Counts.{last_count, next_count}
 use Rattle.ec_soak.specs.declared.counts.Counts.{Counts}
 use Rattle.ec_soak.specs.declared.tally_sink.TheConstants.{KEPT}

@@ -1,6 +1,6 @@
 //! Laws of the definitions, each the contract of a function, and what they give on small examples.
 ghost use Rattle.std.specs.Prelude.{◌≡◌, ℕ, [], ◌∷◌, codes, false, length, map};
-ghost use Rattle.ec_axioms.specs.Lines.{lines_of, is_long};
+ghost use Rattle.ec_commands.specs.Lines.{lines_of, is_long};
 ghost use Rattle.ec_soak.specs.Draws.{next_state, draw};
 ghost use Rattle.ec_soak.specs.Load.{drawn_lines, generated_lines, generated_load, line_text};
 ghost use Rattle.ec_soak.specs.Tally.{counts_of};
@@ -39,7 +39,7 @@ pub fn first_draws_law()
 
 /// What is counted of a small output, in which a word that only begins with `ok` stands, and whose last
 /// line is not ended.
-#[tactic(auto, unfolding(crate::specs::Tally::counts_of, ec_axioms::specs::Lines::cut_of))]
+#[tactic(auto, unfolding(crate::specs::Tally::counts_of, ec_commands::specs::Lines::cut_of))]
 pub fn small_counts_law()
     ensures { counts_of
         (codes "ok\nyes\nno\nok\nokay\nrefused duplicate e1\nrefused memory\nrefused memory \nlast seen 1\n\nok")

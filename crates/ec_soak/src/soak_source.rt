@@ -1,5 +1,7 @@
 //! The input of a soak run.
 ghost use Rattle.std.specs.Prelude.{◌≡◌, ◌<◌, ◌≤◌, ◌++◌, [], Some, IfOk, length, take, drop, min};
+ghost use Rattle.ec_outside.specs.Counts.{last_count, next_count};
+ghost use Rattle.ec_outside.specs.Reads.{meets_end, next_ended};
 ghost use Rattle.ec_outside.specs.Streams.{Took, IsAtEnd};
 
 use crate::generated_lines::GeneratedLines;
@@ -68,11 +70,17 @@ impl Source for SoakSource {
 
     ghost faults = { λ _. 0 };
 
+    ghost reads = { λ _. last_count };
+
+    ghost ended = { λ _. last_count };
+
     fn read(&mut self, into: &mut [u8]) -> Result<usize, Failed>
         // As for every source.
         ensures within { IfOk result (λ n. n ≤ length into.new) }
         ensures took { IfOk result (λ n. Took (Some self.old) (Some self.new) (take n into.new)) }
         ensures end { IfOk result (λ n. n ≡ 0 → 0 < length into.new → IsAtEnd (Some self.new)) }
+        ensures one_more { last_count ≡ next_count last_count }
+        ensures ended { last_count ≡ next_ended last_count (meets_end result (length into.new)) }
 
         // No read fails, and each gives as much as is asked for, while so much is left.
         ensures count { result ≡ Ok (min (length self.old) (length into.new)) }

@@ -30,7 +30,7 @@ impl Model for TallySink {
 
 impl TallySink {
     /// A sink to which nothing was written.
-    #[tactic(auto, unfolding(crate::specs::Tally::counts_of, ec_axioms::specs::Lines::cut_of))]
+    #[tactic(auto, unfolding(crate::specs::Tally::counts_of, ec_commands::specs::Lines::cut_of))]
     pub fn new() -> TallySink
         ensures { result ≡ tally_of [] }
     {

@@ -120,15 +120,16 @@ fn gather_each<T: Moment>(
     ensures hits { OnOk result ((slot place : ℕ) → has_hit slot place hits.new ≡ (has_hit slot place hits.old || (not (has_slot (record { 0 = slot }) removals.now) && depends_at T.rank entries.now.slots (T.rank at) slot place p.0))) }
     ensures once { IsDistinct same_hit hits.old → OnOk result (IsDistinct same_hit hits.new) }
 {
-    for k in 0..usize::MAX {
+    let mut k = 0;
+    'each: loop {
         let Some((slot, place)) = entries.dependent(p, at, k) else {
             return Ok(());
         };
         if !is_removed(removals, slot) {
             hits.note(Hit { slot, place })?;
         }
+        k += 1;
     }
-    Err(NoMemory)
 }
 
 /// Takes in the dependents of a property at a time, but for those of events that are to be taken out. `near` is a place among

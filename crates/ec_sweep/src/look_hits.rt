@@ -13,7 +13,7 @@ use ec_axioms::{Current, Steps};
 use ec_context::evaluate;
 use ec_delta::{Flip, Looked};
 use ec_entries::Entries;
-use ec_lists::NoMemory;
+use ec_lists::{NoMemory, add_counts};
 use ec_moment::Moment;
 use ec_revise::Turn;
 use ec_terms::Sequence;
@@ -93,9 +93,9 @@ fn count(looked: &mut Looked, seen: usize, turns: &[Turn]) -> Result<(), NoMemor
 {
     let on = turns.iter().filter(|turn| turn.up).count();
     let off = turns.iter().filter(|turn| !turn.up).count();
-    looked.seen = looked.seen.checked_add(seen as u64).ok_or(NoMemory)?;
-    looked.on = looked.on.checked_add(on as u64).ok_or(NoMemory)?;
-    looked.off = looked.off.checked_add(off as u64).ok_or(NoMemory)?;
+    looked.seen = add_counts(looked.seen as usize, seen)? as u64;
+    looked.on = add_counts(looked.on as usize, on)? as u64;
+    looked.off = add_counts(looked.off as usize, off)? as u64;
     Ok(())
 }
 

@@ -14,6 +14,7 @@ use crate::rooms::make_room;
 use crate::sweep::{Sweep, sweep_over};
 use ec_axioms::Steps;
 use ec_delta::Delta;
+use ec_lists::NoMemory;
 use ec_moment::Moment;
 use ec_parts::Parts;
 use ec_revise::Change;
@@ -25,18 +26,18 @@ use std::sync::ledger::Ledger;
 ///
 /// It goes from instant to instant, from the first event that stands in one list alone on, and visits only those at which
 /// something may differ; there it evaluates the entries that read a property whose currency differs, and no others. `Err`:
-/// memory ran out; the change is given back.
+/// memory ran out; the change is given back, with the want of memory.
 pub fn plan<T: Moment, M: MarkRow<T>, I: SpanRow<T>, X: TimeRow<T>, L: Ledger>(
     lists: &mut Lists<T>,
     parts: &mut Parts<T, M, I, X>,
     change: Change<T>,
     steps: &mut Steps<L>,
-) -> Result<Delta<T>, Change<T>>
+) -> Result<Delta<T>, (Change<T>, NoMemory)>
     requires { LeadsSomewhere T.rank parts.old.checked (view_of parts.old) change }
     ensures ready { IfOk result (λ delta. (new : List PlainEvent) (tally : PartsTally) → IsUnderway T.rank parts.old.checked new (view_of parts.old) tally change →
         IsReady T.rank parts.old.checked new (view_of parts.new) delta) }
     ensures change { IfOk result (λ delta. delta.change ≡ change) }
-    ensures back { IfErr result (λ back. back ≡ change) }
+    ensures back { IfErr result (λ back. back.0 ≡ change) }
     ensures stands { (now soon : List PlainEvent) (tally : PartsTally) → StandForBoth T.rank parts.old.checked now soon (view_of parts.old) tally →
         StandForBoth T.rank parts.new.checked now soon (view_of parts.new) tally }
     ensures checked { parts.new.checked ≡ parts.old.checked }
@@ -48,8 +49,9 @@ pub fn plan<T: Moment, M: MarkRow<T>, I: SpanRow<T>, X: TimeRow<T>, L: Ledger>(
         + length (flat_map (λ entries. entries) change.entries) + length change.remove }
 {
     let _ = (parts.props.len(), parts.store.len());
-    let Ok(sweep) = sweep_over(lists, parts, &change, steps) else {
-        return Err(change);
+    let sweep = match sweep_over(lists, parts, &change, steps) {
+        Ok(sweep) => sweep,
+        Err(none) => return Err((change, none)),
     };
     let Sweep {
         dirty,
@@ -60,9 +62,9 @@ pub fn plan<T: Moment, M: MarkRow<T>, I: SpanRow<T>, X: TimeRow<T>, L: Ledger>(
     } = sweep;
     lists.dirty = dirty;
     lists.agenda = agenda;
-    let Ok(_) = make_room(parts, &change, &planned) else {
-        return Err(change);
-    };
+    if let Err(none) = make_room(parts, &change, &planned) {
+        return Err((change, none));
+    }
     Ok(Delta {
         change,
         looked,

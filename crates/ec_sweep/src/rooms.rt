@@ -8,7 +8,7 @@ ghost use Rattle.ec_sweep.specs.Rooms.{AreIntervalsGrown, AreMarksGrown, HasRoom
 
 use ec_delta::{Planned, Touched, Touches};
 use ec_intervals::Intervals;
-use ec_lists::NoMemory;
+use ec_lists::{NoMemory, add_counts};
 use ec_moment::Moment;
 use ec_parts::Parts;
 use ec_points::Points;
@@ -21,8 +21,8 @@ use ec_terms::PropId;
 fn spans_for(count: usize) -> Result<usize, NoMemory>
     ensures { IfOk result (λ spans. spans ≡ 2 * count + 1) }
 {
-    let twice = count.checked_add(count).ok_or(NoMemory)?;
-    twice.checked_add(1).ok_or(NoMemory)
+    let twice = add_counts(count, count)?;
+    add_counts(twice, 1)
 }
 
 /// How many marks a property has.
@@ -95,9 +95,7 @@ fn make_room_to_move<T: Moment, M: MarkRow<T>, I: SpanRow<T>>(
         return Ok(());
     }
     let spans = spans_for(touched.count)?;
-    let marks = mark_count(points, p)
-        .checked_add(touched.grows)
-        .ok_or(NoMemory)?;
+    let marks = add_counts(mark_count(points, p), touched.grows)?;
     intervals.prepare(p, spans, marks)
 }
 

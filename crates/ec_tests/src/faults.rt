@@ -56,7 +56,7 @@ flush 1 fails => 5
 flush 2 fails => 5 ok|
 flush 2 fails ; reads 4096 => 5 ok|yes|bye|
 # a reply that is written in part
-theory initially powered. ; input @7 holds powered 6| ; writes 4 ; write 2 fails => 5 @7 y
+theory initially powered. ; input @7 holds powered 6| ; writes 2 ; write 4 fails => 5 @7 ye
 # a failing write leaves the status of bad words and theories
 reads 4096
 words serve ; write 1 fails => 2

@@ -5,9 +5,8 @@ use Rattle.std.specs.Prelude.{Err, MatchResult}
 use Rattle.std.proofs.lemmas.List.{length-map, length-take-le, take_all}
 use Rattle.ec_axioms.specs.Events.{plain_update}
 use Rattle.ec_parts.proofs.Mentioned.{map-cut, map-take_more}
-use Rattle.ec_replies.specs.Runs.{may_want_by}
+use Rattle.ec_replies.specs.Runs.{batch_may_want_memory, may_want_by}
 use Rattle.ec_replies.specs.Updates.{updated, updated_from}
-use Rattle.ec_batch.specs.BatchMemory.{batch_may_want_memory}
 use Rattle.ec_batch.proofs.Batches.{batch_may_want-next, goes_ok, updated_from-next, updated_from-refused}
 use Rattle.ec_batch.proofs.Counts.{count-more, count-within}
 use Rattle.ec_batch.proofs.Moved.{HasWalkedTo-moved}

@@ -34,24 +34,24 @@ returns-then-walk-ge-MOST_EVENTS-clause-goes g c soon walked =
       walked,
     )
 
-pub returns-in_default-clause-goes : goal.returns-in_default-clause-goes
-returns-in_default-clause-goes g c soon walked =
+pub returns-in-Err-clause-goes : goal.returns-in-Err-clause-goes
+returns-in-Err-clause-goes g c soon walked =
     let room : length soon + 1 ≤ most_events = add-one-le (subst (λ n. n < most_events) walked.count c.if-walk-ge-MOST_EVENTS.false) in
     let absent : has_id c.args.event.now.id soon ≡ false = sym (present walked c.args.event.now.id) ∙ sym c.is_present.ensures ∙ c.if-is_present.false in (
       may_want-asserted c.args.parts.now.checked soon (event_of g.T.Moment.rank c.args.event.now) absent room,
       stays walked _ _ _ refl walked.both (λ id p is. is) (λ id p is. inl is) c.make_room.ensures.same refl (λ id is. is) (λ id is. is),
     )
 
-pub returns-in_default-copy_of-clause-goes : goal.returns-in_default-copy_of-clause-goes
-returns-in_default-copy_of-clause-goes g c soon walked =
+pub returns-in-Err-copy_of-clause-goes : goal.returns-in-Err-copy_of-clause-goes
+returns-in-Err-copy_of-clause-goes g c soon walked =
     let room : length soon + 1 ≤ most_events = add-one-le (subst (λ n. n < most_events) walked.count c.if-walk-ge-MOST_EVENTS.false) in
     let absent : has_id c.args.event.now.id soon ≡ false = sym (present walked c.args.event.now.id) ∙ sym c.is_present.ensures ∙ c.if-is_present.false in (
       may_want-asserted c.args.parts.now.checked soon (event_of g.T.Moment.rank c.args.event.now) absent room,
       stays walked _ _ _ refl walked.both (λ id p is. is) (λ id p is. inl is) c.make_room.ensures.same refl (λ id is. is) (λ id is. is),
     )
 
-pub returns-in_default-enter-clause-goes : goal.returns-in_default-enter-clause-goes
-returns-in_default-enter-clause-goes g c soon walked =
+pub returns-in-Err-enter-clause-goes : goal.returns-in-Err-enter-clause-goes
+returns-in-Err-enter-clause-goes g c soon walked =
     let hist = history_of g.T.Moment.rank c.args.parts.now.store.events in
     let room : length soon + 1 ≤ most_events = add-one-le (subst (λ n. n < most_events) walked.count c.if-walk-ge-MOST_EVENTS.false) in
     let absent : has_id c.args.event.now.id soon ≡ false = sym (present walked c.args.event.now.id) ∙ sym c.is_present.ensures ∙ c.if-is_present.false in (
@@ -84,8 +84,8 @@ take_in-requires g c =
       };
     }
 
-pub returns-in-Err-clause-goes : goal.returns-in-Err-clause-goes
-returns-in-Err-clause-goes g c soon walked =
+pub returns-in-Err-take_in-clause-goes : goal.returns-in-Err-take_in-clause-goes
+returns-in-Err-take_in-clause-goes g c soon walked =
     let hist = history_of g.T.Moment.rank c.args.parts.now.store.events in
     let e = event_of g.T.Moment.rank c.args.event.now in
     let absent : has_id c.args.event.now.id soon ≡ false = sym (present walked c.args.event.now.id) ∙ sym c.is_present.ensures ∙ c.if-is_present.false in
@@ -96,10 +96,10 @@ returns-in-Err-clause-goes g c soon walked =
       absent = absent;
       shown = c.in-Ok-enter.ensures.entries ∙ ap (λ theory. Some (entries_of theory c.args.event.now.term)) (sym c.enter.ensures.theory);
     } in
-    let refused = c.in-Err.ensures.limits hist soon e comes in
+    let refused = c.in-Err-take_in.ensures.limits hist soon e comes in
     let room : length soon + 1 ≤ most_events = add-one-le (subst (λ n. n < most_events) walked.count c.if-walk-ge-MOST_EVENTS.false) in (
       asked_limits c.args.parts.now.checked soon e absent room
-          ∙ subst (λ theory. with_few_mentions theory (with_event e soon) ≡ Err c.in-Err.cut) c.enter.ensures.theory refused.0,
+          ∙ subst (λ theory. with_few_mentions theory (with_event e soon) ≡ Err c.in-Err-take_in.cut) c.enter.ensures.theory refused.0,
       stays walked _ _ _ (ap (λ (p : Parts _ _ _ _). p.store) c.take_in.ensures.rest ∙ c.enter.ensures.events)
           (subst (λ theory. StandForBoth g.T.Moment.rank theory hist soon (view_of c.take_in.new.parts) c.take_in.new.tally) c.enter.ensures.theory refused.1)
           (λ id p is. c.take_in.ensures.terms id ∙ keeps_terms c.args.parts.now.props c.enter.new.parts.props c.enter.ensures.before id p is)
@@ -114,9 +114,9 @@ returns-clause-goes g c soon walked =
     let events = c.args.parts.now.store.events in
     let hist = history_of rank events in
     let e = event_of rank c.args.event.now in
-    let copy = c.in-Ok-copy_of.copy in
+    let copy = c.in-Ok.copy in
     let entries = c.in-Ok-enter.entries in
-    let same : copy ≡ c.args.event.now = c.in-Ok-copy_of.ensures in
+    let same : copy ≡ c.args.event.now = c.in-Ok.ensures in
     let absent : has_id c.args.event.now.id soon ≡ false = sym (present walked c.args.event.now.id) ∙ sym c.is_present.ensures ∙ c.if-is_present.false in
     let comes : ComesIn rank c.enter.new.parts.checked entries (view_of c.enter.new.parts) c.args.tally.now hist soon e = record {
       both = subst (λ t. StandForBoth g.T.Moment.rank t hist soon (view_of c.enter.new.parts) c.args.tally.now) (sym c.enter.ensures.theory) (c.enter.ensures.both hist soon c.args.tally.now walked.few_now walked.both);
@@ -147,11 +147,11 @@ returns-clause-goes g c soon walked =
     (c.make_room.ensures.same other))
     refl c.enter.ensures.more (λ id is. is))
 
-pub returns-in-Err-clause-theory : goal.returns-in-Err-clause-theory
-returns-in-Err-clause-theory g c = ap (λ (p : Parts _ _ _ _). p.checked) c.take_in.ensures.rest ∙ c.enter.ensures.theory
+pub returns-in-Err-take_in-clause-theory : goal.returns-in-Err-take_in-clause-theory
+returns-in-Err-take_in-clause-theory g c = ap (λ (p : Parts _ _ _ _). p.checked) c.take_in.ensures.rest ∙ c.enter.ensures.theory
 
-pub returns-in-Err-clause-store : goal.returns-in-Err-clause-store
-returns-in-Err-clause-store g c = ap (λ (p : Parts _ _ _ _). p.store) c.take_in.ensures.rest ∙ c.enter.ensures.events
+pub returns-in-Err-take_in-clause-store : goal.returns-in-Err-take_in-clause-store
+returns-in-Err-take_in-clause-store g c = ap (λ (p : Parts _ _ _ _). p.store) c.take_in.ensures.rest ∙ c.enter.ensures.events
 
 pub returns-clause-theory : goal.returns-clause-theory
 returns-clause-theory g c = ap (λ (p : Parts _ _ _ _). p.checked) c.take_in.ensures.rest ∙ c.enter.ensures.theory
@@ -160,4 +160,4 @@ pub returns-clause-store : goal.returns-clause-store
 returns-clause-store g c = ap (λ (p : Parts _ _ _ _). p.store) c.take_in.ensures.rest ∙ c.enter.ensures.events
 
 pub put-requires : goal.put-requires
-put-requires g c = c.in-Ok.ensures.room
+put-requires g c = c.in_default.ensures.room

@@ -11,14 +11,14 @@ use Rattle.ec_batch.proofs.FoundEvents.{found-has_event, has_id-found}
 use Rattle.ec_batch.proofs.WalkSteps.{stays, goes_out_by, added_found, added_shown, present, AreOfEventsWith-found, some_events, put_as, net_of, refused_absent, retracted_present, may_want-retracted}
 use Rattle.ec_batch.proofs.walk.retract_added.Goals as goal
 
-pub returns-in_default-clause-goes : goal.returns-in_default-clause-goes
-returns-in_default-clause-goes g c soon walked = (
+pub returns-in-Err-clause-goes : goal.returns-in-Err-clause-goes
+returns-in-Err-clause-goes g c soon walked = (
   may_want-retracted soon c.args.id.now (sym (present walked c.args.id.now) ∙ sym c.is_present.ensures ∙ c.if-not-is_present.false),
   stays walked _ _ _ refl walked.both (λ id p is. is) (λ id p is. inl is) c.make_room.ensures.same refl (λ id is. is) (λ id is. is),
 )
 
-pub returns-in_default-note_props-clause-goes : goal.returns-in_default-note_props-clause-goes
-returns-in_default-note_props-clause-goes g c soon walked = (
+pub returns-in-Err-note_props-clause-goes : goal.returns-in-Err-note_props-clause-goes
+returns-in-Err-note_props-clause-goes g c soon walked = (
   may_want-retracted soon c.args.id.now (sym (present walked c.args.id.now) ∙ sym c.is_present.ensures ∙ c.if-not-is_present.false),
   stays walked _ _ _ refl walked.both (λ id p is. is) (λ id p is. inl is) c.make_room.ensures.same refl (λ id is. is) c.note_props.ensures.more,
 )
@@ -60,7 +60,7 @@ returns-clause-goes g c soon walked =
     c.release_all.ensures.released.terms
     (λ other. put_as c.copied-2.result id other _ _ _ _ _ (c.put.ensures.nets other) c.copied-2.ensures.same
     (ap (λ o. net_of o None) ((walked.nets.touched id c.in-Some.net.now net_is).old)) (c.make_room.ensures.same other))
-    (sub-add_cancel some) refl c.in-Ok-note_props.ensures.ok)
+    (sub-add_cancel some) refl c.in_default-note_props.ensures.ok)
 
 pub returns-clause-theory : goal.returns-clause-theory
 returns-clause-theory g c = ap (λ (p : Parts _ _ _ _). p.checked) c.release_all.ensures.rest

@@ -13,14 +13,14 @@ net_change-requires g c = record { walked = (c.args.tally.now, c.requires.walked
 
 pub undo-requires-clause-walked : goal.undo-requires-clause-walked
 undo-requires-clause-walked g c =
-    subst (λ (walk : Walk _). HasWalked g.T.Moment.rank c.args.parts.now.checked (view_of c.args.parts.now) c.args.tally.now walk) (sym c.in_default.ensures.err) c.requires.walked
+    subst (λ (walk : Walk _). HasWalked g.T.Moment.rank c.args.parts.now.checked (view_of c.args.parts.now) c.args.tally.now walk) (sym c.in-Err.ensures.err) c.requires.walked
 
-pub returns-in_default-clause-carried : goal.returns-in_default-clause-carried
-returns-in_default-clause-carried g c soon walked = c.undo.ensures.stand
+pub returns-in-Err-clause-carried : goal.returns-in-Err-clause-carried
+returns-in-Err-clause-carried g c soon walked = c.undo.ensures.stand
 
-pub returns-in_default-clause-steps : goal.returns-in_default-clause-steps
-returns-in_default-clause-steps g c soon walked =
-    sums-walked_back _ _ _ c.in_default.ensures.err_steps (ap (λ (walk : Walk _). index_map_len walk.nets) c.in_default.ensures.err) c.undo.ensures.steps
+pub returns-in-Err-clause-steps : goal.returns-in-Err-clause-steps
+returns-in-Err-clause-steps g c soon walked =
+    sums-walked_back _ _ _ c.in-Err.ensures.err_steps (ap (λ (walk : Walk _). index_map_len walk.nets) c.in-Err.ensures.err) c.undo.ensures.steps
 
 pub carry_change-requires-clause-leads : goal.carry_change-requires-clause-leads
 carry_change-requires-clause-leads g c =

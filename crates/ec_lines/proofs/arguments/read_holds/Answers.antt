@@ -1,7 +1,7 @@
 -- What follows from the calls and the tests before it.
 use Rattle.std.proofs.Common.{arith}
 use Rattle.std.proofs.lemmas.Grind.{common_steps}
-use Rattle.ec_axioms.specs.Commands.{command_by, name_value}
+use Rattle.ec_commands.specs.Commands.{command_by, name_value}
 use Rattle.ec_lines.proofs.arguments.read_holds.Goals as goal
 
 pub returns-clause-names : goal.returns-clause-names

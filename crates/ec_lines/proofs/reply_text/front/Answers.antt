@@ -1,7 +1,7 @@
 -- The prefix is pushed in three parts, and takes at most 1 + 20 + 1 bytes.
 use Rattle.std.proofs.Common.{◌++◌, ◌∙◌, length, ap, sym, arith}
 use Rattle.std.specs.Prelude.{codes, decimal}
-use Rattle.ec_axioms.specs.Answers.{front_text}
+use Rattle.ec_commands.specs.Answers.{front_text}
 use Rattle.ec_lines.proofs.reply_text.front.Goals as goal
 
 pub returns-in-Some-clause-text : goal.returns-in-Some-clause-text

@@ -1,6 +1,6 @@
 -- The text of an answer is its name, then what it tells.
 use Rattle.std.proofs.Common.{◌++◌, ◌∙◌, ap, sym}
-use Rattle.ec_axioms.specs.Answers.{answer_text}
+use Rattle.ec_commands.specs.Answers.{answer_text}
 use Rattle.ec_lines.specs.ShownAnswer.{plain_answer}
 use Rattle.ec_lines.proofs.ReplyTexts.{two_parts}
 use Rattle.ec_lines.proofs.reply_text.push_answer.Goals as goal

@@ -1,6 +1,6 @@
 -- A limit's text is its name, then the limit.
 use Rattle.std.proofs.Common.{◌++◌, ◌∙◌, ap, sym}
-use Rattle.ec_axioms.specs.Answers.{cut_text}
+use Rattle.ec_commands.specs.Answers.{cut_text}
 use Rattle.ec_lines.proofs.ReplyTexts.{two_parts}
 use Rattle.ec_lines.proofs.reply_text.push_cut.Goals as goal
 

@@ -4,7 +4,7 @@ use Rattle.std.specs.Prelude.{◌^◌, ◌-◌}
 use Rattle.ec_terms.specs.Domain.{is_strong}
 use Rattle.ec_terms.specs.Term.{ground_of}
 use Rattle.ec_axioms.specs.Marks.{broken_spans_of}
-use Rattle.ec_axioms.specs.QueryTexts.{broken_text, counted_text}
+use Rattle.ec_commands.specs.QueryTexts.{broken_text, counted_text}
 use Rattle.ec_rows.specs.PlainMarks.{plain_marks}
 use Rattle.ec_points.specs.Table.{is_initial_at, marks_at, marks_in}
 use Rattle.ec_query.proofs.BrokenLemmas.{broken-few, broken_reply-kept, broken_reply-unkept, broken_reply-unmarked, same_spelt}

@@ -3,7 +3,7 @@ use Rattle.std.proofs.Common.{◌≡◌, ◌++◌, length, map, refl, ap, ◌∙
 use Rattle.std.proofs.lemmas.Grind.{common_steps}
 use Rattle.std.specs.Prelude.{decimal}
 use Rattle.ec_axioms.specs.Marks.{broken_spans_of}
-use Rattle.ec_axioms.specs.QueryTexts.{broken_text, counted_text}
+use Rattle.ec_commands.specs.QueryTexts.{broken_text, counted_text}
 use Rattle.ec_rows.specs.PlainMarks.{plain_marks}
 use Rattle.ec_query.specs.Members.{members_text}
 use Rattle.ec_query.proofs.WritingLemmas.{IsLeft-start, IsLeft-next, IsLeft-last, IsLeft-last_part, counted_text-of}

@@ -3,7 +3,7 @@ use Rattle.std.proofs.Common.{◌++◌, length, option_map, None, Some, sym, ap,
 use Rattle.std.proofs.lemmas.Grind.{common_steps}
 use Rattle.ec_lists.proofs.Results.{OnErr-anyway}
 use Rattle.ec_axioms.specs.Marks.{broken_spans_of}
-use Rattle.ec_axioms.specs.QueryTexts.{broken_text}
+use Rattle.ec_commands.specs.QueryTexts.{broken_text}
 use Rattle.ec_rows.specs.PlainMarks.{plain_marks}
 use Rattle.ec_intervals.specs.Table.{plain_begin, plain_broken}
 use Rattle.ec_query.specs.Members.{members_text}

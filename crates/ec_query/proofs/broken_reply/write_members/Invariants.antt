@@ -1,7 +1,7 @@
 -- What is left behind the last begin is left to write.
 use Rattle.std.proofs.Common.{length, option_map}
 use Rattle.ec_axioms.specs.Marks.{broken_spans_of}
-use Rattle.ec_axioms.specs.QueryTexts.{broken_text}
+use Rattle.ec_commands.specs.QueryTexts.{broken_text}
 use Rattle.ec_rows.specs.PlainMarks.{plain_marks}
 use Rattle.ec_intervals.specs.Table.{plain_begin}
 use Rattle.ec_query.specs.Members.{members_text}

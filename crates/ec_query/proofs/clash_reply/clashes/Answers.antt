@@ -4,7 +4,7 @@ use Rattle.std.proofs.lemmas.Grind.{common_steps}
 use Rattle.std.specs.Prelude.{decimal}
 use Rattle.ec_lists.proofs.Results.{OnErr-anyway}
 use Rattle.ec_axioms.specs.Calculus.{clashes_of}
-use Rattle.ec_axioms.specs.QueryTexts.{counted_text}
+use Rattle.ec_commands.specs.QueryTexts.{counted_text}
 use Rattle.ec_query.specs.Members.{members_text}
 use Rattle.ec_query.proofs.ClashTimes.{AreClashTimes-of, clashes_of-few, clashes_reply-of}
 use Rattle.ec_query.proofs.WritingLemmas.{IsLeft-start, IsLeft-next, IsLeft-part, IsLeft-last, IsLeft-last_part, OnErr-renamed, OnOk-renamed, counted_text-of}

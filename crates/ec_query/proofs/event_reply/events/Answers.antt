@@ -4,7 +4,7 @@ use Rattle.std.proofs.lemmas.Grind.{common_steps}
 use Rattle.std.specs.Prelude.{decimal}
 use Rattle.ec_lists.proofs.Results.{OnErr-anyway}
 use Rattle.ec_outside.specs.Streams.{Appended}
-use Rattle.ec_axioms.specs.QueryTexts.{counted_text, event_text}
+use Rattle.ec_commands.specs.QueryTexts.{counted_text, event_text}
 use Rattle.ec_store.specs.Store.{history_of, plain_of}
 use Rattle.ec_query.specs.Members.{members_text, kept_text}
 use Rattle.ec_query.proofs.EventLemmas.{events_reply-of}

@@ -1,6 +1,6 @@
 -- The events from the cursor on are left to write, and those before it were read.
 use Rattle.std.proofs.Common.{◌≡◌, ◌+◌, ◌-◌, ◌≤◌, drop, length, map}
-use Rattle.ec_axioms.specs.QueryTexts.{counted_text, event_text}
+use Rattle.ec_commands.specs.QueryTexts.{counted_text, event_text}
 use Rattle.ec_store.specs.Store.{history_of}
 use Rattle.ec_query.specs.Members.{members_text, kept_text}
 use Rattle.ec_query.proofs.WritingLemmas.{IsLeft}

@@ -5,7 +5,7 @@ use Rattle.std.specs.Prelude.{decimal}
 use Rattle.std.proofs.lemmas.Result.{IfOk-at_ok, IfErr-at_err}
 use Rattle.ec_lists.proofs.Results.{OnErr-anyway}
 use Rattle.ec_outside.specs.Streams.{Appended, AppendedPart}
-use Rattle.ec_axioms.specs.QueryTexts.{counted_text, interval_text}
+use Rattle.ec_commands.specs.QueryTexts.{counted_text, interval_text}
 use Rattle.ec_intervals.specs.Table.{front_at, front_members, members_at, plain_interval, plain_intervals, spans_at}
 use Rattle.ec_query.specs.Members.{members_text, span_text}
 use Rattle.ec_query.proofs.WritingLemmas.{IsLeft-start, IsLeft-next, IsLeft-part, IsLeft-last, IsLeft-last_part, counted_text-intervals}

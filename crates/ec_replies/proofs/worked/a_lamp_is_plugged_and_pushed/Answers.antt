@@ -8,11 +8,11 @@ use Rattle.ec_terms.specs.Pieces.{pieces_between}
 use Rattle.ec_moment.specs.Number.{number_value}
 use Rattle.ec_axioms.specs.Calculus.{instants_of, effects_of, agrees, is_active, effects_at, is_initiating, is_terminating, is_clashing, has_effect, has_break, timeline_by, round_current, is_current, timeline_of, intervals_of, broken_of, holds_at, holds_through, reason_of, first_cause, is_breaking, is_clash, clashes_of}
 use Rattle.ec_axioms.specs.Changes.{has_id, comes_before, is_history, with_event, without_event, event_eq, has_event, kept_events, events_only_in, kept_effects, sees_change, has_other_intervals, change_counts, entry_count, work_between}
-use Rattle.ec_axioms.specs.Commands.{keywords, keyword_of, name_value, command_by, command_of_words, digit_value_of, session_within, session_of_digits, prefixed_line, parsed_words, parsed_of}
-use Rattle.ec_axioms.specs.Answers.{cut_text, seen_text, answer_text, front_text, reply_text}
-use Rattle.ec_axioms.specs.Lines.{cut_of, without_return, whole_lines, last_line, lines_of, is_long, is_blank, words_of}
+use Rattle.ec_commands.specs.Commands.{keywords, keyword_of, name_value, command_by, command_of_words, digit_value_of, session_within, session_of_digits, prefixed_line, parsed_words, parsed_of}
+use Rattle.ec_commands.specs.Answers.{cut_text, seen_text, answer_text, front_text, reply_text}
+use Rattle.ec_commands.specs.Lines.{cut_of, without_return, whole_lines, last_line, lines_of, is_long, is_blank, words_of}
 use Rattle.ec_axioms.specs.Links.{mentions_of, is_live, live_properties, link_count}
-use Rattle.ec_axioms.specs.QueryTexts.{reason_text, holding_at, intervals_reply, broken_reply, at_reply, clashes_reply, events_reply, why_reply}
+use Rattle.ec_commands.specs.QueryTexts.{reason_text, holding_at, intervals_reply, broken_reply, at_reply, clashes_reply, events_reply, why_reply}
 use Rattle.ec_axioms.specs.Examples.{lamp_rules, one_place, theory_a}
 use Rattle.ec_replies.specs.State.{empty_state}
 use Rattle.ec_replies.specs.Updates.{with_few_mentions, asserted, retracted, updated_from}

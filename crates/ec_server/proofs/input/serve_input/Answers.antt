@@ -1,14 +1,14 @@
 -- Each turn reads and serves one piece.
 use Rattle.std.proofs.Common.{◌≡◌, ◌-◌, ℕ, List, ◌++◌, ◌⊎◌, length, take, ◌∙◌, refl, sym, subst, inl, inr}
 use Rattle.ec_terms.specs.declared.theory.Theory.{Theory}
-use Rattle.ec_axioms.specs.Lines.{lines_of}
-use Rattle.ec_outside.proofs.Streams.{Took-then}
+use Rattle.ec_commands.specs.Lines.{lines_of}
+use Rattle.ec_outside.proofs.Streams.{NothingAppended-refl, Took-then}
 use Rattle.ec_server.specs.declared.input.TheConstants.{PIECE}
 use Rattle.ec_server.specs.Answered.{AnswersLines, AnswersPart, BreaksOff, HasQuit}
 use Rattle.ec_server.specs.declared.ending.Ending.TheVariants.{End, Quit, WriteFault}
 use Rattle.ec_server.specs.Serving.{IsAt}
 use Rattle.ec_server.proofs.PartialReplies.{AnswersPart-broken, AnswersPart-so_far}
-use Rattle.ec_server.proofs.InputTurns.{IsTaking-start, IsTaking-kept, IsTaking-next, Took-none, Took-same, from_err, from_no_err, less_left, piece_fits, piece_shorter, piece_size, piece_within, some_left, taken_below, taken_within}
+use Rattle.ec_server.proofs.InputTurns.{IsTaking-start, IsTaking-kept, IsTaking-next, Took-none, Took-same, from_err, from_no_err, less_left, none_within, piece_fits, piece_shorter, piece_size, piece_within, reads_begun, some_left, taken_below, taken_within, unread_kept}
 use Rattle.ec_server.proofs.Endings.{IsEnding-broken, IsEnding-last, IsEnding-limit, IsEnding-quit, IsEnding-unread, either_fault}
 use Rattle.ec_server.proofs.PieceSteps.{bye_is_quiet, go_is_quiet}
 use Rattle.ec_server.proofs.StatusCodes.{Rose-since, either-no_read_fault, ended_or_broken-no_read_fault, no_read_fault, no_write_fault, quiet-then, second_of_two}
@@ -22,6 +22,8 @@ loop-buffer-init g c = record {
   ready = c.requires.part.not_ready;
   reads = refl;
   writes = refl;
+  ended = λ none. none;
+  begun = inr (refl, NothingAppended-refl c.args.output.now);
 }
 
 pub read_piece-requires : goal.read_piece-requires
@@ -59,6 +61,8 @@ loop-buffer-preserved g c =
       ready = c.answer_piece.ensures.ready;
       reads = c.in-Ok.ensures.quiet ∙ c.loop-buffer.invariant.reads;
       writes = second_of_two c.in-Go.ensures.quiet go_is_quiet ∙ writes;
+      ended = λ none. c.in-Ok.ensures.going (some_left c.in-Ok.count c.if-count-eq0.false) (c.loop-buffer.invariant.ended none);
+      begun = inl (reads_begun c.loop-buffer.invariant.begun c.read_piece.ensures.one_more);
     }
 
 pub returns-in-Bye : goal.returns-in-Bye
@@ -87,6 +91,8 @@ returns-in-Bye g c =
       read_told = inr (c.in-Ok.ensures.quiet ∙ c.loop-buffer.invariant.reads);
       write_told = quiet-then quiet c.hand_on.ensures.quiet;
       handed_on = c.hand_on.ensures.handed_on;
+      read_first = λ _. inl (reads_begun c.loop-buffer.invariant.begun c.read_piece.ensures.one_more);
+      one_end = λ none. none_within (c.in-Ok.ensures.going (some_left c.in-Ok.count c.if-count-eq0.false) (c.loop-buffer.invariant.ended none));
     }
 
 pub returns-in-WriteFault : goal.returns-in-WriteFault
@@ -112,6 +118,8 @@ returns-in-WriteFault g c =
       read_told = inr (c.in-Ok.ensures.quiet ∙ c.loop-buffer.invariant.reads);
       write_told = inl refl;
       handed_on = inl refl;
+      read_first = λ _. inl (reads_begun c.loop-buffer.invariant.begun c.read_piece.ensures.one_more);
+      one_end = λ none. none_within (c.in-Ok.ensures.going (some_left c.in-Ok.count c.if-count-eq0.false) (c.loop-buffer.invariant.ended none));
     }
 
 pub returns-then-is_err : goal.returns-then-is_err
@@ -130,6 +138,8 @@ returns-then-is_err g c =
       read_told = inr c.loop-buffer.invariant.reads;
       write_told = inl refl;
       handed_on = inl refl;
+      read_first = λ _. unread_kept c.loop-buffer.invariant.begun c.flush.ensures.kept;
+      one_end = λ none. none_within (c.loop-buffer.invariant.ended none);
     }
 
 pub returns-then-left-eq0 : goal.returns-then-left-eq0
@@ -149,6 +159,8 @@ returns-then-left-eq0 g c =
       read_told = inr c.loop-buffer.invariant.reads;
       write_told = inr (from_no_err c.flush.result fine c.flush.ensures.quiet ∙ c.loop-buffer.invariant.writes);
       handed_on = inr (from_no_err c.flush.result fine c.flush.ensures.handed_on);
+      read_first = λ same. absurd (no_write_fault tt same);
+      one_end = λ none. none_within (c.loop-buffer.invariant.ended none);
     }
 
 pub returns-in_default : goal.returns-in_default
@@ -168,6 +180,8 @@ returns-in_default g c =
       read_told = inl refl;
       write_told = inr (from_no_err c.flush.result fine c.flush.ensures.quiet ∙ c.loop-buffer.invariant.writes);
       handed_on = inr (from_no_err c.flush.result fine c.flush.ensures.handed_on);
+      read_first = λ same. absurd (no_write_fault tt same);
+      one_end = λ none. c.read_piece.ensures.one_end (c.loop-buffer.invariant.ended none);
     }
 
 pub returns-then-count-eq0 : goal.returns-then-count-eq0
@@ -192,4 +206,6 @@ returns-then-count-eq0 g c =
       read_told = inr (c.in-Ok.ensures.quiet ∙ c.loop-buffer.invariant.reads);
       write_told = quiet-then writes c.finish.ensures.quiet;
       handed_on = c.finish.ensures.handed_on;
+      read_first = λ _. inl (reads_begun c.loop-buffer.invariant.begun c.read_piece.ensures.one_more);
+      one_end = λ none. c.read_piece.ensures.one_end (c.loop-buffer.invariant.ended none);
     }

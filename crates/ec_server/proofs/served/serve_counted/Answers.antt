@@ -1,12 +1,12 @@
 -- What the ending of the serving says is what the status says.
-use Rattle.std.proofs.Common.{IsTrue, sym, subst}
+use Rattle.std.proofs.Common.{IsTrue, sym, subst, ◌∙◌}
 use Rattle.ec_terms.specs.declared.theory.Theory.{Theory}
 use Rattle.ec_server.specs.declared.status.Status.{Status}
 use Rattle.ec_server.specs.Ending.{IsEnding, SaysServed}
 use Rattle.ec_server.specs.Answered.{in_ticks}
 use Rattle.ec_server.specs.ExitStatus.{hands_on}
 use Rattle.ec_server.proofs.Endings.{SaysServed-of}
-use Rattle.ec_server.proofs.StatusCodes.{hands_on-ending}
+use Rattle.ec_server.proofs.StatusCodes.{hands_on-ending, write_fault-ending}
 use Rattle.ec_server.proofs.served.serve_counted.Goals as goal
 
 pub returns-clause-handed_on : goal.returns-clause-handed_on
@@ -25,3 +25,6 @@ returns-clause-served g c =
       read_told = c.serve_input.ensures.read_told;
       write_told = c.serve_input.ensures.write_told;
     }))
+
+pub returns-clause-read_first : goal.returns-clause-read_first
+returns-clause-read_first g c = λ fault. c.serve_input.ensures.read_first (write_fault-ending c.serve_input.result (sym c.status.ensures ∙ fault))

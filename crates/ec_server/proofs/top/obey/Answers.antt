@@ -2,7 +2,7 @@
 use Rattle.std.proofs.Common.{Some, refl, sym, ap, ◌∙◌}
 use Rattle.ec_server.specs.ShownShape.{plain_shape}
 use Rattle.ec_server.proofs.RunEnds.{Ends-asked}
-use Rattle.ec_server.proofs.StatusCodes.{no_soak, shape_is_there}
+use Rattle.ec_server.proofs.StatusCodes.{no_serve, no_soak, shape_is_there}
 use Rattle.ec_server.proofs.top.obey.Goals as goal
 
 pub returns-in-Some-Check-clause-ends : goal.returns-in-Some-Check-clause-ends
@@ -41,3 +41,18 @@ returns-in-Some-Replay-clause-folder g c = λ lines seed asks. absurd (no_soak (
 
 pub returns-in-Some-Replay-clause-no_words : goal.returns-in-Some-Replay-clause-no_words
 returns-in-Some-Replay-clause-no_words g c = λ none. absurd (shape_is_there (sym c.in-Some-Replay.ensures) none)
+
+pub returns-in-Some-Check-clause-read_first : goal.returns-in-Some-Check-clause-read_first
+returns-in-Some-Check-clause-read_first g c = λ name asks. absurd (no_serve (sym c.in-Some-Check.ensures ∙ ap (λ (s : _). Some (plain_shape s)) c.in-Some-Check.field-0-is) tt asks)
+
+pub returns-in-Some-Replay-clause-read_first : goal.returns-in-Some-Replay-clause-read_first
+returns-in-Some-Replay-clause-read_first g c = λ name asks. absurd (no_serve (sym c.in-Some-Replay.ensures ∙ ap (λ (s : _). Some (plain_shape s)) c.in-Some-Replay.field-0-is) tt asks)
+
+pub returns-in-Some-Soak-clause-read_first : goal.returns-in-Some-Soak-clause-read_first
+returns-in-Some-Soak-clause-read_first g c = λ name asks. absurd (no_serve (sym c.in-Some-Soak.ensures ∙ ap (λ (s : _). Some (plain_shape s)) c.in-Some-Soak.field-0-is) tt asks)
+
+pub returns-in-Some-Serve-clause-read_first : goal.returns-in-Some-Serve-clause-read_first
+returns-in-Some-Serve-clause-read_first g c = λ name asks. c.serve_command.ensures.read_first
+
+pub returns-in-None-clause-read_first : goal.returns-in-None-clause-read_first
+returns-in-None-clause-read_first g c = λ name asks. absurd (shape_is_there asks (sym c.in-None.ensures))

@@ -1,7 +1,7 @@
 -- What the status says is what the exit status says.
 use Rattle.ec_server.specs.ShownShape.{asked}
 use Rattle.ec_server.proofs.RunEnds.{IsRan, accepted, completes, ended, files_told, finds_long, folder_fault, input_told, limit, long_lines, long_theory, no_shape, output_told, part, read_fault, refused, refuses, replies, rest, serves_alone, soaks, stops, unasked, unread, untouched, usage, whole, within, write_fault}
-use Rattle.ec_server.proofs.StatusCodes.{hands_on-code}
+use Rattle.ec_server.proofs.StatusCodes.{fault_status, hands_on-code}
 use Rattle.ec_server.proofs.top.run.Goals as goal
 
 -- the run ended with the status that its code is of
@@ -99,3 +99,9 @@ returns-clause-files_told g c = files_told (ran g c)
 
 pub returns-clause-output_told : goal.returns-clause-output_told
 returns-clause-output_told g c = output_told (ran g c)
+
+pub returns-clause-read_first : goal.returns-clause-read_first
+returns-clause-read_first g c = λ five name asks. c.obey.ensures.read_first name asks (fault_status c.obey.result c.code.ensures five)
+
+pub returns-clause-one_end : goal.returns-clause-one_end
+returns-clause-one_end g c = c.obey.ensures.one_end

@@ -11,31 +11,31 @@ use Rattle.ec_sweep.proofs.hits.gather_each.Goals.{then-not-is_removed+in_ok-not
 
 pub returns-in_default-clause-hits : goal.returns-in_default-clause-hits
 returns-in_default-clause-hits g c = λ slot place.
-    c.loop-k.invariant.hit slot place
+    c.each.invariant.hit slot place
     ∙ ap (λ ds. has_hit slot place c.args.hits.now || (not (has_slot (record { 0 = slot }) c.args.removals.now) && list_any (is_from slot place) ds))
-    (taken_all (dependents_at g.T.Moment.rank (g.T.Moment.rank c.args.at) (dependents_of c.args.p.0 c.args.entries.now.rows)) c.loop-k.k c.in_default.ensures.nth)
+    (taken_all (dependents_at g.T.Moment.rank (g.T.Moment.rank c.args.at) (dependents_of c.args.p.0 c.args.entries.now.rows)) c.each.k c.in_default.ensures.nth)
     ∙ ap (λ b. has_hit slot place c.args.hits.now || (not (has_slot (record { 0 = slot }) c.args.removals.now) && b))
     (depends_at-any g.T.Moment.rank c.args.p.0 c.args.entries.now.slots (dependents_of c.args.p.0 c.args.entries.now.rows) c.in_default.ensures.dependents (g.T.Moment.rank c.args.at) slot place)
 
-pub loop-k-preserved : goal.loop-k-preserved
-loop-k-preserved g c =
+pub each-preserved : goal.each-preserved
+each-preserved g c =
     elim c.if-not-is_removed.branch [
       | then-not-is_removed+in_ok-note w ↦ record {
         hit = λ slot place.
             ap (has_hit slot place) w.hits-is
-            ∙ gather_in c.args.removals.now (dependents_at g.T.Moment.rank (g.T.Moment.rank c.args.at) (dependents_of c.args.p.0 c.args.entries.now.rows)) c.loop-k.k c.in-Some.slot c.in-Some.place
-            c.in-Some.ensures.nth c.args.hits.now c.loop-k.hits c.loop-k.invariant.hit w.note.new.self
+            ∙ gather_in c.args.removals.now (dependents_at g.T.Moment.rank (g.T.Moment.rank c.args.at) (dependents_of c.args.p.0 c.args.entries.now.rows)) c.each.k c.in-Some.slot c.in-Some.place
+            c.in-Some.ensures.nth c.args.hits.now c.each.hits c.each.invariant.hit w.note.new.self
             (sym c.is_removed.ensures ∙ w.if-not-is_removed.true) w.in_ok-note.ensures.noted slot place;
         once = λ before. subst (IsDistinct same_hit) (sym w.hits-is) w.in_ok-note.ensures.once;
       }
       | else-not-is_removed w ↦ record {
         hit = λ slot place.
             ap (has_hit slot place) w.hits-is
-            ∙ gather_over c.args.removals.now (dependents_at g.T.Moment.rank (g.T.Moment.rank c.args.at) (dependents_of c.args.p.0 c.args.entries.now.rows)) c.loop-k.k c.in-Some.slot c.in-Some.place
-            c.in-Some.ensures.nth c.args.hits.now c.loop-k.hits c.loop-k.invariant.hit (sym c.is_removed.ensures ∙ w.if-not-is_removed.false) slot place;
-        once = λ before. subst (IsDistinct same_hit) (sym w.hits-is) (c.loop-k.invariant.once before);
+            ∙ gather_over c.args.removals.now (dependents_at g.T.Moment.rank (g.T.Moment.rank c.args.at) (dependents_of c.args.p.0 c.args.entries.now.rows)) c.each.k c.in-Some.slot c.in-Some.place
+            c.in-Some.ensures.nth c.args.hits.now c.each.hits c.each.invariant.hit (sym c.is_removed.ensures ∙ w.if-not-is_removed.false) slot place;
+        once = λ before. subst (IsDistinct same_hit) (sym w.hits-is) (c.each.invariant.once before);
       }
     ]
 
-pub loop-k-init : goal.loop-k-init
-loop-k-init c = grind (arith, common_steps)
+pub each-init : goal.each-init
+each-init c = grind (arith, common_steps)

@@ -1,10 +1,12 @@
--- As many spare blocks as rounds.
-use Rattle.std.proofs.Common.{◌≡◌, ◌≤◌}
+-- As many spare blocks as the round's number, and no more than are needed.
+use Rattle.std.proofs.Common.{◌≡◌, ◌≤◌, ◌+◌, max}
+use Rattle.ec_blocks.specs.Chain.{room_of}
 use Rattle.ec_blocks.proofs.chain.Chain.reserve.Given as goal
 
-abbrev pub invariant-loop-k : goal.invariant-loop-k
-invariant-loop-k g l = record {
+abbrev pub invariant-loop-made : goal.invariant-loop-made
+invariant-loop-made g l = record {
   same : l.self.blocks ≡ l.fn.self.blocks;
-  some : l._k ≤ l.self.spares;
+  count : l.self.spares ≡ l._made;
   more : l.fn.self.spares ≤ l.self.spares;
+  most : room_of l.self.blocks l.self.spares ≤ max (room_of l.fn.self.blocks l.fn.self.spares) (l.fn.n + 63);
 }

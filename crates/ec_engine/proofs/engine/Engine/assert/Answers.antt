@@ -1,5 +1,5 @@
 -- The event arrives, and its change is carried out.
-use Rattle.std.proofs.Common.{◌≡◌, [], ◌∷◌, sym, ap, subst, ◌∙◌}
+use Rattle.std.proofs.Common.{◌≡◌, [], ◌∷◌, sym, ap, subst, ◌∙◌, arith}
 use Rattle.std.specs.Prelude.{Ok, Err}
 use Rattle.ec_terms.specs.Term.{ground_of}
 use Rattle.ec_axioms.specs.Calculus.{PlainEvent}
@@ -86,7 +86,7 @@ returns-in_default-clause-revised g c =
     let carried = IsCarriedOut-moved rank inside.checked later.checked inside.store.events later.store.events soon (view_of last) counted (Err c.in_default.field-0) c.arrive-arrived.ensures.theory stored
     (c.in_default.ensures.carried soon leads) in
     subst (λ (s : Standing). IsRevised s.theory s.events (asserting e ∷ []) (Err Memory) (history_of rank last.store.events)) (seen-same rank c.deref_mut-parts.result.now c.self.inside.parts.value c.args.self.now c.deref_mut-parts.ensures.value c.self.view_is)
-    (IsRevised-no_memory rank inside.checked hist soon (asserting e ∷ []) (view_of last) counted came.0 c.in_default.field-0 carried)
+    (IsRevised-no_memory rank inside.checked hist soon (asserting e ∷ []) (view_of last) counted came.0 (omega arith) c.in_default.field-0 carried)
 
 pub returns-in_default-clause-steps : goal.returns-in_default-clause-steps
 returns-in_default-clause-steps g c =

@@ -14,10 +14,14 @@ use Rattle.ec_batch.proofs.Moved.{HasWalkedTo-moved}
 use Rattle.ec_engine.specs.Revise.{IsRevised, most_steps, steps_between}
 use Rattle.ec_engine.specs.Standing.{Standing}
 use Rattle.ec_engine.proofs.Carried.{IsCarriedOut-moved}
-use Rattle.ec_engine.proofs.Revising.{IsRevised-carried, IsRevised-no_memory, IsRevised-refused, most_steps-carried, most_steps-least, stands_refused}
+use Rattle.ec_engine.proofs.Revising.{IsRevised-carried, IsRevised-no_memory, IsRevised-none, IsRevised-refused, most_steps-carried, most_steps-least, stands_refused, updates-some}
 use Rattle.ec_engine.proofs.Standings.{IsEngine-standing, seen-same, within-same}
 use Rattle.ec_engine.proofs.StepSums.{sums-refused, sums-revised}
 use Rattle.ec_engine.proofs.engine.Engine.revise.Goals as goal
+
+pub returns-then-is_empty-clause-revised : goal.returns-then-is_empty-clause-revised
+returns-then-is_empty-clause-revised g c =
+    IsRevised-none c.args.self.now.theory c.args.self.now.events (plain_update g.T.Moment.rank) c.args.batch.now c.is_empty.result c.is_empty.ensures c.if-is_empty.true
 
 pub invariant_of-self : goal.invariant_of-self
 invariant_of-self g c =
@@ -89,7 +93,7 @@ returns-in_default-clause-revised g c =
     let carried = IsCarriedOut-moved rank inside.checked later.checked inside.store.events later.store.events went.0 (view_of last) counted (Err c.in_default.field-0) c.in-Ok.ensures.theory stored
     (c.in_default.ensures.carried went.0 walked) in
     subst (λ (s : Standing). IsRevised s.theory s.events updates (Err Memory) (history_of rank last.store.events)) (seen-same rank c.deref_mut-parts.result.now c.self.inside.parts.value c.args.self.now c.deref_mut-parts.ensures.value c.self.view_is)
-    (IsRevised-no_memory rank inside.checked hist went.0 updates (view_of last) counted went.1 c.in_default.field-0 carried)
+    (IsRevised-no_memory rank inside.checked hist went.0 updates (view_of last) counted went.1 (updates-some (plain_update rank) c.args.batch.now c.is_empty.result c.is_empty.ensures c.if-is_empty.false) c.in_default.field-0 carried)
 
 pub returns-in_default-clause-steps : goal.returns-in_default-clause-steps
 returns-in_default-clause-steps g c =

@@ -42,9 +42,6 @@ returns-clause-absent g c = ap (λ x. kept_at c.args.slot.0 (set c.self.inside.s
 pub unreachable-requires : goal.unreachable-requires
 unreachable-requires c = grind (arith, common_steps)
 
-pub returns-clause-list : goal.returns-clause-list
-returns-clause-list c = grind (arith, common_steps)
-
 pub returns-clause-others : goal.returns-clause-others
 returns-clause-others c = grind (arith, common_steps)
 

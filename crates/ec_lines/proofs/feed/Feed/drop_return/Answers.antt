@@ -1,6 +1,6 @@
 use Rattle.std.proofs.Common.{◌≡◌, ◌-◌, ◌∙◌, take, sym, ap, ap₂}
 use Rattle.std.proofs.lemmas.Bool.{false≢true}
-use Rattle.ec_axioms.specs.Lines.{without_return}
+use Rattle.ec_commands.specs.Lines.{without_return}
 use Rattle.ec_lines.specs.FeedState.{FeedState}
 use Rattle.ec_lines.proofs.CutLines.{without_return-take, without_return-same}
 use Rattle.ec_lines.proofs.feed.Feed.drop_return.Goals as goal

@@ -1,7 +1,7 @@
 use Rattle.std.proofs.Common.{◌≡◌, List, ℕ, length, arith, ◌∙◌, sym, ap}
 use Rattle.std.proofs.lemmas.Bool.{false≢true}
 use Rattle.std.proofs.lemmas.Grind.{common_steps}
-use Rattle.ec_axioms.specs.Lines.{cut_of}
+use Rattle.ec_commands.specs.Lines.{cut_of}
 use Rattle.ec_lines.specs.FeedState.{FeedState, IsPart, IsEnded}
 use Rattle.ec_lines.proofs.FeedLemmas.{IsReady-end, IsEnded-some, IsEnded-none, Finishes-end, length-part}
 use Rattle.ec_lines.proofs.feed.Feed.end.Goals as goal

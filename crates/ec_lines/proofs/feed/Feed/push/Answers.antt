@@ -3,7 +3,7 @@ use Rattle.std.proofs.lemmas.List.{length-take-le}
 use Rattle.std.proofs.lemmas.Grind.{get_or_default_zero, common_steps}
 use Rattle.std.proofs.Math.Seq.{take-length}
 use Rattle.std.proofs.lemmas.Bool.{false≢true}
-use Rattle.ec_axioms.specs.Lines.{line_feed, without_return, cut_of}
+use Rattle.ec_commands.specs.Lines.{line_feed, without_return, cut_of}
 use Rattle.ec_lines.specs.FeedState.{IsPart, IsReady, Advances}
 use Rattle.ec_lines.proofs.CutLines.{LineEndAt-found, HasNoLineEnd-not_found, HasNoLineEnd-take, take-line, take_through-first, take_through-none}
 use Rattle.ec_lines.proofs.FeedLemmas.{IsReady-line_end, Advances-part, Advances-line}

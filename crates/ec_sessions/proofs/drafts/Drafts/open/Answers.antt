@@ -2,7 +2,7 @@
 use Rattle.std.proofs.Common.{[], Some, List, map, ap, sym, ◌∙◌, ◌≤◌, subst, arith}
 use Rattle.std.proofs.lemmas.List.{map-set}
 use Rattle.std.specs.Prelude.{slice_set}
-use Rattle.ec_axioms.specs.declared.limits.TheConstants.{MOST_DRAFTED}
+use Rattle.ec_commands.specs.declared.limits.TheConstants.{MOST_DRAFTED}
 use Rattle.ec_axioms.specs.declared.event.Update.{Update}
 use Rattle.ec_replies.specs.State.{Draft}
 use Rattle.ec_replies.specs.RunLaws.{held_count}

@@ -1,6 +1,6 @@
 -- The draft is closed, or it was closed and nothing changed.
 use Rattle.std.proofs.Common.{◌≡◌, ℕ, Option, List, sym, ap, ◌∙◌, subst}
-use Rattle.ec_axioms.specs.Answers.{answer_ok}
+use Rattle.ec_commands.specs.Answers.{answer_ok}
 use Rattle.ec_replies.specs.State.{Draft, State, draft_of}
 use Rattle.ec_replies.specs.Replies.{answering, reply_to_abort}
 use Rattle.ec_replies.proofs.ByDraft.{reply_to_abort-closed, reply_to_abort-open}

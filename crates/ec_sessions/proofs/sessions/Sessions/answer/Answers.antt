@@ -1,18 +1,16 @@
 -- Each command is answered as its reply says.
 use Rattle.std.proofs.Common.{◌+◌, ◌≤◌, sym, ap, ◌∙◌, subst}
-use Rattle.std.specs.Prelude.{int_lt, if◌then◌else◌}
 use Rattle.ec_terms.specs.Term.{ground_of}
 use Rattle.ec_axioms.specs.declared.event.Seen.{Seen}
-use Rattle.ec_axioms.specs.Answers.{answer_bye, answer_last, answer_text, refused_order, refused_syntax}
-use Rattle.ec_axioms.specs.Calculus.{holds_at, holds_through}
-use Rattle.ec_axioms.specs.Commands.{PlainCommand, bad, assert_event, retract_event, begin_draft, commit_draft, abort_draft, ask_holds, ask_through, ask_last, quit}
+use Rattle.ec_commands.specs.Answers.{answer_bye, answer_last, refused_syntax}
+use Rattle.ec_commands.specs.Commands.{PlainCommand, bad, assert_event, retract_event, begin_draft, commit_draft, abort_draft, ask_last, quit}
 use Rattle.ec_lines.specs.ShownAnswer.{plain_answer}
 use Rattle.ec_lines.specs.ShownCommand.{plain_command}
-use Rattle.ec_replies.specs.Replies.{Language, yes_or_no}
+use Rattle.ec_replies.specs.Replies.{Language}
 use Rattle.ec_sessions.specs.Answering.{IsAnswerTo}
 use Rattle.ec_sessions.specs.LineSteps.{most_change_steps}
 use Rattle.ec_sessions.specs.SessionsState.{SessionsState}
-use Rattle.ec_sessions.proofs.AnsweredLines.{IsAnswerTo-abort, IsAnswerTo-assert, IsAnswerTo-bad, IsAnswerTo-begin, IsAnswerTo-commit, IsAnswerTo-holds, IsAnswerTo-last, IsAnswerTo-quit, IsAnswerTo-retract, IsAnswerTo-same, IsAnswerTo-through}
+use Rattle.ec_sessions.proofs.AnsweredLines.{IsAnswerTo-abort, IsAnswerTo-assert, IsAnswerTo-bad, IsAnswerTo-begin, IsAnswerTo-commit, IsAnswerTo-last, IsAnswerTo-quit, IsAnswerTo-retract, IsAnswerTo-same}
 use Rattle.ec_sessions.proofs.sessions.Sessions.answer.Goals as goal
 
 pub returns-in-Bad-clause-told : goal.returns-in-Bad-clause-told
@@ -78,29 +76,12 @@ returns-in-Abort-clause-told g c =
     IsAnswerTo-same language c.args.session c.args.self.now.state _ abort_draft (plain_answer c.abort.result) c.abort.new.self.state (ap (plain_command rank) c.in-Abort.is)
     (IsAnswerTo-abort language c.args.session c.args.self.now.state (plain_answer c.abort.result) c.abort.new.self.state c.abort.ensures.reply c.abort.ensures.goes_on)
 
-pub returns-in-Holds-clause-told : goal.returns-in-Holds-clause-told
-returns-in-Holds-clause-told g c =
-    let language : Language = record { theory = c.args.self.now.theory; spelt = g.T.Moment.spelt; canon = g.T.Moment.canon } in
-    let rank = g.T.Moment.rank in
-    IsAnswerTo-same language c.args.session c.args.self.now.state _ (ask_holds (ground_of c.in-Holds.prop) (rank c.in-Holds.at)) (plain_answer c.answer_holds.result) c.args.self.now.state (ap (plain_command rank) c.in-Holds.is)
-    (IsAnswerTo-holds language c.args.session c.args.self.now.state (ground_of c.in-Holds.prop) (rank c.in-Holds.at) (plain_answer c.answer_holds.result)
-    (c.answer_holds.ensures.text ∙ ap (λ (d : SessionsState). yes_or_no (holds_at d.theory d.state.events (ground_of c.in-Holds.prop) (rank c.in-Holds.at))) c.self.view_is) c.answer_holds.ensures.goes_on)
-
-pub returns-in-Through-clause-told : goal.returns-in-Through-clause-told
-returns-in-Through-clause-told g c =
-    let language : Language = record { theory = c.args.self.now.theory; spelt = g.T.Moment.spelt; canon = g.T.Moment.canon } in
-    let rank = g.T.Moment.rank in
-    IsAnswerTo-same language c.args.session c.args.self.now.state _ (ask_through (ground_of c.in-Through.prop) (rank c.in-Through.from) (rank c.in-Through.until)) (plain_answer c.answer_through.result) c.args.self.now.state (ap (plain_command rank) c.in-Through.is)
-    (IsAnswerTo-through language c.args.session c.args.self.now.state (ground_of c.in-Through.prop) (rank c.in-Through.from) (rank c.in-Through.until) (plain_answer c.answer_through.result)
-    (c.answer_through.ensures.text ∙ ap (λ (d : SessionsState). if int_lt (rank c.in-Through.until) (rank c.in-Through.from) then answer_text refused_order else yes_or_no (holds_through d.theory d.state.events (ground_of c.in-Through.prop) (rank c.in-Through.from) (rank c.in-Through.until))) c.self-in-Through.view_is)
-    c.answer_through.ensures.goes_on)
-
 pub returns-in-Last-clause-told : goal.returns-in-Last-clause-told
 returns-in-Last-clause-told g c =
     let language : Language = record { theory = c.args.self.now.theory; spelt = g.T.Moment.spelt; canon = g.T.Moment.canon } in
     let rank = g.T.Moment.rank in
-    IsAnswerTo-same language c.args.session c.args.self.now.state _ ask_last (answer_last c.self-in-Last.inside.last) c.args.self.now.state (ap (plain_command rank) c.in-Last.is)
-    (subst (λ (seen : Seen). IsAnswerTo language c.args.session c.args.self.now.state ask_last (answer_last seen) c.args.self.now.state) (ap (λ (d : SessionsState). d.state.last) (sym c.self-in-Last.view_is)) (IsAnswerTo-last language c.args.session c.args.self.now.state))
+    IsAnswerTo-same language c.args.session c.args.self.now.state _ ask_last (answer_last c.self.inside.last) c.args.self.now.state (ap (plain_command rank) c.in-Last.is)
+    (subst (λ (seen : Seen). IsAnswerTo language c.args.session c.args.self.now.state ask_last (answer_last seen) c.args.self.now.state) (ap (λ (d : SessionsState). d.state.last) (sym c.self.view_is)) (IsAnswerTo-last language c.args.session c.args.self.now.state))
 
 pub returns-in-Quit-clause-told : goal.returns-in-Quit-clause-told
 returns-in-Quit-clause-told g c =

@@ -1,6 +1,6 @@
 -- All updates of the draft are made and it is closed, or nothing changed.
 use Rattle.std.proofs.Common.{◌+◌, ◌≤◌, ℕ, Err, List, inl, inr, map, sym, ap, ◌∙◌, refl, subst}
-use Rattle.ec_axioms.specs.Answers.{answer_ok, refused_commit, refused_memory}
+use Rattle.ec_commands.specs.Answers.{answer_ok, refused_commit, refused_memory}
 use Rattle.ec_axioms.specs.Changes.{PlainUpdate}
 use Rattle.ec_axioms.specs.Events.{plain_update}
 use Rattle.ec_replies.specs.State.{Draft, State, draft_of}
@@ -26,7 +26,7 @@ returns-in-Ok-clause-reply g c =
     let inside : State = record { events = c.self.inside.engine.events; last = c.self.inside.last; drafts = c.self.inside.drafts } in
     let theory = c.self.inside.engine.theory in
     let after : List Draft → State = λ ds. record { events = c.revise.new.self.events; last = c.in-Ok.seen; drafts = ds } in
-    subst (λ (d : SessionsState). IsAnswerBy (λ prefix. reply_to_commit d.theory prefix c.args.session d.state) (commit_may_want_memory c.args.session d.state) d.state answer_ok (after c.close.new.self)) c.self.view_is
+    subst (λ (d : SessionsState). IsAnswerBy (λ prefix. reply_to_commit d.theory prefix c.args.session d.state) (commit_may_want_memory d.theory c.args.session d.state) d.state answer_ok (after c.close.new.self)) c.self.view_is
     (inl (λ prefix. reply_to_commit-made theory inside c.args.session _ c.in-Ok.seen c.revise.new.self.events c.in-Some.ensures.open c.in-Ok.ensures.revised prefix
     ∙ ap (λ ds. answering prefix answer_ok (after ds)) (sym c.close.ensures)))
 
@@ -36,7 +36,7 @@ returns-in-Err-Update-clause-reply g c =
     let theory = c.self.inside.engine.theory in
     let held : List PlainUpdate = map (plain_update g.T.Moment.rank) c.in-Some.held.now in
     let after : State = record { events = c.revise.new.self.events; last = c.self.inside.last; drafts = c.self.inside.drafts } in
-    subst (λ (d : SessionsState). IsAnswerBy (λ prefix. reply_to_commit d.theory prefix c.args.session d.state) (commit_may_want_memory c.args.session d.state) d.state (refused_commit c.in-Err-Update.place c.in-Err-Update.cut) after) c.self.view_is
+    subst (λ (d : SessionsState). IsAnswerBy (λ prefix. reply_to_commit d.theory prefix c.args.session d.state) (commit_may_want_memory d.theory c.args.session d.state) d.state (refused_commit c.in-Err-Update.place c.in-Err-Update.cut) after) c.self.view_is
     (inl (λ prefix. reply_to_commit-refused theory inside c.args.session _ c.in-Err-Update.place c.in-Err-Update.cut c.revise.new.self.events c.in-Some.ensures.open
     (subst (λ (r : Refusal). IsRevised theory inside.events held (Err r) after.events) c.in-Err-Update.field-0-is c.in-Err-Update.ensures.revised) prefix))
 
@@ -46,13 +46,9 @@ returns-in-Err-Memory-clause-reply g c =
     let theory = c.self.inside.engine.theory in
     let held : List PlainUpdate = map (plain_update g.T.Moment.rank) c.in-Some.held.now in
     let after : State = record { events = c.revise.new.self.events; last = c.self.inside.last; drafts = c.self.inside.drafts } in
-    subst (λ (d : SessionsState). IsAnswerBy (λ prefix. reply_to_commit d.theory prefix c.args.session d.state) (commit_may_want_memory c.args.session d.state) d.state refused_memory after) c.self.view_is
-    (inr (
-      commit_may_want_memory-open c.args.session inside held c.in-Some.ensures.open,
-      refl,
-      state-kept theory inside held c.revise.new.self.events
-          (subst (λ (r : Refusal). IsRevised theory inside.events held (Err r) after.events) c.in-Err-Memory.field-0-is c.in-Err-Memory.ensures.revised),
-    ))
+    let wanting = subst (λ (r : Refusal). IsRevised theory inside.events held (Err r) after.events) c.in-Err-Memory.field-0-is c.in-Err-Memory.ensures.revised in
+    subst (λ (d : SessionsState). IsAnswerBy (λ prefix. reply_to_commit d.theory prefix c.args.session d.state) (commit_may_want_memory d.theory c.args.session d.state) d.state refused_memory after) c.self.view_is
+    (inr (commit_may_want_memory-open c.args.session inside theory held c.in-Some.ensures.open ∙ wanting.0, refl, state-kept theory inside held c.revise.new.self.events wanting))
 
 pub returns-in-Ok-clause-steps : goal.returns-in-Ok-clause-steps
 returns-in-Ok-clause-steps g c =

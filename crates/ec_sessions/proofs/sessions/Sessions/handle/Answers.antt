@@ -1,6 +1,6 @@
 -- A long line is refused; of another the steps are those of its command.
 use Rattle.std.proofs.Common.{ℕ, ◌+◌, ◌≤◌, false, sym, ap, ◌∙◌, subst}
-use Rattle.ec_axioms.specs.Commands.{parsed_of}
+use Rattle.ec_commands.specs.Commands.{parsed_of}
 use Rattle.ec_lines.specs.declared.line.Line.{Line}
 use Rattle.ec_lines.specs.ShownLine.{ShowsLine}
 use Rattle.ec_replies.specs.Replies.{Language}

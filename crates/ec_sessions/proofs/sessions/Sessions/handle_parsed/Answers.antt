@@ -1,17 +1,18 @@
 -- What answers the command is a step of the line.
-use Rattle.std.proofs.Common.{ℕ, [], false, refl, sym, ap, ◌∙◌, subst}
+use Rattle.std.proofs.Common.{◌≡◌, ℕ, ◌+◌, ◌≤◌, [], false, refl, sym, ap, ◌∙◌, subst, arith}
 use Rattle.ec_terms.specs.declared.theory.Theory.{Theory}
-use Rattle.ec_axioms.specs.Answers.{answer_text}
-use Rattle.ec_axioms.specs.Commands.{PlainCommand, silent}
+use Rattle.ec_commands.specs.Answers.{answer_text}
+use Rattle.ec_commands.specs.Commands.{PlainCommand, silent, ask}
 use Rattle.ec_lines.specs.ShownAnswer.{plain_answer}
-use Rattle.ec_lines.specs.ShownCommand.{plain_parsed}
+use Rattle.ec_lines.specs.ShownCommand.{plain_command, plain_parsed, plain_query}
 use Rattle.ec_outside.proofs.Streams.{Appended-nil, NothingAppended-refl}
 use Rattle.ec_replies.specs.State.{State}
 use Rattle.ec_replies.specs.Replies.{Language, query_text, reply_line, session_of}
 use Rattle.ec_replies.specs.Runs.{command_quits}
 use Rattle.ec_sessions.specs.declared.handled.Handled.TheVariants.{Go}
-use Rattle.ec_sessions.specs.Answering.{IsAnswerTo, IsWritten, is_bye, plain_listing}
-use Rattle.ec_sessions.proofs.AnsweredLines.{CommandStep, CommandStep-answer, CommandStep-listing, CommandStep-silent, IsHandled-written, Step-parsed, is_quit-parsed, listing-goes_on}
+use Rattle.ec_sessions.specs.Answering.{IsAnswerTo, IsWritten, is_bye}
+use Rattle.ec_sessions.specs.LineSteps.{most_asked_steps, most_change_steps, most_query_steps}
+use Rattle.ec_sessions.proofs.AnsweredLines.{CommandStep, CommandStep-answer, CommandStep-query, CommandStep-silent, IsHandled-written, Step-parsed, is_quit-parsed}
 use Rattle.ec_sessions.proofs.sessions.Sessions.handle_parsed.Goals as goal
 
 pub returns-in-Nothing-clause-handled : goal.returns-in-Nothing-clause-handled
@@ -39,21 +40,36 @@ returns-in-Answer-clause-handled g c = λ line short is.
     (CommandStep-answer language parsed.session (session_of parsed) before after parsed.command answer to))
     (is_quit-parsed language line parsed short is ∙ sym to.quits) c.reply.ensures.written
 
-pub returns-in-List-clause-handled : goal.returns-in-List-clause-handled
-returns-in-List-clause-handled g c = λ line short is.
+pub returns-in-Query-clause-handled : goal.returns-in-Query-clause-handled
+returns-in-Query-clause-handled g c = λ line short is.
     let language : Language = record { theory = c.args.self.now.theory; spelt = g.T.Moment.spelt; canon = g.T.Moment.canon } in
     let parsed = plain_parsed g.T.Moment.rank c.args.parsed in
     let before = c.args.self.now.state in
     let after = c.answer.new.self.state in
-    let asked = plain_listing g.T.Moment.rank c.in-List.listing in
-    let told = c.in-List.ensures.told in
-    let text = reply_line parsed.session (query_text language before asked) in
+    let query = plain_query g.T.Moment.rank c.in-Query.query in
+    let told = c.in-Query.ensures.told in
+    let text = reply_line parsed.session (query_text language before.events query) in
     let step = subst (λ (k : PlainCommand). CommandStep language parsed.session (session_of parsed) before k text after) (sym told.0)
-    (subst (λ (s : State). CommandStep language parsed.session (session_of parsed) before asked text s) (sym told.1)
-    (CommandStep-listing g.T.Moment.rank c.in-List.listing language parsed.session (session_of parsed) before)) in
-    let written = subst (λ (t : Theory). IsWritten g.K.Sink.stands c.list.result false (reply_line parsed.session (query_text (record { theory = t; spelt = g.T.Moment.spelt; canon = g.T.Moment.canon }) before asked)) c.args.out.now c.list.new.out)
+    (subst (λ (s : State). CommandStep language parsed.session (session_of parsed) before (ask query) text s) (sym told.1)
+    (CommandStep-query query language parsed.session (session_of parsed) before)) in
+    let written = subst (λ (t : Theory). IsWritten g.K.Sink.stands c.ask.result false (reply_line parsed.session (query_text (record { theory = t; spelt = g.T.Moment.spelt; canon = g.T.Moment.canon }) before.events query)) c.args.out.now c.ask.new.out)
     c.answer.ensures.theory
-    (subst (λ (s : State). IsWritten g.K.Sink.stands c.list.result false (reply_line parsed.session (query_text (record { theory = c.answer.new.self.theory; spelt = g.T.Moment.spelt; canon = g.T.Moment.canon }) s asked)) c.args.out.now c.list.new.out)
-    told.1 c.list.ensures.written) in
-    IsHandled-written g.K.Sink.stands language c.args.out.now c.list.new.out c.list.result false (Step-parsed language line text parsed before after short is step)
-    (is_quit-parsed language line parsed short is ∙ ap command_quits told.0 ∙ listing-goes_on g.T.Moment.rank c.in-List.listing) written
+    (subst (λ (s : State). IsWritten g.K.Sink.stands c.ask.result false (reply_line parsed.session (query_text (record { theory = c.answer.new.self.theory; spelt = g.T.Moment.spelt; canon = g.T.Moment.canon }) s.events query)) c.args.out.now c.ask.new.out)
+    told.1 c.ask.ensures.written) in
+    IsHandled-written g.K.Sink.stands language c.args.out.now c.ask.new.out c.ask.result false (Step-parsed language line text parsed before after short is step)
+    (is_quit-parsed language line parsed short is ∙ ap command_quits told.0) written
+
+pub returns-in-Query-clause-steps : goal.returns-in-Query-clause-steps
+unfolding most_asked_steps
+returns-in-Query-clause-steps g c =
+    let before = c.args.self.now in
+    let after = c.answer.new.self in
+    let command = plain_command g.T.Moment.rank c.args.parsed.command in
+    let query = plain_query g.T.Moment.rank c.in-Query.query in
+    let told = c.in-Query.ensures.told in
+    let asked : most_query_steps after.theory after.state.events query ≡ most_asked_steps before.theory before.state.events command =
+    ap (λ (t : Theory). most_query_steps t after.state.events query) c.answer.ensures.theory
+    ∙ ap (λ (s : State). most_query_steps before.theory s.events query) told.1
+    ∙ sym (ap (most_asked_steps before.theory before.state.events) told.0) in
+    let changed = subst (λ (n : ℕ). c.answer.new.steps ≤ c.args.steps.now + most_change_steps before.theory n before.state command) c.unwrap_or.ensures c.answer.ensures.steps in
+    omega (arith, c.ask.ensures.steps, changed, asked)

@@ -1,19 +1,18 @@
--- The identity is absent, or the update may be made.
-use Rattle.std.proofs.Common.{inl, sym, ap, ◌∙◌}
-use Rattle.ec_axioms.specs.Changes.{has_id}
+-- The answer is by what the engine says of the retraction.
+use Rattle.std.proofs.Common.{refl, subst}
+use Rattle.ec_axioms.specs.Changes.{retracting}
+use Rattle.ec_lines.specs.ShownAnswer.{plain_answer}
 use Rattle.ec_replies.specs.Replies.{update_reply}
+use Rattle.ec_replies.specs.Runs.{may_want_by}
+use Rattle.ec_replies.specs.State.{State}
+use Rattle.ec_replies.specs.Updates.{retracted}
+use Rattle.ec_sessions.specs.Answering.{IsAnswerBy}
 use Rattle.ec_sessions.specs.SessionsState.{SessionsState}
-use Rattle.ec_sessions.proofs.Revisions.{retracted-may_want, retracted-unknown}
 use Rattle.ec_sessions.proofs.sessions.Sessions.retract_at_once.Goals as goal
 
-pub update_at_once-requires : goal.update_at_once-requires
-update_at_once-requires g c = record {
-  may_want =
-      retracted-may_want c.args.self.now.state.events c.args.id
-      (ap (λ (d : SessionsState). has_id c.args.id d.state.events) (sym c.self.view_is) ∙ sym c.is_present.ensures ∙ c.if-is_present.true);
-}
-
-pub returns-else-is_present-clause-reply : goal.returns-else-is_present-clause-reply
-returns-else-is_present-clause-reply g c =
-    let absent = ap (λ (d : SessionsState). has_id c.args.id d.state.events) (sym c.self.view_is) ∙ sym c.is_present.ensures ∙ c.if-is_present.false in
-    inl (λ prefix. ap (update_reply c.args.self.now.theory prefix c.args.self.now.state) (retracted-unknown c.args.self.now.state.events c.args.id absent))
+pub returns-clause-reply : goal.returns-clause-reply
+returns-clause-reply g c =
+    let inside : State = record { events = c.self.inside.engine.events; last = c.self.inside.last; drafts = c.self.inside.drafts } in
+    let after : State = record { events = c.retract-revised.new.self.events; last = c.answer_revised.new.last; drafts = inside.drafts } in
+    subst (λ (d : SessionsState). IsAnswerBy (λ prefix. update_reply d.theory prefix d.state (retracted d.state.events c.args.id)) (may_want_by (retracted d.state.events c.args.id)) d.state (plain_answer c.answer_revised.result) after) c.self.view_is
+    (c.answer_revised.ensures.reply c.self.inside.engine.theory inside (retracting c.args.id) c.retract-revised.new.self.events refl c.retract-revised.ensures.revised)
