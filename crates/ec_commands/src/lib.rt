@@ -19,5 +19,5 @@ mod relation;
 pub mod worked_replies;
 
 pub use keyword::{Keyword, read_keyword};
-pub use limits::{LONGEST_LINE, MOST_DRAFTED, SESSIONS};
+pub use limits::{LONGEST_LINE, MOST_DRAFTED, MOST_PAIRS, MOST_PAST, MOST_WATCHED, SESSIONS};
 pub use relation::{Relation, intervals_stand_in_one_relation_law, relations_have_inverses_law};

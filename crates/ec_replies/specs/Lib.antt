@@ -1,4 +1,5 @@
 pub mod Updates
+pub mod Past
 pub mod State
 pub mod Replies
 pub mod Runs
