@@ -4,9 +4,11 @@ use Rattle.ec_terms.specs.declared.ground.Ground.{Ground}
 use Rattle.ec_terms.specs.Spelling.{is_name}
 use Rattle.ec_terms.specs.Term.{term_value}
 use Rattle.ec_commands.specs.declared.keyword.Keyword.{Keyword}
-use Rattle.ec_commands.specs.declared.keyword.Keyword.TheVariants.{Assert, Retract, Begin, Commit, Abort, Holds, Through, Intervals, Broken, At, Clashes, Events, Why, Last, Quit}
+use Rattle.ec_commands.specs.declared.keyword.Keyword.TheVariants.{Assert, Retract, Begin, Commit, Abort, Holds, Through, Intervals, Broken, At, Clashes, Events, Why, Pairs, Related, Last, Quit}
+use Rattle.ec_commands.specs.declared.relation.Relation.{Relation}
 use Rattle.ec_commands.specs.declared.limits.TheConstants.{SESSIONS}
 use Rattle.ec_commands.specs.Lines.{words_of}
+use Rattle.ec_commands.specs.Relations.{relation_spelt}
 
 -- what can be asked of one list of events, with its times as ranks
 pub data PlainQuery : Type 0 where
@@ -19,7 +21,7 @@ pub data PlainQuery : Type 0 where
   ask_events : PlainQuery
   ask_why : Ground → ℤ → PlainQuery
 
--- a command: `ask` asks a query of the present events
+-- a command: `ask` asks a query of the present events, `ask_pairs` and `ask_related` compare the intervals of two properties there
 pub data PlainCommand : Type 0 where
   silent : PlainCommand
   bad : PlainCommand
@@ -29,6 +31,8 @@ pub data PlainCommand : Type 0 where
   commit_draft : PlainCommand
   abort_draft : PlainCommand
   ask : PlainQuery → PlainCommand
+  ask_pairs : Ground → Relation → Ground → PlainCommand
+  ask_related : Ground → ℤ → Relation → Ground → PlainCommand
   ask_last : PlainCommand
   quit : PlainCommand
 
@@ -43,7 +47,7 @@ keywords =
     (codes "assert", Assert) ∷ (codes "retract", Retract) ∷ (codes "begin", Begin) ∷ (codes "commit", Commit)
     ∷ (codes "abort", Abort) ∷ (codes "holds", Holds) ∷ (codes "through", Through) ∷ (codes "intervals", Intervals)
     ∷ (codes "broken", Broken) ∷ (codes "at", At) ∷ (codes "clashes", Clashes) ∷ (codes "events", Events)
-    ∷ (codes "why", Why) ∷ (codes "last", Last) ∷ (codes "quit", Quit) ∷ []
+    ∷ (codes "why", Why) ∷ (codes "pairs", Pairs) ∷ (codes "related", Related) ∷ (codes "last", Last) ∷ (codes "quit", Quit) ∷ []
 
 -- the keyword that a word spells, or none
 unfoldable pub keyword_of : List ℕ → Option Keyword
@@ -58,7 +62,7 @@ abbrev pub if_part : {A : Type 0} → Option A → (A → PlainCommand) → Plai
 if_part None then_ = bad
 if_part (Some part) then_ = then_ part
 
--- the command that no word, one, two or three words behind a keyword make; bad where there are more or fewer
+-- the command that no word, one, two, three or four words behind a keyword make; bad where there are more or fewer
 abbrev pub of_none : PlainCommand → List (List ℕ) → PlainCommand
 of_none command [] = command
 of_none command (word ∷ words) = bad
@@ -74,6 +78,10 @@ of_two command (a ∷ words) = of_one (command a) words
 abbrev pub of_three : (List ℕ → List ℕ → List ℕ → PlainCommand) → List (List ℕ) → PlainCommand
 of_three command [] = bad
 of_three command (a ∷ words) = of_two (command a) words
+
+abbrev pub of_four : (List ℕ → List ℕ → List ℕ → List ℕ → PlainCommand) → List (List ℕ) → PlainCommand
+of_four command [] = bad
+of_four command (a ∷ words) = of_three (command a) words
 
 -- the command of a keyword and the words behind it; bad where their number or one of them is not as the command wants it
 unfoldable pub command_by : (List ℕ → Option ℤ) → Keyword → List (List ℕ) → PlainCommand
@@ -92,6 +100,12 @@ command_by spelt At words = of_one (λ time. if_part (spelt time) (λ t. ask (as
 command_by spelt Clashes words = of_none (ask ask_clashes) words
 command_by spelt Events words = of_none (ask ask_events) words
 command_by spelt Why words = of_two (λ prop time. if_part (term_value prop) (λ p. if_part (spelt time) (λ t. ask (ask_why p t)))) words
+command_by spelt Pairs words =
+    of_three (λ left word right. if_part (term_value left) (λ p. if_part (relation_spelt word) (λ r. if_part (term_value right) (λ q. ask_pairs p r q)))) words
+command_by spelt Related words =
+    of_four
+    (λ left time word right. if_part (term_value left) (λ p. if_part (spelt time) (λ t. if_part (relation_spelt word) (λ r. if_part (term_value right) (λ q. ask_related p t r q)))))
+    words
 command_by spelt Last words = of_none ask_last words
 command_by spelt Quit words = of_none quit words
 

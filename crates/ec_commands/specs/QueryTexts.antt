@@ -1,11 +1,15 @@
 -- The texts of the replies to queries, byte for byte. Times are written as `canon` says.
-use Rattle.std.specs.Prelude.{ℕ, List, [], ◌∷◌, ◌++◌, ℤ, Option, Some, None, map, filter, flat_map, length, codes, decimal}
+use Rattle.std.specs.Prelude.{ℕ, nat_lt, if◌then◌else◌, List, [], ◌∷◌, ◌++◌, ℤ, Option, Some, None, map, filter, find, flat_map, length, codes, decimal}
 use Rattle.ec_terms.specs.declared.ground.Ground.{Ground}
 use Rattle.ec_terms.specs.declared.theory.Theory.{Theory}
 use Rattle.ec_terms.specs.Term.{term_text}
-use Rattle.ec_axioms.specs.Timeline.{Begin, before_all, begin_at, Interval, Reason, reason_yes, reason_never, reason_ended, reason_broken}
+use Rattle.ec_axioms.specs.Timeline.{Begin, before_all, begin_at, Interval, covers, Reason, reason_yes, reason_never, reason_ended, reason_broken}
 use Rattle.ec_axioms.specs.Calculus.{PlainEvent, PlainCause, first_cause, is_initiating, is_terminating, is_breaking, holds_at, intervals_of, broken_of, clashes_of, reason_of}
 use Rattle.ec_axioms.specs.Links.{live_properties}
+use Rattle.ec_commands.specs.declared.limits.TheConstants.{MOST_PAIRS}
+use Rattle.ec_commands.specs.declared.relation.Relation.{Relation}
+use Rattle.ec_commands.specs.Answers.{refused_full_pairs, answer_text}
+use Rattle.ec_commands.specs.Relations.{stands_in, pairs_of}
 
 -- how times are written
 abbrev pub Canon : Type 0
@@ -100,3 +104,29 @@ events_reply events canon = counted_text (map (event_text canon) events)
 
 unfoldable pub why_reply : Theory → List PlainEvent → Canon → Ground → ℤ → List ℕ
 why_reply theory events canon p t = reason_text theory events canon p (reason_of theory events p t)
+
+-- ---- relations
+
+-- two intervals, the first and the second
+abbrev pub pair_text : Canon → Interval × Interval → List ℕ
+pair_text canon pair = interval_text canon pair.0 ++ codes " " ++ interval_text canon pair.1
+
+-- pairs, unless there are more than a reply lists
+abbrev pub pairs_text : Canon → List (Interval × Interval) → List ℕ
+pairs_text canon pairs = if nat_lt MOST_PAIRS (length pairs) then answer_text refused_full_pairs else counted_text (map (pair_text canon) pairs)
+
+-- of some intervals, those that one stands in a relation to; `none` where there is no such one
+abbrev pub related_text : Canon → Relation → List Interval → Option Interval → List ℕ
+related_text canon r intervals None = codes "none"
+related_text canon r intervals (Some i) = counted_text (map (interval_text canon) (filter (stands_in r i) intervals))
+
+-- the interval of a property that covers t, if it holds there
+unfoldable pub interval_at : Theory → List PlainEvent → Ground → ℤ → Option Interval
+interval_at theory events p t = find (covers t) (intervals_of theory events p)
+
+-- `pairs P REL Q` and `related P T REL Q`
+unfoldable pub pairs_reply : Theory → List PlainEvent → Canon → Ground → Relation → Ground → List ℕ
+pairs_reply theory events canon p r q = pairs_text canon (pairs_of theory events p r q)
+
+unfoldable pub related_reply : Theory → List PlainEvent → Canon → Ground → ℤ → Relation → Ground → List ℕ
+related_reply theory events canon p t r q = related_text canon r (intervals_of theory events q) (interval_at theory events p t)

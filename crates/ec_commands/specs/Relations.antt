@@ -1,5 +1,5 @@
 -- Relations between two intervals: which of the thirteen they stand in. After Allen (1983), in outline.
-use Rattle.std.specs.Prelude.{◌≡◌, Bool, true, false, ◌&&◌, List, ℤ, int_lt, Option, Some, None, map, filter, flat_map, IsTrue}
+use Rattle.std.specs.Prelude.{◌≡◌, ℕ, Bool, true, false, ◌&&◌, List, [], ◌∷◌, ℤ, int_lt, Option, Some, None, option_map, codes, bytes_eq, find, map, filter, flat_map, IsTrue}
 use Rattle.std.specs.Ordering.{int_eq}
 use Rattle.ec_terms.specs.declared.ground.Ground.{Ground}
 use Rattle.ec_terms.specs.declared.theory.Theory.{Theory}
@@ -7,6 +7,20 @@ use Rattle.ec_axioms.specs.Timeline.{Begin, before_all, begin_at, Interval}
 use Rattle.ec_axioms.specs.Calculus.{PlainEvent, intervals_of}
 use Rattle.ec_commands.specs.declared.relation.Relation.{Relation}
 use Rattle.ec_commands.specs.declared.relation.Relation.TheVariants.{Before, Meets, Overlaps, Starts, During, Finishes, Equals, After, MetBy, OverlappedBy, StartedBy, Contains, FinishedBy}
+
+-- ---- words
+
+-- each relation with its word
+unfoldable pub relation_words : List (List ℕ × Relation)
+relation_words =
+    (codes "before", Before) ∷ (codes "meets", Meets) ∷ (codes "overlaps", Overlaps) ∷ (codes "starts", Starts)
+    ∷ (codes "during", During) ∷ (codes "finishes", Finishes) ∷ (codes "equals", Equals) ∷ (codes "after", After)
+    ∷ (codes "met_by", MetBy) ∷ (codes "overlapped_by", OverlappedBy) ∷ (codes "started_by", StartedBy)
+    ∷ (codes "contains", Contains) ∷ (codes "finished_by", FinishedBy) ∷ []
+
+-- the relation that a word spells, or none
+unfoldable pub relation_spelt : List ℕ → Option Relation
+relation_spelt word = option_map (λ (known : List ℕ × Relation). known.1) (find (λ known. bytes_eq known.0 word) relation_words)
 
 -- ---- points
 

@@ -18,12 +18,14 @@ pub enum Keyword {
     Clashes,
     Events,
     Why,
+    Pairs,
+    Related,
     Last,
     Quit,
 }
 
 /// Whether the word has this spelling.
-fn is(word: &[u8], spelling: &[u8]) -> bool
+pub(crate) fn is(word: &[u8], spelling: &[u8]) -> bool
     ensures { result ≡ bytes_eq spelling.now word.now }
 {
     spelling == word
@@ -60,6 +62,10 @@ pub fn read_keyword(word: &[u8]) -> Option<Keyword>
         Keyword::Events
     } else if is(word, b"why") {
         Keyword::Why
+    } else if is(word, b"pairs") {
+        Keyword::Pairs
+    } else if is(word, b"related") {
+        Keyword::Related
     } else if is(word, b"last") {
         Keyword::Last
     } else if is(word, b"quit") {

@@ -7,7 +7,7 @@
 //! byte. They speak of the calculus (ec_axioms) and of nothing that a program keeps. ec_lines reads and
 //! writes by them; ec_replies says which reply a line gets.
 //!
-//! `Relations` says in which of Allen's relations two intervals stand; no command asks for one yet.
+//! `Relations` says in which of Allen's relations two intervals stand, and by which word each is asked for.
 //!
 //! **Proved**: the worked replies, by computation, and the laws of the relations. In code there are the
 //! keywords, the relations, and the limits on lines, drafts and sessions.
@@ -20,4 +20,6 @@ pub mod worked_replies;
 
 pub use keyword::{Keyword, read_keyword};
 pub use limits::{LONGEST_LINE, MOST_DRAFTED, MOST_PAIRS, MOST_PAST, MOST_WATCHED, SESSIONS};
-pub use relation::{Relation, intervals_stand_in_one_relation_law, relations_have_inverses_law};
+pub use relation::{
+    Relation, intervals_stand_in_one_relation_law, read_relation, relations_have_inverses_law,
+};

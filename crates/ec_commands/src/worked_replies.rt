@@ -1,7 +1,8 @@
 //! Worked replies to queries, each a law that holds by computation alone: what is written, byte for byte. Counts and rule numbers
 //! are `decimal`, which does not compute; times are written by `short_number`, which does.
 ghost use Rattle.std.specs.Prelude.{◌≡◌, [], ◌∷◌, ◌++◌, pos, negsuc, codes, decimal};
-ghost use Rattle.ec_commands.specs.QueryTexts.{intervals_reply, broken_reply, at_reply, clashes_reply, events_reply, why_reply};
+ghost use Rattle.ec_commands.specs.declared.relation.Relation.TheVariants.{Before, Meets, Equals, FinishedBy};
+ghost use Rattle.ec_commands.specs.QueryTexts.{intervals_reply, broken_reply, at_reply, clashes_reply, events_reply, why_reply, pairs_reply, related_reply};
 ghost use Rattle.ec_axioms.specs.Examples.{theory_a, theory_b, theory_powered, home_from_the_start, strong_home_from_the_start, plugged_and_pushed, four_pushes, plugged_at_the_unplug, two_moves, two_moves_and_a_leave, moved_home_twice, moved_to_two_places, moved_home_once, lit_a, powered_a, bob_at_home, bob_at_work, unplug_a, event, short_number};
 
 /// Intervals in order, each from its begin to its end; broken begins with their breaks; how many there are comes first.
@@ -38,4 +39,16 @@ pub fn reasons_are_told()
     ensures ended_from_before_all { why_reply theory_powered (event (codes "u") 7 unplug_a ∷ []) short_number powered_a (pos 8) ≡ codes "no ended -inf 7 by u rule " ++ decimal 4 }
     ensures broken_from_before_all { why_reply strong_home_from_the_start moved_home_once short_number bob_at_home (pos 5) ≡ codes "no broken -inf 10 by m1 rule " ++ decimal 6 }
     ensures all_along { why_reply home_from_the_start moved_home_once short_number bob_at_home (pos 5) ≡ codes "yes -inf inf initially" }
+{}
+
+/// Pairs of intervals by the first, then by the second; and the intervals that the one at a time stands in a relation to. An
+/// interval does not cover the time at which it begins, and covers the time at which it ends.
+pub fn relations_are_told()
+    ensures meets { pairs_reply theory_a plugged_at_the_unplug short_number powered_a Meets powered_a ≡ decimal 1 ++ codes " (5,10] (10,inf)" }
+    ensures equals { pairs_reply theory_a plugged_at_the_unplug short_number powered_a Equals powered_a ≡ decimal 2 ++ codes " (5,10] (5,10] (10,inf) (10,inf)" }
+    ensures unknown { pairs_reply theory_a plugged_at_the_unplug short_number powered_a Before bob_at_home ≡ decimal 0 ++ [] }
+    ensures all_along { pairs_reply theory_powered [] short_number powered_a Equals powered_a ≡ decimal 1 ++ codes " (-inf,inf) (-inf,inf)" }
+    ensures at_the_begin { related_reply theory_a plugged_at_the_unplug short_number powered_a (pos 5) Meets powered_a ≡ codes "none" }
+    ensures at_the_end { related_reply theory_a plugged_at_the_unplug short_number powered_a (pos 10) Meets powered_a ≡ decimal 1 ++ codes " (10,inf)" }
+    ensures no_other { related_reply theory_a plugged_at_the_unplug short_number powered_a (pos 11) FinishedBy powered_a ≡ decimal 0 ++ [] }
 {}

@@ -8,7 +8,7 @@ use Rattle.ec_lists.proofs.Tests.{list_all-filter}
 use Rattle.ec_axioms.specs.Calculus.{PlainEvent}
 use Rattle.ec_axioms.specs.Changes.{PlainUpdate, asserting, retracting}
 use Rattle.ec_commands.specs.Lines.{is_long}
-use Rattle.ec_commands.specs.Commands.{PlainCommand, silent, bad, assert_event, retract_event, begin_draft, commit_draft, abort_draft, ask, ask_last, quit, parsed_of}
+use Rattle.ec_commands.specs.Commands.{PlainCommand, silent, bad, assert_event, retract_event, begin_draft, commit_draft, abort_draft, ask, ask_pairs, ask_related, ask_last, quit, parsed_of}
 use Rattle.ec_commands.specs.Answers.{answer_ok, answer_text}
 use Rattle.ec_replies.specs.State.{Draft, State, draft_of}
 use Rattle.ec_replies.specs.Updates.{updated}
@@ -73,6 +73,8 @@ command_may_want_memory-same language session state other begin_draft same = ref
 command_may_want_memory-same language session state other commit_draft same = commit_may_want_memory-same language session state other same
 command_may_want_memory-same language session state other abort_draft same = refl
 command_may_want_memory-same language session state other (ask query) same = refl
+command_may_want_memory-same language session state other (ask_pairs p r q) same = refl
+command_may_want_memory-same language session state other (ask_related p t r q) same = refl
 command_may_want_memory-same language session state other ask_last same = refl
 command_may_want_memory-same language session state other quit same = refl
 

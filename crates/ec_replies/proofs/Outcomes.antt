@@ -7,8 +7,9 @@ use Rattle.ec_commands.specs.declared.limits.TheConstants.{MOST_DRAFTED}
 use Rattle.ec_axioms.specs.Calculus.{PlainEvent}
 use Rattle.ec_axioms.specs.Changes.{PlainUpdate, asserting, retracting, PlacedCut}
 use Rattle.ec_commands.specs.Lines.{is_long}
-use Rattle.ec_commands.specs.Commands.{PlainCommand, silent, bad, assert_event, retract_event, begin_draft, commit_draft, abort_draft, ask, ask_last, quit, parsed_of}
+use Rattle.ec_commands.specs.Commands.{PlainCommand, silent, bad, assert_event, retract_event, begin_draft, commit_draft, abort_draft, ask, ask_pairs, ask_related, ask_last, quit, parsed_of}
 use Rattle.ec_commands.specs.Answers.{answer_ok, answer_bye, answer_drafted, answer_last, answer_text, refused_syntax, refused_no_draft, refused_in_draft, refused_full_draft, refused_update, refused_commit}
+use Rattle.ec_commands.specs.QueryTexts.{pairs_reply, related_reply}
 use Rattle.ec_replies.specs.State.{Draft, State, draft_of, with_draft}
 use Rattle.ec_replies.specs.Updates.{updated, updated_by}
 use Rattle.ec_replies.specs.Replies.{Language, Reply, session_of, reply_line, answering, revised, update_reply, drafted_reply, commit_reply, reply_to_update, reply_to_begin, reply_to_commit, reply_to_abort, query_text, command_reply, parsed_reply}
@@ -97,6 +98,8 @@ command_outcome language prefix session state begin_draft = begin_outcome langua
 command_outcome language prefix session state commit_draft = commit_outcome language prefix session state commit_draft refl
 command_outcome language prefix session state abort_draft = abort_outcome language prefix session state abort_draft
 command_outcome language prefix session state (ask query) = is_kept (reply_line prefix (query_text language state.events query))
+command_outcome language prefix session state (ask_pairs p r q) = is_kept (reply_line prefix (pairs_reply language.theory state.events language.canon p r q))
+command_outcome language prefix session state (ask_related p t r q) = is_kept (reply_line prefix (related_reply language.theory state.events language.canon p t r q))
 command_outcome language prefix session state ask_last = is_kept (reply_line prefix (answer_text (answer_last state.last)))
 command_outcome language prefix session state quit = is_kept (reply_line prefix (answer_text answer_bye))
 

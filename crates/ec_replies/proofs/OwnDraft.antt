@@ -8,7 +8,7 @@ use Rattle.ec_commands.specs.declared.limits.TheConstants.{MOST_DRAFTED}
 use Rattle.ec_axioms.specs.Calculus.{PlainEvent}
 use Rattle.ec_axioms.specs.Changes.{PlainUpdate, asserting, retracting, PlacedCut}
 use Rattle.ec_commands.specs.Lines.{is_long}
-use Rattle.ec_commands.specs.Commands.{PlainCommand, silent, bad, assert_event, retract_event, begin_draft, commit_draft, abort_draft, ask, ask_last, quit, PlainParsed, parsed_of}
+use Rattle.ec_commands.specs.Commands.{PlainCommand, silent, bad, assert_event, retract_event, begin_draft, commit_draft, abort_draft, ask, ask_pairs, ask_related, ask_last, quit, PlainParsed, parsed_of}
 use Rattle.ec_commands.specs.Answers.{refused_long_line}
 use Rattle.ec_replies.specs.State.{Draft, State, draft_of, with_draft}
 use Rattle.ec_replies.specs.Updates.{updated, updated_by}
@@ -146,6 +146,8 @@ module _ (language : Language) (prefix : Option ℕ) (session : ℕ) (state : St
   same_command commit_draft = same_commit
   same_command abort_draft = same_abort
   same_command (ask query) = (refl, same_here)
+  same_command (ask_pairs p r q) = (refl, same_here)
+  same_command (ask_related p t r q) = (refl, same_here)
   same_command ask_last = (refl, same_here)
   same_command quit = (refl, same_here)
 
@@ -185,6 +187,8 @@ query_text-drafts language prefix session state drafts begin_draft query = cc
 query_text-drafts language prefix session state drafts commit_draft query = cc
 query_text-drafts language prefix session state drafts abort_draft query = cc
 query_text-drafts language prefix session state drafts (ask asked) query = refl
+query_text-drafts language prefix session state drafts (ask_pairs p r q) query = refl
+query_text-drafts language prefix session state drafts (ask_related p t r q) query = refl
 query_text-drafts language prefix session state drafts ask_last query = refl
 query_text-drafts language prefix session state drafts quit query = cc
 

@@ -4,7 +4,7 @@ use Rattle.std.proofs.lemmas.Bool.{and_parts, false≢true}
 use Rattle.std.proofs.lemmas.List.{append-nil}
 use Rattle.std.specs.List.{list_all}
 use Rattle.ec_commands.specs.Lines.{is_long}
-use Rattle.ec_commands.specs.Commands.{PlainCommand, silent, bad, assert_event, retract_event, begin_draft, commit_draft, abort_draft, ask, ask_last, quit, parsed_of}
+use Rattle.ec_commands.specs.Commands.{PlainCommand, silent, bad, assert_event, retract_event, begin_draft, commit_draft, abort_draft, ask, ask_pairs, ask_related, ask_last, quit, parsed_of}
 use Rattle.ec_replies.specs.State.{State}
 use Rattle.ec_replies.specs.Replies.{Language, session_of}
 use Rattle.ec_replies.specs.Runs.{Step, IsReply, is_quit, has_quit, Run, RunsOn, may_want_memory, command_may_want_memory}
@@ -126,6 +126,8 @@ command_without_memory language session state begin_draft keeps = refl
 command_without_memory language session state commit_draft keeps = cc
 command_without_memory language session state abort_draft keeps = refl
 command_without_memory language session state (ask query) keeps = refl
+command_without_memory language session state (ask_pairs p r q) keeps = refl
+command_without_memory language session state (ask_related p t r q) keeps = refl
 command_without_memory language session state ask_last keeps = refl
 command_without_memory language session state quit keeps = refl
 

@@ -5,7 +5,7 @@ use Rattle.ec_lists.proofs.Numbers.{eqb-apart}
 use Rattle.ec_axioms.specs.Calculus.{PlainEvent}
 use Rattle.ec_axioms.specs.Changes.{PlainUpdate, PlacedCut}
 use Rattle.ec_commands.specs.Lines.{is_long}
-use Rattle.ec_commands.specs.Commands.{PlainCommand, silent, bad, assert_event, retract_event, begin_draft, commit_draft, abort_draft, ask, ask_last, quit, parsed_of}
+use Rattle.ec_commands.specs.Commands.{PlainCommand, silent, bad, assert_event, retract_event, begin_draft, commit_draft, abort_draft, ask, ask_pairs, ask_related, ask_last, quit, parsed_of}
 use Rattle.ec_replies.specs.State.{Draft, State, draft_of}
 use Rattle.ec_replies.specs.Updates.{updated_by}
 use Rattle.ec_replies.specs.Replies.{Language, Reply, session_of, commit_reply, reply_to_commit, command_reply, reply_of}
@@ -53,6 +53,8 @@ query_after language prefix session state begin_draft query = cc
 query_after language prefix session state commit_draft query = cc
 query_after language prefix session state abort_draft query = cc
 query_after language prefix session state (ask asked) query = refl
+query_after language prefix session state (ask_pairs p r q) query = refl
+query_after language prefix session state (ask_related p t r q) query = refl
 query_after language prefix session state ask_last query = refl
 query_after language prefix session state quit query = cc
 

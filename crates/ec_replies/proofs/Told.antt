@@ -8,7 +8,7 @@ use Rattle.ec_commands.specs.declared.limits.TheConstants.{MOST_DRAFTED}
 use Rattle.ec_axioms.specs.Calculus.{PlainEvent}
 use Rattle.ec_axioms.specs.Changes.{PlainUpdate, asserting, retracting, PlacedCut}
 use Rattle.ec_commands.specs.Lines.{is_long, line_feed}
-use Rattle.ec_commands.specs.Commands.{PlainCommand, silent, bad, assert_event, retract_event, begin_draft, commit_draft, abort_draft, ask, ask_last, quit, parsed_of}
+use Rattle.ec_commands.specs.Commands.{PlainCommand, silent, bad, assert_event, retract_event, begin_draft, commit_draft, abort_draft, ask, ask_pairs, ask_related, ask_last, quit, parsed_of}
 use Rattle.ec_commands.specs.Answers.{answer_ok, answer_drafted, refused_memory, refused_no_draft, refused_full_draft, refused_update, refused_commit, answer_text, cut_text, front_text}
 use Rattle.ec_replies.specs.State.{Draft, State, draft_of}
 use Rattle.ec_replies.specs.Updates.{updated, updated_by}
@@ -110,6 +110,8 @@ module _ (prefix : Option ℕ) (rest more : List ℕ) where
   command_reply-other language session state commit_draft may = reply_to_commit-other language session state
   command_reply-other language session state abort_draft may = absurd (false≢true may)
   command_reply-other language session state (ask query) may = absurd (false≢true may)
+  command_reply-other language session state (ask_pairs p r q) may = absurd (false≢true may)
+  command_reply-other language session state (ask_related p t r q) may = absurd (false≢true may)
   command_reply-other language session state ask_last may = absurd (false≢true may)
   command_reply-other language session state quit may = absurd (false≢true may)
 

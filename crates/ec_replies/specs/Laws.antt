@@ -4,7 +4,7 @@ use Rattle.ec_terms.specs.declared.theory.Theory.{Theory}
 use Rattle.ec_commands.specs.declared.limits.TheConstants.{MOST_DRAFTED}
 use Rattle.ec_axioms.specs.Changes.{PlainUpdate, asserting, retracting, change_counts}
 use Rattle.ec_commands.specs.Lines.{is_long}
-use Rattle.ec_commands.specs.Commands.{PlainCommand, silent, bad, assert_event, retract_event, begin_draft, commit_draft, abort_draft, ask, ask_last, quit, parsed_of}
+use Rattle.ec_commands.specs.Commands.{PlainCommand, silent, bad, assert_event, retract_event, begin_draft, commit_draft, abort_draft, ask, ask_pairs, ask_related, ask_last, quit, parsed_of}
 use Rattle.ec_commands.specs.Answers.{answer_ok, answer_drafted, answer_text}
 use Rattle.ec_replies.specs.State.{State, draft_of, with_draft}
 use Rattle.ec_replies.specs.Updates.{updated, updated_by}
@@ -48,7 +48,7 @@ OthersKeepADraft =
 
 -- ---- queries
 
--- the command asks: a query of the present events, or what the last accepted update changed
+-- the command asks: a query of the present events, how intervals there relate, or what the last accepted update changed
 abbrev pub is_query : PlainCommand → Bool
 is_query silent = false
 is_query bad = false
@@ -58,6 +58,8 @@ is_query begin_draft = false
 is_query commit_draft = false
 is_query abort_draft = false
 is_query (ask query) = true
+is_query (ask_pairs p r q) = true
+is_query (ask_related p t r q) = true
 is_query ask_last = true
 is_query quit = false
 
@@ -85,6 +87,8 @@ may_change begin_draft = false
 may_change commit_draft = true
 may_change abort_draft = false
 may_change (ask query) = false
+may_change (ask_pairs p r q) = false
+may_change (ask_related p t r q) = false
 may_change ask_last = false
 may_change quit = false
 
@@ -131,6 +135,8 @@ asked_update begin_draft = None
 asked_update commit_draft = None
 asked_update abort_draft = None
 asked_update (ask query) = None
+asked_update (ask_pairs p r q) = None
+asked_update (ask_related p t r q) = None
 asked_update ask_last = None
 asked_update quit = None
 

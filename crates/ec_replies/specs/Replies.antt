@@ -7,9 +7,9 @@ use Rattle.ec_axioms.specs.Calculus.{PlainEvent, holds_at, holds_through}
 use Rattle.ec_axioms.specs.Changes.{PlainUpdate, asserting, retracting, PlacedCut, change_counts}
 use Rattle.ec_commands.specs.Lines.{is_long, line_feed}
 use Rattle.ec_commands.specs.Commands.{PlainQuery, ask_holds, ask_through, ask_intervals, ask_broken, ask_at, ask_clashes, ask_events, ask_why}
-use Rattle.ec_commands.specs.Commands.{PlainCommand, silent, bad, assert_event, retract_event, begin_draft, commit_draft, abort_draft, ask, ask_last, quit, PlainParsed, parsed_of}
+use Rattle.ec_commands.specs.Commands.{PlainCommand, silent, bad, assert_event, retract_event, begin_draft, commit_draft, abort_draft, ask, ask_pairs, ask_related, ask_last, quit, PlainParsed, parsed_of}
 use Rattle.ec_commands.specs.Answers.{PlainAnswer, answer_ok, answer_yes, answer_no, answer_bye, answer_drafted, answer_last, refused_long_line, refused_syntax, refused_in_draft, refused_no_draft, refused_full_draft, refused_order, refused_update, refused_commit, answer_text, front_text}
-use Rattle.ec_commands.specs.QueryTexts.{Canon, intervals_reply, broken_reply, at_reply, clashes_reply, events_reply, why_reply}
+use Rattle.ec_commands.specs.QueryTexts.{Canon, intervals_reply, broken_reply, at_reply, clashes_reply, events_reply, why_reply, pairs_reply, related_reply}
 use Rattle.ec_replies.specs.State.{Draft, State, draft_of, with_draft}
 use Rattle.ec_replies.specs.Updates.{updated, updated_by}
 
@@ -126,6 +126,8 @@ command_reply language prefix session state begin_draft = reply_to_begin prefix 
 command_reply language prefix session state commit_draft = reply_to_commit language.theory prefix session state
 command_reply language prefix session state abort_draft = reply_to_abort prefix session state
 command_reply language prefix session state (ask query) = record { text = reply_line prefix (query_text language state.events query); after = state }
+command_reply language prefix session state (ask_pairs p r q) = record { text = reply_line prefix (pairs_reply language.theory state.events language.canon p r q); after = state }
+command_reply language prefix session state (ask_related p t r q) = record { text = reply_line prefix (related_reply language.theory state.events language.canon p t r q); after = state }
 command_reply language prefix session state ask_last = answering prefix (answer_last state.last) state
 command_reply language prefix session state quit = answering prefix answer_bye state
 

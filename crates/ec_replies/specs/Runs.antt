@@ -8,7 +8,7 @@ use Rattle.ec_commands.specs.declared.limits.TheConstants.{MOST_DRAFTED}
 use Rattle.ec_axioms.specs.Calculus.{PlainEvent}
 use Rattle.ec_axioms.specs.Changes.{PlainUpdate, asserting, retracting}
 use Rattle.ec_commands.specs.Lines.{is_long}
-use Rattle.ec_commands.specs.Commands.{PlainCommand, silent, bad, assert_event, retract_event, begin_draft, commit_draft, abort_draft, ask, ask_last, quit, PlainParsed, parsed_of}
+use Rattle.ec_commands.specs.Commands.{PlainCommand, silent, bad, assert_event, retract_event, begin_draft, commit_draft, abort_draft, ask, ask_pairs, ask_related, ask_last, quit, PlainParsed, parsed_of}
 use Rattle.ec_commands.specs.Answers.{refused_memory, answer_text}
 use Rattle.ec_replies.specs.State.{Draft, State, draft_of, empty_state}
 use Rattle.ec_replies.specs.Updates.{updated}
@@ -61,6 +61,8 @@ command_may_want_memory theory session state begin_draft = false
 command_may_want_memory theory session state commit_draft = commit_may_want_memory theory session state
 command_may_want_memory theory session state abort_draft = false
 command_may_want_memory theory session state (ask query) = false
+command_may_want_memory theory session state (ask_pairs p r q) = false
+command_may_want_memory theory session state (ask_related p t r q) = false
 command_may_want_memory theory session state ask_last = false
 command_may_want_memory theory session state quit = false
 
@@ -103,6 +105,8 @@ command_quits begin_draft = false
 command_quits commit_draft = false
 command_quits abort_draft = false
 command_quits (ask query) = false
+command_quits (ask_pairs p r q) = false
+command_quits (ask_related p t r q) = false
 command_quits ask_last = false
 command_quits quit = true
 

@@ -33,3 +33,13 @@ pub fn two_sessions_do_not_see_each_other()
         ≡ told_to 1 (codes "ok") ∷ told_to 1 (codes "drafted " ++ decimal 1) ∷ told (codes "no") ∷ told_to 1 (codes "ok") ∷ told (codes "yes")
         ∷ told (codes "refused no-draft") ∷ told (codes "refused syntax") ∷ [] ∷ told_to 7 (decimal 1 ++ codes " p 5 plug(a)") ∷ [] }
 {}
+
+/// The runs of two lamps overlap. Where the first holds no longer, nothing is related to it; a word that is no relation is refused.
+pub fn two_lamps_are_compared()
+    ensures { replies_to (codes "assert p 5 plug(a)" ∷ codes "assert u 15 unplug(a)" ∷ codes "assert p2 10 plug(b)"
+        ∷ codes "pairs powered(a) overlaps powered(b)" ∷ codes "@1 related powered(b) 11 overlapped_by powered(a)"
+        ∷ codes "related powered(a) 16 overlaps powered(b)" ∷ codes "pairs powered(a) near powered(b)" ∷ [])
+        ≡ told (codes "ok") ∷ told (codes "ok") ∷ told (codes "ok")
+        ∷ told (decimal 1 ++ codes " (5,15] (10,inf)") ∷ told_to 1 (decimal 1 ++ codes " (5,15]")
+        ∷ told (codes "none") ∷ told (codes "refused syntax") ∷ [] }
+{}

@@ -212,9 +212,9 @@ returns-then-is-15 c =
     ∙ found _ _ _ _ (sym (c.if-is-15.ensures {u = tt}))
     )
 
-pub returns-else-is-15 : goal.returns-else-is-15
+pub returns-then-is-16 : goal.returns-then-is-16
 unfolding keywords
-returns-else-is-15 c =
+returns-then-is-16 c =
     sym (
     among_all _
     ∙ passed _ _ _ _ (sym (c.if-is.ensures {u = tt}))
@@ -232,5 +232,54 @@ returns-else-is-15 c =
     ∙ passed _ _ _ _ (sym (c.if-is-13.ensures {u = tt}))
     ∙ passed _ _ _ _ (sym (c.if-is-14.ensures {u = tt}))
     ∙ passed _ _ _ _ (sym (c.if-is-15.ensures {u = tt}))
+    ∙ found _ _ _ _ (sym (c.if-is-16.ensures {u = tt}))
+    )
+
+pub returns-then-is-17 : goal.returns-then-is-17
+unfolding keywords
+returns-then-is-17 c =
+    sym (
+    among_all _
+    ∙ passed _ _ _ _ (sym (c.if-is.ensures {u = tt}))
+    ∙ passed _ _ _ _ (sym (c.if-is-2.ensures {u = tt}))
+    ∙ passed _ _ _ _ (sym (c.if-is-3.ensures {u = tt}))
+    ∙ passed _ _ _ _ (sym (c.if-is-4.ensures {u = tt}))
+    ∙ passed _ _ _ _ (sym (c.if-is-5.ensures {u = tt}))
+    ∙ passed _ _ _ _ (sym (c.if-is-6.ensures {u = tt}))
+    ∙ passed _ _ _ _ (sym (c.if-is-7.ensures {u = tt}))
+    ∙ passed _ _ _ _ (sym (c.if-is-8.ensures {u = tt}))
+    ∙ passed _ _ _ _ (sym (c.if-is-9.ensures {u = tt}))
+    ∙ passed _ _ _ _ (sym (c.if-is-10.ensures {u = tt}))
+    ∙ passed _ _ _ _ (sym (c.if-is-11.ensures {u = tt}))
+    ∙ passed _ _ _ _ (sym (c.if-is-12.ensures {u = tt}))
+    ∙ passed _ _ _ _ (sym (c.if-is-13.ensures {u = tt}))
+    ∙ passed _ _ _ _ (sym (c.if-is-14.ensures {u = tt}))
+    ∙ passed _ _ _ _ (sym (c.if-is-15.ensures {u = tt}))
+    ∙ passed _ _ _ _ (sym (c.if-is-16.ensures {u = tt}))
+    ∙ found _ _ _ _ (sym (c.if-is-17.ensures {u = tt}))
+    )
+
+pub returns-else-is-17 : goal.returns-else-is-17
+unfolding keywords
+returns-else-is-17 c =
+    sym (
+    among_all _
+    ∙ passed _ _ _ _ (sym (c.if-is.ensures {u = tt}))
+    ∙ passed _ _ _ _ (sym (c.if-is-2.ensures {u = tt}))
+    ∙ passed _ _ _ _ (sym (c.if-is-3.ensures {u = tt}))
+    ∙ passed _ _ _ _ (sym (c.if-is-4.ensures {u = tt}))
+    ∙ passed _ _ _ _ (sym (c.if-is-5.ensures {u = tt}))
+    ∙ passed _ _ _ _ (sym (c.if-is-6.ensures {u = tt}))
+    ∙ passed _ _ _ _ (sym (c.if-is-7.ensures {u = tt}))
+    ∙ passed _ _ _ _ (sym (c.if-is-8.ensures {u = tt}))
+    ∙ passed _ _ _ _ (sym (c.if-is-9.ensures {u = tt}))
+    ∙ passed _ _ _ _ (sym (c.if-is-10.ensures {u = tt}))
+    ∙ passed _ _ _ _ (sym (c.if-is-11.ensures {u = tt}))
+    ∙ passed _ _ _ _ (sym (c.if-is-12.ensures {u = tt}))
+    ∙ passed _ _ _ _ (sym (c.if-is-13.ensures {u = tt}))
+    ∙ passed _ _ _ _ (sym (c.if-is-14.ensures {u = tt}))
+    ∙ passed _ _ _ _ (sym (c.if-is-15.ensures {u = tt}))
+    ∙ passed _ _ _ _ (sym (c.if-is-16.ensures {u = tt}))
+    ∙ passed _ _ _ _ (sym (c.if-is-17.ensures {u = tt}))
     ∙ none_left _
     )
