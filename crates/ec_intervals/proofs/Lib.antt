@@ -18,3 +18,4 @@ mod Growth
 mod Inert
 mod ReachLemmas
 mod NearLemmas
+mod Counted

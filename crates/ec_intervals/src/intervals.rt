@@ -1,11 +1,13 @@
-ghost use Rattle.std.specs.Prelude.{◌≡◌, ◌≢◌, ◌↔◌, ℕ, ◌+◌, ◌-◌, ◌<◌, ◌≤◌, ◌≤ℤ◌, [], IsTrue, IfSome, IfNone, OnErr, OnOk, Some, None, length, option_map, slice_get};
+ghost use Rattle.std.specs.Prelude.{◌≡◌, ◌≢◌, ◌↔◌, ℕ, ◌+◌, ◌-◌, ◌<◌, ◌≤◌, ◌≤ℤ◌, [], IsTrue, IfSome, IfNone, OnErr, OnOk, Some, None, filter, length, not, option_map, slice_get};
 ghost use Rattle.ec_axioms.specs.Marks.{spans_of};
 ghost use Rattle.ec_axioms.specs.Timeline.{is_held_at};
 ghost use Rattle.ec_intervals.specs.Near.{IsNear};
 ghost use Rattle.ec_intervals.specs.OldMarks.{AreOfOldMarks};
-ghost use Rattle.ec_intervals.specs.Table.{IsGrown, front_at, has_row, last_begin_of, members_at, plain_begin, plain_intervals, room_at, row_at, spans_at};
+ghost use Rattle.ec_intervals.specs.Steps.{begins_behind, ends_before, is_proper};
+ghost use Rattle.ec_intervals.specs.Table.{IsGrown, front_at, has_row, last_begin_of, members_at, plain_begin, plain_interval, plain_intervals, room_at, row_at, spans_at};
 ghost use Rattle.ec_rows.specs.PlainMarks.{plain_marks};
 
+use crate::counts::{row_begun_up_to, row_ended_before};
 use crate::draft::Draft;
 use crate::interval::{Begin, Interval};
 use crate::near::Near;
@@ -95,10 +97,11 @@ impl<T: Moment, I: SpanRow<T>> Intervals<T, I> {
         }
     }
 
-    /// The interval of a property at a place, from 0: the front first, then the spans.
+    /// The interval of a property at a place, from 0: the front first, then the spans. Each begins before it ends.
     pub fn member(&self, p: PropId, i: usize) -> Interval<T>
-        requires { i < length (members_at p.0 self.now) }
-        ensures { slice_get (members_at p.0 self.now) i ≡ Some result }
+        requires within { i < length (members_at p.0 self.now) }
+        ensures member { slice_get (members_at p.0 self.now) i ≡ Some result }
+        ensures proper { IsTrue (is_proper (plain_interval T.rank result)) }
     {
         match self.rows.get(p) {
             Some(kept) => member_of(kept, i),
@@ -127,6 +130,26 @@ impl<T: Moment, I: SpanRow<T>> Intervals<T, I> {
         match self.rows.get(p) {
             Some(kept) => row_begin_before(kept, at),
             None => None,
+        }
+    }
+
+    /// How many intervals of a property end before a time. As its intervals are in order, they are its first ones.
+    pub fn ended_before(&self, p: PropId, at: T) -> usize
+        ensures { result ≡ length (filter (ends_before (T.rank at)) (plain_intervals T.rank (members_at p.0 self.now))) }
+    {
+        match self.rows.get(p) {
+            Some(kept) => row_ended_before(kept, at),
+            None => 0,
+        }
+    }
+
+    /// How many intervals of a property begin up to a time, and at it. As its intervals are in order, they are its first ones.
+    pub fn begun_up_to(&self, p: PropId, at: T) -> usize
+        ensures { result ≡ length (filter (λ interval. not (begins_behind (T.rank at) interval)) (plain_intervals T.rank (members_at p.0 self.now))) }
+    {
+        match self.rows.get(p) {
+            Some(kept) => row_begun_up_to(kept, at),
+            None => 0,
         }
     }
 

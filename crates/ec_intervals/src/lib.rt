@@ -2,6 +2,7 @@
 #![tactic(auto)]
 
 mod broken;
+mod counts;
 mod draft;
 mod interval;
 mod intervals;

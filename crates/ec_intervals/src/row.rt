@@ -1,8 +1,9 @@
 //! The row of one property: its intervals, read and written.
-ghost use Rattle.std.specs.Prelude.{◌≡◌, ◌<◌, ◌≤◌, ◌^◌, [], None, Some, length, option_map, slice_get};
+ghost use Rattle.std.specs.Prelude.{◌≡◌, ◌<◌, ◌≤◌, ◌^◌, [], IsTrue, None, Some, length, option_map, slice_get};
 ghost use Rattle.ec_axioms.specs.Timeline.{is_held_at};
 ghost use Rattle.ec_intervals.specs.RowViews.{seen};
-ghost use Rattle.ec_intervals.specs.Table.{front_members, last_begin_of, members_in, plain_begin, plain_intervals};
+ghost use Rattle.ec_intervals.specs.Steps.{is_proper};
+ghost use Rattle.ec_intervals.specs.Table.{front_members, last_begin_of, members_in, plain_begin, plain_interval, plain_intervals};
 
 use crate::interval::{Begin, Interval, span_interval};
 use ec_moment::Moment;
@@ -29,7 +30,8 @@ pub(crate) fn count_members<T: Moment, I: SpanRow<T>>(kept: &KeptRow<T, I>) -> u
 /// The interval at a place, the front first.
 pub(crate) fn member_of<T: Moment, I: SpanRow<T>>(kept: &KeptRow<T, I>, i: usize) -> Interval<T>
     requires { i < length (members_in (Some (seen I.spans I.spare kept.now))) }
-    ensures { slice_get (members_in (Some (seen I.spans I.spare kept.now))) i ≡ Some result }
+    ensures member { slice_get (members_in (Some (seen I.spans I.spare kept.now))) i ≡ Some result }
+    ensures proper { IsTrue (is_proper (plain_interval T.rank result)) }
 {
     let Some(end) = kept.front else {
         return span_interval(kept.spans.get(i));

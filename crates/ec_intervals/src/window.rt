@@ -100,7 +100,7 @@ fn find_start<T: Moment, I: SpanRow<T>, M: MarkRow<T>>(
 }
 
 /// How many spans start up to a time and at it.
-fn count_up_to<T: Moment, I: SpanRow<T>>(spans: &I, at: T) -> usize
+pub(crate) fn count_up_to<T: Moment, I: SpanRow<T>>(spans: &I, at: T) -> usize
     ensures count { result ≡ length (spans_up_to T.rank (T.rank at) (I.spans spans.now)) }
     ensures within { result ≤ length (I.spans spans.now) }
 {
