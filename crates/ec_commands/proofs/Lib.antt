@@ -1,2 +1,2 @@
 pub mod LineEnds
-mod RelationLaws
+pub mod RelationLaws

@@ -11,7 +11,7 @@ use Rattle.ec_commands.specs.Relations.{Point, below, instant, above, point_lt, 
 
 -- ---- points
 
-point_lt-trans : (p q r : Point) → point_lt p q ≡ true → point_lt q r ≡ true → point_lt p r ≡ true
+pub point_lt-trans : (p q r : Point) → point_lt p q ≡ true → point_lt q r ≡ true → point_lt p r ≡ true
 point_lt-trans below below below first second = absurd (false≢true first)
 point_lt-trans below below (instant u) first second = absurd (false≢true first)
 point_lt-trans below below above first second = absurd (false≢true first)
@@ -40,7 +40,7 @@ point_lt-trans above above below first second = absurd (false≢true first)
 point_lt-trans above above (instant u) first second = absurd (false≢true first)
 point_lt-trans above above above first second = absurd (false≢true first)
 
-point_eq-is : (p q : Point) → point_eq p q ≡ true → p ≡ q
+pub point_eq-is : (p q : Point) → point_eq p q ≡ true → p ≡ q
 point_eq-is below below same = refl
 point_eq-is (instant s) (instant t) same = ap instant (int_eq-is s t same)
 point_eq-is above above same = refl

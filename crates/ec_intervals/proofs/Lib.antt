@@ -3,7 +3,7 @@ mod Options
 mod Pass
 mod Cut
 mod TwoRows
-mod SpanCuts
+pub mod SpanCuts
 mod Reading
 pub mod Spliced
 mod Walking
@@ -19,3 +19,4 @@ mod Inert
 mod ReachLemmas
 mod NearLemmas
 mod Counted
+pub mod HistoryRows

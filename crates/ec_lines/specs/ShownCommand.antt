@@ -2,9 +2,9 @@
 use Rattle.std.specs.Prelude.{ℤ, Option, Some, None, IsTrue}
 use Rattle.ec_terms.specs.Term.{ground_of, names_are_names}
 use Rattle.ec_commands.specs.Commands.{PlainQuery, ask_holds, ask_through, ask_intervals, ask_broken, ask_at, ask_clashes, ask_events, ask_why}
-use Rattle.ec_commands.specs.Commands.{PlainCommand, PlainParsed, silent, bad, assert_event, retract_event, begin_draft, commit_draft, abort_draft, ask, ask_last, quit}
+use Rattle.ec_commands.specs.Commands.{PlainCommand, PlainParsed, silent, bad, assert_event, retract_event, begin_draft, commit_draft, abort_draft, ask, ask_pairs, ask_related, ask_last, quit}
 use Rattle.ec_lines.specs.declared.command.Command.{Command}
-use Rattle.ec_lines.specs.declared.command.Command.TheVariants.{Silent, Bad, Assert, Retract, Begin, Commit, Abort, Ask, Last, Quit}
+use Rattle.ec_lines.specs.declared.command.Command.TheVariants.{Silent, Bad, Assert, Retract, Begin, Commit, Abort, Ask, Pairs, Related, Last, Quit}
 use Rattle.ec_lines.specs.declared.command.Parsed.{Parsed}
 use Rattle.ec_lines.specs.declared.command.Query.{Query}
 use Rattle.ec_lines.specs.declared.command.Query.TheVariants.{Holds, Through, Intervals, Broken, At, Clashes, Events, Why}
@@ -30,6 +30,8 @@ plain_command rank Begin = begin_draft
 plain_command rank Commit = commit_draft
 plain_command rank Abort = abort_draft
 plain_command rank (Ask query) = ask (plain_query rank query)
+plain_command rank (Pairs left relation right) = ask_pairs (ground_of left) relation (ground_of right)
+plain_command rank (Related left at relation right) = ask_related (ground_of left) (rank at) relation (ground_of right)
 plain_command rank Last = ask_last
 plain_command rank Quit = quit
 
@@ -53,7 +55,7 @@ IsNamedQuery ask_clashes = Unit {0}
 IsNamedQuery ask_events = Unit {0}
 IsNamedQuery (ask_why prop t) = IsTrue (names_are_names prop)
 
--- the names in the term of a command are names, if it has a term
+-- the names in the terms of a command are names
 abbrev pub AreNamed : PlainCommand → Type 0
 AreNamed silent = Unit {0}
 AreNamed bad = Unit {0}
@@ -63,5 +65,7 @@ AreNamed begin_draft = Unit {0}
 AreNamed commit_draft = Unit {0}
 AreNamed abort_draft = Unit {0}
 AreNamed (ask query) = IsNamedQuery query
+AreNamed (ask_pairs p r q) = IsTrue (names_are_names p) × IsTrue (names_are_names q)
+AreNamed (ask_related p t r q) = IsTrue (names_are_names p) × IsTrue (names_are_names q)
 AreNamed ask_last = Unit {0}
 AreNamed quit = Unit {0}

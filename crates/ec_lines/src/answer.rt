@@ -25,6 +25,8 @@ pub enum Answer {
     NoDraft,
     FullDraft,
     Order,
+    /// More pairs stand in a relation than a reply lists.
+    FullPairs,
     Memory,
     /// An update was refused.
     Update(Cut),

@@ -7,7 +7,7 @@ ghost use Rattle.ec_lines.specs.ShownCommand.{plain_or_bad, AreNamed};
 
 use crate::command::{Command, Query};
 use crate::line_words::Words;
-use ec_commands::Keyword;
+use ec_commands::{Keyword, read_relation};
 use ec_moment::Moment;
 use ec_terms::{GroundRef, Name, read_ground};
 
@@ -116,6 +116,42 @@ fn read_why<'a, T: Moment>(prop: &'a [u8], words: &mut Words<'a>) -> Option<Comm
     Some(Command::Ask(Query::Why { prop, at }))
 }
 
+/// Reads the words behind `pairs`: a property, a relation and a property.
+#[tactic(auto, unfolding(ec_commands::specs::Commands::command_by, ec_commands::specs::Commands::name_value))]
+fn read_pairs<'a, T: Moment>(left: &'a [u8], words: &mut Words<'a>) -> Option<Command<'a, T>>
+    ensures command { plain_or_bad T.rank result ≡ command_by T.spelt Keyword.Pairs (left.now ∷ words.old) }
+    ensures names { AreNamed (plain_or_bad T.rank result) }
+{
+    let relation = read_relation(words.next()?)?;
+    let right = words.last()?;
+    let left = read_term(left)?;
+    let right = read_term(right)?;
+    Some(Command::Pairs {
+        left,
+        relation,
+        right,
+    })
+}
+
+/// Reads the words behind `related`: a property, a time, a relation and a property.
+#[tactic(auto, unfolding(ec_commands::specs::Commands::command_by, ec_commands::specs::Commands::name_value))]
+fn read_related<'a, T: Moment>(left: &'a [u8], words: &mut Words<'a>) -> Option<Command<'a, T>>
+    ensures command { plain_or_bad T.rank result ≡ command_by T.spelt Keyword.Related (left.now ∷ words.old) }
+    ensures names { AreNamed (plain_or_bad T.rank result) }
+{
+    let at = T::read(words.next()?)?;
+    let relation = read_relation(words.next()?)?;
+    let right = words.last()?;
+    let left = read_term(left)?;
+    let right = read_term(right)?;
+    Some(Command::Related {
+        left,
+        at,
+        relation,
+        right,
+    })
+}
+
 /// The command of a keyword with no words behind it.
 #[tactic(auto, unfolding(ec_commands::specs::Commands::command_by))]
 fn bare_command<'a, T: Moment>(keyword: Keyword) -> Option<Command<'a, T>>
@@ -153,6 +189,8 @@ fn read_behind<'a, T: Moment>(
         Keyword::Broken => read_broken(first, words),
         Keyword::At => read_at(first, words),
         Keyword::Why => read_why(first, words),
+        Keyword::Pairs => read_pairs(first, words),
+        Keyword::Related => read_related(first, words),
         _ => None,
     }
 }

@@ -1,3 +1,4 @@
+use ec_commands::Relation;
 use ec_terms::{GroundRef, Name};
 
 /// What can be asked of one list of events. The terms are borrowed from the line.
@@ -57,6 +58,19 @@ pub enum Command<'a, T> {
     Abort,
     /// Asks a query of the present events.
     Ask(Query<'a, T>),
+    /// Which pairs of an interval of one property and one of another stand in a relation.
+    Pairs {
+        left: GroundRef<'a>,
+        relation: Relation,
+        right: GroundRef<'a>,
+    },
+    /// To which intervals of one property that of another which covers a time stands in a relation.
+    Related {
+        left: GroundRef<'a>,
+        at: T,
+        relation: Relation,
+        right: GroundRef<'a>,
+    },
     Last,
     Quit,
 }

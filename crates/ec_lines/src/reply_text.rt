@@ -5,7 +5,7 @@ ghost use Rattle.ec_lines.specs.ShownAnswer.{plain_answer};
 
 use crate::answer::Answer;
 use ec_axioms::{Cut, MOST_EVENTS, MOST_LINKS, MOST_MENTIONS, Seen};
-use ec_commands::MOST_DRAFTED;
+use ec_commands::{MOST_DRAFTED, MOST_PAIRS};
 use ec_outside::Text;
 
 /// The text of a reply with a fixed form.
@@ -119,6 +119,10 @@ pub(crate) fn push_answer(text: &mut ReplyText, answer: &Answer)
             text.push_number(MOST_DRAFTED);
         }
         Answer::Order => text.push(b"refused order"),
+        Answer::FullPairs => {
+            text.push(b"refused full-pairs ");
+            text.push_number(MOST_PAIRS);
+        }
         Answer::Memory => text.push(b"refused memory"),
         Answer::Update(cut) => {
             text.push(b"refused ");

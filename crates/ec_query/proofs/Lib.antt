@@ -1,4 +1,4 @@
-mod HeldLemmas
+pub mod HeldLemmas
 mod BrokenLemmas
 mod ClashSearch
 mod ClashTimes
@@ -7,7 +7,7 @@ mod HoldingLemmas
 mod ListedLemmas
 mod NextOfOrder
 mod SpanLemmas
-mod WritingLemmas
+pub mod WritingLemmas
 mod StretchLemmas
 mod Lasts
 mod LastBegins

@@ -25,11 +25,13 @@ mod why_reply;
 
 pub use broken_reply::broken;
 pub use clash_reply::clashes;
+pub use counted::write_count;
 pub use event_reply::events;
 pub use explaining::why;
 pub use held::{Held, holds_at};
 pub use interval_reply::intervals;
 pub use marked::Marked;
+pub use member_text::{MemberText, set_interval};
 pub use property_reply::at;
 pub use reason::{Cause, Origin, Reason};
 pub use stretches::through;

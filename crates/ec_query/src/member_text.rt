@@ -16,8 +16,8 @@ use ec_terms::{GroundRef, LONGEST_NAME, LONGEST_TERM, text};
 /// The most bytes that a member has, with the space before it: those of an event.
 const LONGEST_MEMBER: usize = LONGEST_NAME + LONGEST_MOMENT + LONGEST_TERM + 3;
 
-/// The text of a member of a reply.
-pub(crate) type MemberText = Text<LONGEST_MEMBER>;
+/// The text of a member of a reply, which has room for the longest one.
+pub type MemberText = Text<LONGEST_MEMBER>;
 
 /// Begins the next member: the text is a space.
 fn restart(member: &mut MemberText)
@@ -44,8 +44,8 @@ fn push_end<T: Moment>(member: &mut MemberText, end: End<T>)
     }
 }
 
-/// The text of an interval, behind a space.
-pub(crate) fn set_interval<T: Moment>(member: &mut MemberText, interval: Interval<T>)
+/// Makes the text that of an interval, behind a space, whatever it was.
+pub fn set_interval<T: Moment>(member: &mut MemberText, interval: Interval<T>)
     ensures { member.new ≡ 32 ∷ interval_text T.canon (plain_interval T.rank interval) }
 {
     restart(member);

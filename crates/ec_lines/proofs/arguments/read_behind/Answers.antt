@@ -28,6 +28,12 @@ returns-in-Broken-clause-command c = grind (arith, common_steps)
 pub returns-in-Retract-clause-command : goal.returns-in-Retract-clause-command
 returns-in-Retract-clause-command c = grind (arith, common_steps)
 
+pub returns-in-Pairs-clause-command : goal.returns-in-Pairs-clause-command
+returns-in-Pairs-clause-command c = grind (arith, common_steps)
+
+pub returns-in-Related-clause-command : goal.returns-in-Related-clause-command
+returns-in-Related-clause-command c = grind (arith, common_steps)
+
 pub returns-in_default-clause-command : goal.returns-in_default-clause-command
 unfolding command_by
 returns-in_default-clause-command g c = grind (arith, common_steps)

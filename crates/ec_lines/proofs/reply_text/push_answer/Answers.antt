@@ -38,3 +38,9 @@ unfolding answer_text
 returns-in-Update-clause-text c =
     two_parts c.args.text.now _ _ c.push-in-Update.ensures.text c.push_cut.ensures.text
     ∙ ap (λ answer. c.args.text.now ++ answer_text (plain_answer answer)) (sym c.in-Update.is)
+
+pub returns-in-FullPairs-clause-text : goal.returns-in-FullPairs-clause-text
+unfolding answer_text
+returns-in-FullPairs-clause-text c =
+    two_parts c.args.text.now _ _ c.push-in-FullPairs.ensures.text c.push_number-in-FullPairs.ensures.text
+    ∙ ap (λ answer. c.args.text.now ++ answer_text (plain_answer answer)) (sym c.in-FullPairs.is)
