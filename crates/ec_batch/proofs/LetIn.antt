@@ -25,7 +25,7 @@ use Rattle.ec_parts.specs.StandFor.{View, StandForBoth}
 use Rattle.ec_parts.proofs.CachesKept.{shown_entries-moved}
 use Rattle.ec_batch.specs.Limited.{ComesIn}
 use Rattle.ec_replies.specs.Updates.{with_few_mentions}
-use Rattle.ec_batch.proofs.FoundEvents.{event_with-put, found-has_event, without-with_event}
+use Rattle.ec_changes.proofs.FoundEvents.{event_with-put, found-has_event, without-with_event}
 
 -- ---- how many mentions entries make
 

@@ -1,4 +1,3 @@
-pub mod FoundEvents
 pub mod LetIn
 pub mod WalkSteps
 pub mod Batches

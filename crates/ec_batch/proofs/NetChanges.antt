@@ -49,8 +49,9 @@ use Rattle.ec_batch.specs.declared.net.Added.{Added}
 use Rattle.ec_batch.specs.declared.net.Net.{Net}
 use Rattle.ec_batch.specs.Net.{net_in}
 use Rattle.ec_batch.specs.NetChange.{added_before, coming, going, is_back, kept_in, removal_of, stands_there}
-use Rattle.ec_batch.specs.Walk.{IsNetTo, added_event, event_with}
-use Rattle.ec_batch.proofs.FoundEvents.{event_with-member, found-has_event, found-id, found-member}
+use Rattle.ec_batch.specs.Walk.{IsNetTo, added_event}
+use Rattle.ec_changes.specs.Found.{event_with}
+use Rattle.ec_changes.proofs.FoundEvents.{event_with-member, found-has_event, found-id, found-member}
 use Rattle.ec_batch.proofs.SortedLists.{IsMember-filter_map, IsMember-moved, IsMember-moved_back, IsPairwise-filter_map, IsPairwise-sorted_by, apart_moved, nat_lt-cmp}
 use Rattle.ec_batch.proofs.WalkSteps.{stored_event}
 

@@ -3,7 +3,7 @@ use Rattle.std.proofs.Common.{◌≡◌, ◌≤◌, ◌+◌, ℕ, ℤ, zero, suc
 use Rattle.std.specs.Prelude.{bytes_eq, find, flat_map, option_map, slice_get}
 use Rattle.std.specs.List.{AllByRecursion, IsDistinct}
 use Rattle.std.specs.Map.{keys_of, lookup}
-use Rattle.std.proofs.lemmas.Bool.{cond-true, cond-false, false≢true}
+use Rattle.std.proofs.lemmas.Bool.{cond-false, false≢true}
 use Rattle.std.proofs.lemmas.List.{take_more}
 use Rattle.std.proofs.lemmas.Map.Keys.{IsDistinct-head, IsDistinct-tail}
 use Rattle.std.proofs.lemmas.List.Folds.{list_any-append}
@@ -19,9 +19,8 @@ use Rattle.ec_lists.proofs.Numbers.{bytes_eq-turned}
 use Rattle.ec_terms.specs.declared.ids.Slot.{Slot}
 use Rattle.ec_terms.specs.declared.theory.Theory.{Theory}
 use Rattle.ec_axioms.specs.Calculus.{PlainEvent}
-use Rattle.ec_axioms.specs.Changes.{has_id, is_history, with_event, without_event}
+use Rattle.ec_axioms.specs.Changes.{is_history, with_event, without_event}
 use Rattle.ec_axioms.specs.Links.{event_mentions, mentions_of, most_mentions}
-use Rattle.ec_axioms.proofs.Histories.{is_history-with_event, is_history-without_event}
 use Rattle.ec_axioms.proofs.OrderedEvents.{is_history-filter}
 use Rattle.ec_store.specs.Store.{Kept, Store, history_of, plain_of, slot_of}
 use Rattle.ec_parts.specs.declared.tally.Tally.{Tally}
@@ -29,8 +28,8 @@ use Rattle.ec_parts.specs.StandFor.{StandForBoth, View}
 use Rattle.ec_store.specs.Table.{term_at}
 use Rattle.ec_batch.specs.declared.net.Net.{Net}
 use Rattle.ec_batch.specs.Undo.{IsHalfway, IsReleasable, LeadTo, MayRestore, is_touched, put_back, untouched}
-use Rattle.ec_batch.specs.Walk.{event_with}
-use Rattle.ec_batch.proofs.FoundEvents.{event_with-put, event_with-taken, found-id, has_id-found, same_found, without_event-absent}
+use Rattle.ec_changes.specs.Found.{event_with}
+use Rattle.ec_changes.proofs.FoundEvents.{found-id, has_id-found, same_found, with-without_event, without_event-absent}
 use Rattle.ec_batch.proofs.WalkSteps.{IsNet-moved}
 
 -- ---- what is touched
@@ -145,19 +144,6 @@ pub untouched-none : (N : Type 0) (events : List PlainEvent) → untouched {N = 
 untouched-none N events = filter-each events
 
 -- ---- what was taken out is put back
-
--- an event is put back in its place
-with-without_event : (e : PlainEvent) (events : List PlainEvent) → IsTrue (is_history events) → event_with e.id events ≡ Some e → with_event e (without_event e.id events) ≡ events
-with-without_event e events history found =
-    same_found (with_event e (without_event e.id events)) events (is_history-with_event e (without_event e.id events) (is_history-without_event e.id events history) absent) history
-    (λ id. event_with-put id e (without_event e.id events) absent ∙ by_test id (bytes_eq e.id id) refl)
-  where
-    absent : IsFalse (has_id e.id (without_event e.id events))
-    absent = has_id-found e.id (without_event e.id events) ∙ ap is_some (event_with-taken e.id e.id events ∙ cond-true (bytes_eq e.id e.id) _ _ ((bytes_eq-Decides e.id e.id).1 refl))
-
-    by_test : (id : List ℕ) (own : Bool) → bytes_eq e.id id ≡ own → cond own (Some e) (event_with id (without_event e.id events)) ≡ event_with id events
-    by_test id true is = sym found ∙ ap (λ i. event_with i events) ((bytes_eq-Decides e.id id).0 is)
-    by_test id false is = event_with-taken id e.id events ∙ cond-false (bytes_eq e.id id) _ _ is
 
 -- a list without an identity that is not found there
 pub without_event-not_found : (id : List ℕ) (events : List PlainEvent) → event_with id events ≡ None → without_event id events ≡ events

@@ -39,8 +39,8 @@ use Rattle.ec_rows.specs.Ordered.{is_ascending}
 use Rattle.ec_rows.proofs.OrderedPairs.{IsPairwise-ascending}
 use Rattle.ec_batch.specs.Undo.{is_touched, untouched}
 use Rattle.ec_batch.specs.UndoChange.{IsLedTo, events_by_id, id_in, removals_by_id}
-use Rattle.ec_batch.specs.Walk.{event_with}
-use Rattle.ec_batch.proofs.FoundEvents.{event_with-member, found-has_event}
+use Rattle.ec_changes.specs.Found.{event_with}
+use Rattle.ec_changes.proofs.FoundEvents.{event_with-member, found-has_event}
 use Rattle.ec_batch.proofs.NetChanges.{slot_of-member}
 use Rattle.ec_batch.proofs.Undoing.{apart_before, event_with-untouched, history-untouched, untouched-next}
 

@@ -50,8 +50,9 @@ use Rattle.ec_batch.specs.Net.{is_present_by, net_in, old_slot_by}
 use Rattle.ec_replies.specs.Runs.{may_want_by}
 use Rattle.ec_replies.specs.Updates.{asserted, retracted, with_few_mentions}
 use Rattle.ec_replies.proofs.Limits.{length-with_event, links_of-append}
-use Rattle.ec_batch.specs.Walk.{AreLiveOrListed, HasWalkedTo, IsNet, IsNetTo, added_event, event_with}
-use Rattle.ec_batch.proofs.FoundEvents.{event_with-put, event_with-taken, found-has_event, found-id, has_id-found, length-without_event}
+use Rattle.ec_batch.specs.Walk.{AreLiveOrListed, HasWalkedTo, IsNet, IsNetTo, added_event}
+use Rattle.ec_changes.specs.Found.{event_with}
+use Rattle.ec_changes.proofs.FoundEvents.{event_with-put, event_with-taken, found-has_event, found-id, has_id-found, length-without_event}
 
 -- ---- what is listed
 

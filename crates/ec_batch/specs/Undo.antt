@@ -13,7 +13,8 @@ use Rattle.ec_store.specs.Store.{history_of, slot_of}
 use Rattle.ec_parts.specs.declared.tally.Tally.{Tally}
 use Rattle.ec_parts.specs.StandFor.{View, StandForBoth}
 use Rattle.ec_batch.specs.declared.net.Net.{Net}
-use Rattle.ec_batch.specs.Walk.{IsNetTo, added_event, event_with}
+use Rattle.ec_batch.specs.Walk.{IsNetTo, added_event}
+use Rattle.ec_changes.specs.Found.{event_with}
 
 -- an identity is among these
 abbrev pub is_touched : {N : Type 0} → List ℕ → List (List ℕ × N) → Bool

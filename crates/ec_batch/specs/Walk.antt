@@ -1,6 +1,6 @@
 -- What a walk through a batch of updates keeps: the list that the updates so far leave is that of the store, but for the
 -- identities that they touched; the tables are those of that list already, the caches still those of the store.
-use Rattle.std.specs.Prelude.{◌≡◌, ℕ, ℤ, List, find, length, Option, Some, None, option_map, Result, Ok, Err, IfSome, IsTrue, MatchResult, bytes_eq, Bool, ◌||◌}
+use Rattle.std.specs.Prelude.{◌≡◌, ℕ, ℤ, List, length, Option, Some, None, option_map, Result, Ok, Err, IfSome, IsTrue, MatchResult, Bool, ◌||◌}
 use Rattle.ec_terms.specs.declared.ground.Ground.{Ground}
 use Rattle.ec_terms.specs.declared.theory.Theory.{Theory}
 use Rattle.ec_terms.specs.Domain.{entries_of}
@@ -8,6 +8,7 @@ use Rattle.ec_axioms.specs.Calculus.{PlainEvent}
 use Rattle.ec_axioms.specs.Changes.{is_history, PlainUpdate}
 use Rattle.ec_axioms.specs.Events.{event_of}
 use Rattle.ec_axioms.specs.Links.{is_live}
+use Rattle.ec_changes.specs.Found.{event_with}
 use Rattle.ec_context.specs.Entries.{shown_entries}
 use Rattle.ec_store.specs.Store.{Kept, history_of, slot_of}
 use Rattle.ec_numbered.specs.PropSet.{has_number}
@@ -24,10 +25,6 @@ use Rattle.ec_batch.specs.Limits.{IsWithinLimits}
 use Rattle.ec_batch.specs.Net.{net_in}
 use Rattle.ec_replies.specs.Runs.{may_want_by}
 use Rattle.ec_replies.specs.Updates.{updated}
-
--- the event of an identity, if it is present
-abbrev pub event_with : List ℕ → List PlainEvent → Option PlainEvent
-event_with id events = find (λ e. bytes_eq e.id id) events
 
 -- the event that a walk put under an identity
 abbrev pub added_event : {T : Type 0} → (T → ℤ) → Option (Added T) → Option PlainEvent

@@ -2,6 +2,7 @@ pub mod JoinedMembers
 pub mod Activity
 pub mod Quiet
 pub mod KeptEvents
+pub mod FoundEvents
 pub mod Past
 pub mod Tallies
 pub mod TurnAccounts

@@ -1,3 +1,4 @@
+pub mod Found
 pub mod Differences
 pub mod QuietLaws
 pub mod Turns

@@ -31,7 +31,7 @@ use Rattle.ec_batch.specs.declared.refusal.Refusal.{Refusal}
 use Rattle.ec_batch.specs.declared.refusal.Refusal.TheVariants.{Update, Memory}
 use Rattle.ec_batch.specs.ComingIn.{HasComeIn, IsTurnedAway}
 use Rattle.ec_batch.specs.Limits.{IsWithinLimits}
-use Rattle.ec_batch.proofs.FoundEvents.{event_with-member, event_with-put, found-has_event, has_id-found}
+use Rattle.ec_changes.proofs.FoundEvents.{event_with-member, event_with-put, found-has_event, has_id-found}
 use Rattle.ec_batch.proofs.WalkSteps.{few-let_in, is_live-with, listed-more}
 use Rattle.ec_engine.specs.CarriedOut.{LeadsTo}
 use Rattle.ec_engine.specs.Revise.{IsRevised}

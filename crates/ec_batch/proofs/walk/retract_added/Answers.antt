@@ -7,7 +7,7 @@ use Rattle.ec_context.proofs.Shown.{IsKeptEntry-shown}
 use Rattle.ec_store.specs.Store.{history_of}
 use Rattle.ec_parts.specs.declared.parts.Parts.{Parts}
 use Rattle.ec_batch.proofs.Batches.{goes_on}
-use Rattle.ec_batch.proofs.FoundEvents.{found-has_event, has_id-found}
+use Rattle.ec_changes.proofs.FoundEvents.{found-has_event, has_id-found}
 use Rattle.ec_batch.proofs.WalkSteps.{stays, goes_out_by, added_found, added_shown, present, AreOfEventsWith-found, some_events, put_as, net_of, refused_absent, retracted_present, may_want-retracted}
 use Rattle.ec_batch.proofs.walk.retract_added.Goals as goal
 

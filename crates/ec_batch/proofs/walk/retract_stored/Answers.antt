@@ -8,7 +8,7 @@ use Rattle.ec_parts.specs.declared.parts.Parts.{Parts}
 use Rattle.ec_parts.specs.Mentions.{AreOfEventsWith, TakeEventOut, list_props}
 use Rattle.ec_parts.specs.StandFor.{StandForBoth, view_of}
 use Rattle.ec_batch.proofs.Batches.{goes_on}
-use Rattle.ec_batch.proofs.FoundEvents.{found-has_event, has_id-found}
+use Rattle.ec_changes.proofs.FoundEvents.{found-has_event, has_id-found}
 use Rattle.ec_batch.proofs.WalkSteps.{stays, goes_out_by, stored_under, AreOfEventsWith-found, some_events, put_as, net_of, retracted_present, may_want-retracted}
 use Rattle.ec_batch.proofs.walk.retract_stored.Goals as goal
 

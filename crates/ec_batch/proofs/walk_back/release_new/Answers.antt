@@ -7,8 +7,9 @@ use Rattle.ec_context.proofs.Shown.{IsKeptEntry-shown}
 use Rattle.ec_context.specs.Entries.{shown_entries}
 use Rattle.ec_parts.specs.StandFor.{StandForBoth, view_of}
 use Rattle.ec_batch.specs.declared.net.Added.{Added}
-use Rattle.ec_batch.specs.Walk.{added_event, event_with}
-use Rattle.ec_batch.proofs.FoundEvents.{found-has_event, found-id}
+use Rattle.ec_batch.specs.Walk.{added_event}
+use Rattle.ec_changes.specs.Found.{event_with}
+use Rattle.ec_changes.proofs.FoundEvents.{found-has_event, found-id}
 use Rattle.ec_batch.proofs.Undoing.{without_event-not_found}
 use Rattle.ec_batch.proofs.walk_back.release_new.Goals as goal
 

@@ -9,8 +9,8 @@ use Rattle.ec_axioms.specs.Calculus.{PlainEvent}
 use Rattle.ec_axioms.specs.Changes.{has_id, comes_before, is_history, has_event, with_event, without_event}
 use Rattle.ec_axioms.proofs.Histories.{history_parts, comes_before-trans, is_history-with_event, is_history-without_event, absent_parts}
 use Rattle.ec_axioms.proofs.Members.{IsMember, find-Some, list_any-false}
+use Rattle.ec_changes.specs.Found.{event_with}
 use Rattle.ec_changes.proofs.KeptEvents.{IsPairwise-from_history, comes_before-itself, same_from_members, has_event-member}
-use Rattle.ec_batch.specs.Walk.{event_with}
 
 -- an identity is present exactly where an event is found
 pub has_id-found : (id : List ℕ) (events : List PlainEvent) → has_id id events ≡ is_some (event_with id events)
@@ -140,3 +140,16 @@ without-with_event e events history absent =
     by_test : (id : List ℕ) (own : Bool) → bytes_eq e.id id ≡ own → cond own None (cond own (Some e) (event_with id events)) ≡ event_with id events
     by_test id true is = sym (none_from (event_with id events) (sym (has_id-found id events) ∙ ap (λ i. has_id i events) (sym ((bytes_eq-Decides e.id id).0 is)) ∙ absent))
     by_test id false is = refl
+
+-- what is taken out and put in again leaves the list as it was
+pub with-without_event : (e : PlainEvent) (events : List PlainEvent) → IsTrue (is_history events) → event_with e.id events ≡ Some e → with_event e (without_event e.id events) ≡ events
+with-without_event e events history found =
+    same_found (with_event e (without_event e.id events)) events (is_history-with_event e (without_event e.id events) (is_history-without_event e.id events history) absent) history
+    (λ id. event_with-put id e (without_event e.id events) absent ∙ by_test id (bytes_eq e.id id) refl)
+  where
+    absent : IsFalse (has_id e.id (without_event e.id events))
+    absent = has_id-found e.id (without_event e.id events) ∙ ap is_some (event_with-taken e.id e.id events ∙ cond-true (bytes_eq e.id e.id) _ _ ((bytes_eq-Decides e.id e.id).1 refl))
+
+    by_test : (id : List ℕ) (own : Bool) → bytes_eq e.id id ≡ own → cond own (Some e) (event_with id (without_event e.id events)) ≡ event_with id events
+    by_test id true is = sym found ∙ ap (λ i. event_with i events) ((bytes_eq-Decides e.id id).0 is)
+    by_test id false is = event_with-taken id e.id events ∙ cond-false (bytes_eq e.id id) _ _ is
