@@ -9,3 +9,5 @@ pub mod AnsweredLines
 pub mod OtherSessions
 pub mod DraftLaws
 pub mod Told
+pub mod Windows
+pub mod TakenBack

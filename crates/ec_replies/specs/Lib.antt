@@ -5,4 +5,5 @@ pub mod Replies
 pub mod Runs
 pub mod Laws
 pub mod RunLaws
+pub mod PastLaws
 pub mod Examples

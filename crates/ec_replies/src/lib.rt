@@ -1,10 +1,12 @@
 //! The replies of a state to lines, and the runs that lines make: definitions, and the laws over them.
 #![tactic(auto)]
 
+mod laws_past;
 mod laws_replies;
 mod laws_runs;
 mod worked;
 
+pub use laws_past::{accepted_updates_can_be_taken_back_law, windows_are_widest_law};
 pub use laws_replies::{
     begins_and_aborts_law, commits_are_whole_law, only_accepted_lines_change_law,
     others_keep_a_draft_law, queries_ignore_drafts_law, replies_depend_on_own_draft_law,
