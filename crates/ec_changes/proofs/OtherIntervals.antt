@@ -48,7 +48,7 @@ until_eq-Decides (Some s) (Some t) = (
 )
 
 -- so that of intervals the same intervals
-interval_eq-Decides : (i j : Interval) → Decides (interval_eq i j) (i ≡ j)
+pub interval_eq-Decides : (i j : Interval) → Decides (interval_eq i j) (i ≡ j)
 interval_eq-Decides i j = (
   λ h.
       let both = and_parts (begin_eq i.from j.from) (option_eq int_eq i.until j.until) h in

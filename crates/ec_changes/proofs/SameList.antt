@@ -32,7 +32,7 @@ unfolding events_only_in
 events_only_in-none events = filter_none (λ e. not (has_event events e)) events (λ e member. not_from_true (has_event events e) (has_event-member events e member))
 
 -- no property has other intervals than its own
-has_other_intervals-none : (theory : Theory) (events : List PlainEvent) (p : Ground) → IsFalse (has_other_intervals theory events events p)
+pub has_other_intervals-none : (theory : Theory) (events : List PlainEvent) (p : Ground) → IsFalse (has_other_intervals theory events events p)
 unfolding has_other_intervals
 has_other_intervals-none theory events p = ap not ((intervals_eq-Decides (intervals_of theory events p) (intervals_of theory events p)).1 refl)
 

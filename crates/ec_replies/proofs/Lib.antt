@@ -11,3 +11,5 @@ pub mod DraftLaws
 pub mod Told
 pub mod Windows
 pub mod TakenBack
+pub mod BeginOrder
+pub mod NoteLemmas

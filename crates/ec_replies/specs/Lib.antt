@@ -6,4 +6,6 @@ pub mod Runs
 pub mod Laws
 pub mod RunLaws
 pub mod PastLaws
+pub mod Notes
+pub mod NoteLaws
 pub mod Examples

@@ -1,11 +1,13 @@
 //! The replies of a state to lines, and the runs that lines make: definitions, and the laws over them.
 #![tactic(auto)]
 
+mod laws_notes;
 mod laws_past;
 mod laws_replies;
 mod laws_runs;
 mod worked;
 
+pub use laws_notes::{no_note_where_nothing_differs_law, notes_tell_the_intervals_law};
 pub use laws_past::{accepted_updates_can_be_taken_back_law, windows_are_widest_law};
 pub use laws_replies::{
     begins_and_aborts_law, commits_are_whole_law, only_accepted_lines_change_law,
