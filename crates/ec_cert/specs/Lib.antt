@@ -1,0 +1,3 @@
+pub mod EventFile
+pub mod Verdicts
+pub mod Examples
