@@ -171,7 +171,7 @@ impl Feed {
 }
 
 /// Whether the last byte is a carriage return.
-fn ends_with_return(bytes: &[u8]) -> bool
+pub(crate) fn ends_with_return(bytes: &[u8]) -> bool
     ensures { IsTrue result ↔ ((0 < length bytes.now) × (slice_index bytes.now (length bytes.now - 1) ≡ carriage_return)) }
 {
     matches!(bytes, [.., b'\r'])

@@ -9,6 +9,7 @@ mod line;
 mod line_reading;
 mod line_words;
 mod reply_text;
+mod splitting;
 
 pub use answer::{Answer, write_answer, write_front, write_text};
 pub use command::{Command, Parsed, Query};
@@ -18,3 +19,4 @@ pub use feed::Feed;
 pub use line::Line;
 pub use line_reading::read_command;
 pub use reply_text::ReplyText;
+pub use splitting::split_line;
