@@ -1,16 +1,18 @@
 //! One event comes into the tables of the list of the store, or a limit refuses it.
-ghost use Rattle.std.specs.Prelude.{◌≡◌, ◌+◌, ◌≤◌, false, IfOk, length};
+ghost use Rattle.std.specs.Prelude.{◌≡◌, ◌+◌, ◌≤◌, List, false, IfOk, length};
+ghost use Rattle.ec_axioms.specs.Calculus.{PlainEvent};
 ghost use Rattle.ec_axioms.specs.Changes.{has_id};
 ghost use Rattle.ec_axioms.specs.Events.{event_of};
 ghost use Rattle.ec_axioms.specs.Links.{most_events};
 ghost use Rattle.ec_store.specs.Store.{history_of};
 ghost use Rattle.ec_parts.specs.StandFor.{StandFor, view_of};
-ghost use Rattle.ec_batch.specs.ComingIn.{IsLet};
+ghost use Rattle.ec_batch.specs.ComingIn.{HasComeAhead, IsAhead, IsAheadOfSome, IsLet};
 ghost use Rattle.ec_batch.specs.Limits.{IsWithinLimits};
 
 use crate::idle::forget_idle;
 use crate::limited::take_in;
 use crate::refusal::Refusal;
+use crate::walk::Stop;
 use ec_axioms::Event;
 use ec_context::EntryList;
 use ec_moment::Moment;
@@ -45,4 +47,29 @@ pub fn let_in<T: Moment, M: MarkRow<T>, I: SpanRow<T>, X: TimeRow<T>>(
         return Err(Refusal::Update { place: 1, cut });
     }
     Ok(list)
+}
+
+/// Lets an event into tables that are ahead of the store, of a list from which its identity is absent. `Err`: a limit refuses
+/// it, or memory ran out. Then the tables are of no more use: what was entered is not taken back.
+pub fn come_in<T: Moment, M: MarkRow<T>, I: SpanRow<T>, X: TimeRow<T>>(
+    alloc: Global,
+    parts: &mut Parts<T, M, I, X>,
+    tally: &mut Tally,
+    event: &Event<T>,
+) -> Result<(), Stop>
+    requires ahead { IsAheadOfSome T.rank parts.old.checked (event_of T.rank event.now) (view_of parts.old) tally.old }
+    ensures come { (now soon : List PlainEvent) → IsAhead T.rank parts.old.checked (event_of T.rank event.now) (view_of parts.old) tally.old now soon →
+        HasComeAhead T.rank parts.old.checked now soon (event_of T.rank event.now) (view_of parts.new) tally.new result }
+    ensures theory { parts.new.checked ≡ parts.old.checked }
+    ensures store { parts.new.store ≡ parts.old.store }
+{
+    let mut fresh = Vec::new(alloc);
+    let list = match enter(alloc, parts, event, &mut fresh) {
+        Ok(list) => list,
+        Err(none) => return Err(Stop::Memory(none)),
+    };
+    match take_in(parts, tally, &list) {
+        Ok(()) => Ok(()),
+        Err(cut) => Err(Stop::Refused(cut)),
+    }
 }

@@ -16,11 +16,11 @@ mod walk_back;
 
 pub use attempting::{attempt, start};
 pub use change_back::undo_change;
-pub use coming_in::let_in;
+pub use coming_in::{come_in, let_in};
 pub use idle::forget_idle;
 pub use net::{Added, Net, Nets};
 pub use net_changes::net_change;
 pub use refusal::Refusal;
 pub use through::walk_in;
-pub use walk::Walk;
+pub use walk::{Stop, Walk};
 pub use walk_back::undo;

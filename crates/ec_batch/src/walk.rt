@@ -20,9 +20,10 @@ use ec_terms::{Name, PropId, Slot};
 use std::alloc::Global;
 use std::sync::ledger::Ledger;
 
-/// Why a walk does not go on.
+/// Why a walk does not go on, or an event does not come in.
 #[derive(Drop)]
-pub(crate) enum Stop {
+pub enum Stop {
+    /// A limit, an identity that is present, or one that is absent.
     Refused(Cut),
     Memory(NoMemory),
 }
