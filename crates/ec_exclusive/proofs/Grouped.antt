@@ -1,13 +1,11 @@
 -- What the groups say of the added properties, and what they are when a property comes or goes.
-use Rattle.std.proofs.Common.{◌≡◌, ◌≢◌, ℕ, Bool, true, false, not, cond, ◌&&◌, ◌||◌, IsSome, List, [], filter, Option, Some, None, is_some, refl, sym, ap, ap₂, subst, ◌∙◌, ◌⊎◌, inl, inr, ⊎_elim, arith}
-use Rattle.std.specs.Prelude.{◌==◌, option_map, bytes_eq}
+use Rattle.std.proofs.Common.{◌≡◌, ◌≢◌, ℕ, Bool, true, false, not, cond, ◌&&◌, ◌||◌, IsSome, List, [], filter, Option, Some, None, is_some, refl, sym, ap, subst, ◌∙◌, ⊎_elim, arith}
+use Rattle.std.specs.Prelude.{◌==◌, option_map}
 use Rattle.std.specs.List.{list_any}
-use Rattle.std.proofs.lemmas.Bool.{cases_Bool, false≢true, eqb-true}
+use Rattle.std.proofs.lemmas.Bool.{cases_Bool, eqb-true}
 use Rattle.std.proofs.lemmas.List.{get_or_past}
-use Rattle.std.proofs.Math.Bool.{or-false, not-and_self}
 use Rattle.ec_lists.proofs.Options.{is_some-option_map}
 use Rattle.ec_lists.proofs.Numbers.{eqb-apart}
-use Rattle.ec_lists.proofs.Tests.{list_any-same, list_any-map, list_any-and}
 use Rattle.ec_terms.specs.declared.ids.PropId.{PropId}
 use Rattle.ec_terms.specs.declared.ground.Ground.{Ground}
 use Rattle.ec_terms.specs.declared.theory.Theory.{Theory}
@@ -18,27 +16,15 @@ use Rattle.ec_numbered.proofs.Numbers.{same_members, has_number-filter}
 use Rattle.ec_exclusive.specs.declared.forms.Form.{Form}
 use Rattle.ec_exclusive.specs.declared.rows.Row.{Row}
 use Rattle.ec_exclusive.specs.Added.{added_props, is_added, added_of, AreMutual}
-use Rattle.ec_exclusive.specs.Forms.{TermForm, form_in, form_kept, stands_under}
+use Rattle.ec_exclusive.specs.Forms.{form_in, form_kept}
 use Rattle.ec_exclusive.specs.Groups.{Grouped, in_group, is_among}
-use Rattle.ec_exclusive.specs.Keys.{own_keys, other_keys, is_key}
+use Rattle.ec_exclusive.specs.Keys.{other_keys}
 use Rattle.ec_exclusive.specs.Kept.{numbers_in, list_at, lists_of, list_with, list_left, view_of, AreKept}
-use Rattle.ec_exclusive.specs.Neighbours.{AreNeighbours, Neighbourhoods, both_exclusive, exclusive_at, excludes_at}
-use Rattle.ec_exclusive.proofs.KeptLists.{numbered}
+use Rattle.ec_exclusive.specs.Neighbours.{AreNeighbours, Neighbourhoods, exclusive_at, excludes_at}
 use Rattle.ec_exclusive.proofs.Excluding.{are_ascending-filter}
-use Rattle.ec_exclusive.proofs.KeyLemmas.{exclusive-common}
-use Rattle.ec_exclusive.proofs.FormLemmas.{form_at-term}
+use Rattle.ec_exclusive.specs.CurrentProps.{HasForms, forms_in}
+use Rattle.ec_exclusive.proofs.Grouping.{kept_at-forms_in, in_group-formless, in_group-known, exclusive-found, AreGrouped-none, AreGrouped-with, AreGrouped-less, AreGrouped-same}
 use Rattle.ec_exclusive.proofs.RowLemmas.{AreMutual-none, is_some-rows, are_ascending-rows, form-added}
-use Rattle.ec_exclusive.proofs.SameTerms.{kept-added}
-
--- a form that is not there stands under no key
-stands_under-none : (key : List ℕ) (o : Option TermForm) → is_some o ≡ false → stands_under key o ≡ false
-stands_under-none key None none = refl
-stands_under-none key (Some form) none = absurd (false≢true (sym none))
-
--- a kept form stands under the keys that it has
-stands_under-form : (key : List ℕ) (n : ℕ) (forms : List (Option Form)) (form : Form) → kept_at n forms ≡ Some form → stands_under key (form_kept n forms) ≡ is_among form.keys.items key
-stands_under-form key n forms form is =
-    ap (λ o. stands_under key (option_map form_in o)) is ∙ list_any-map (λ (t : List ℕ). bytes_eq t key) (λ text. text.items) form.keys.items
 
 -- nothing is kept
 pub AreKept-none : (lists : List (Option Row)) (forms : List (Option Form)) (groups : List Grouped) → lists ≡ [] → forms ≡ [] → groups ≡ [] →
@@ -46,7 +32,7 @@ pub AreKept-none : (lists : List (Option Row)) (forms : List (Option Form)) (gro
 AreKept-none lists forms groups no_lists no_forms no_groups = record {
   lists = AreMutual-none lists no_lists;
   both = λ q. ap (λ fs. is_some (kept_at q.0 fs)) no_forms ∙ none q.0 ∙ sym (ap (λ ls. is_some (list_at q ls)) no_lists ∙ no_list q.0);
-  grouped = λ key n. ap (λ gs. in_group gs key n) no_groups ∙ sym (ap (λ fs. stands_under key (form_kept n fs)) no_forms ∙ no_form key n);
+  grouped = AreGrouped-none forms groups no_forms no_groups;
 }
   where
     none : (n : ℕ) → is_some (kept_at {X = Form} n []) ≡ false
@@ -55,69 +41,42 @@ AreKept-none lists forms groups no_lists no_forms no_groups = record {
     no_list : (n : ℕ) → is_some (numbers_in (kept_at {X = Row} n [])) ≡ false
     no_list n = ap (λ o. is_some (numbers_in o)) (get_or_past {X = Option Row} [] n None (omega arith))
 
-    no_form : (key : List ℕ) (n : ℕ) → stands_under key (form_kept n []) ≡ false
-    no_form key n = ap (λ o. stands_under key (option_map form_in o)) (get_or_past {X = Option Form} [] n None (omega arith))
-
 module _ (lists : List (Option Row)) (forms : List (Option Form)) (groups : List Grouped) (kept : AreKept lists forms groups) where
   module _ (added : Neighbourhoods) (shown : view_of lists forms ≡ added) where
     rows_are : added_of (lists_of lists) ≡ added.rows
     rows_are = ap (λ (v : Neighbourhoods). v.rows) shown
 
     -- an added property has a form, and no other has one
-    form-there : (p : PropId) → is_some (form_kept p.0 forms) ≡ is_added p added.rows
-    form-there p = is_some-option_map form_in (kept_at p.0 forms) ∙ kept.both p ∙ is_some-rows lists added.rows p rows_are
-
     pub form_kept-there : (p : PropId) → is_some (kept_at p.0 forms) ≡ is_added p added.rows
     form_kept-there p = kept.both p ∙ is_some-rows lists added.rows p rows_are
 
+    form-there : (p : PropId) → is_some (form_kept p.0 forms) ≡ is_added p added.rows
+    form-there p = is_some-option_map form_in (kept_at p.0 forms) ∙ form_kept-there p
+
     -- a property that is not added stands in no group
     pub in_group-absent : (p : PropId) → is_added p added.rows ≡ false → (key : List ℕ) → in_group groups key p.0 ≡ false
-    in_group-absent p absent key = kept.grouped key p.0 ∙ stands_under-none key (form_kept p.0 forms) (form-there p ∙ absent)
+    in_group-absent p absent = in_group-formless forms groups kept.grouped p.0 (form-there p ∙ absent)
 
     module _ (theory : Theory) (table : List KeptProp) (are : AreNeighbours theory table added) where
+      has_forms : HasForms theory table (forms_in forms)
+      has_forms p there =
+          kept_at-forms_in p.0 forms
+          ∙ form-added lists forms added p theory table shown are (sym (form-there p) ∙ ap is_some (sym (kept_at-forms_in p.0 forms)) ∙ there)
+
       -- what stands in a group is kept
       pub in_group-kept : (key : List ℕ) (n : ℕ) → in_group groups key n ≡ true → IsSome (prop_at n table)
-      in_group-kept key n there =
-          ⊎_elim (λ yes. kept-added theory table added (numbered n) are yes) (λ no. absurd (false≢true (sym (in_group-absent (numbered n) no key) ∙ there)))
-          (cases_Bool (is_added (numbered n) added.rows))
+      in_group-kept = in_group-known forms groups kept.grouped theory table has_forms
 
-      module _ (term : Ground) where
-        any : PropId → Bool
-        any q = list_any (λ key. in_group groups key q.0) (other_keys theory.exclusives term)
-
-        -- what is exclusive to the term is found where it is added
-        any-exclusive : (q : PropId) (o : Option Ground) → term_at q.0 table ≡ o → both_exclusive theory (Some term) o ≡ true → is_added q added.rows ≡ true → any q ≡ true
-        unfolding any
-        any-exclusive q None is exclusive there = absurd (false≢true exclusive)
-        any-exclusive q (Some other) is exclusive there =
-            list_any-same (λ key. in_group groups key q.0) (is_key (own_keys theory.exclusives other))
-            (λ key. kept.grouped key q.0
-            ∙ ap (stands_under key) (form-added lists forms added q theory table shown are there ∙ form_at-term theory table q other is)) (other_keys theory.exclusives term)
-            ∙ exclusive-common theory term other exclusive
-
-        any-absent : (q : PropId) → is_added q added.rows ≡ false → any q ≡ false
-        unfolding any
-        any-absent q absent =
-            list_any-same (λ key. in_group groups key q.0) (λ key. false) (λ key. in_group-absent q absent key) (other_keys theory.exclusives term)
-            ∙ sym (list_any-and false (λ (key : List ℕ). false) (other_keys theory.exclusives term))
-
-        -- what is found is the neighbours
-        pub own-found : (p : PropId) (found : List PropId) → term_at p.0 table ≡ Some term → are_ascending found ≡ true →
-            ((q : PropId) → has_number q.0 found ≡ (excludes_at theory table term q && list_any (λ key. in_group groups key q.0) (other_keys theory.exclusives term))) →
-            found ≡ filter (exclusive_at theory table p) (added_props added.rows)
-        unfolding any
-        own-found p found is ascending members =
-            same_members found (filter (exclusive_at theory table p) (added_props added.rows)) ascending
-            (are_ascending-filter (exclusive_at theory table p) (added_props added.rows) (are_ascending-rows lists added.rows rows_are))
-            (λ q. members q ∙ rest q (cases_Bool (excludes_at theory table term q)) (cases_Bool (is_added q added.rows))
-            ∙ ap (λ t. both_exclusive theory t (term_at q.0 table) && is_added q added.rows) (sym is)
-            ∙ sym (has_number-filter q (exclusive_at theory table p) (added_props added.rows)))
-          where
-            rest : (q : PropId) → (excludes_at theory table term q ≡ true) ⊎ (excludes_at theory table term q ≡ false) → (is_added q added.rows ≡ true) ⊎ (is_added q added.rows ≡ false) →
-                (excludes_at theory table term q && any q) ≡ (excludes_at theory table term q && is_added q added.rows)
-            rest q (inl excludes) (inl there) = ap (λ b. excludes_at theory table term q && b) (any-exclusive q (term_at q.0 table) refl excludes there ∙ sym there)
-            rest q (inl excludes) (inr absent) = ap (λ b. excludes_at theory table term q && b) (any-absent q absent ∙ sym absent)
-            rest q (inr other) here = ap (λ b. b && any q) other ∙ sym (ap (λ b. b && is_added q added.rows) other)
+      -- what is found is the neighbours
+      pub own-found : (term : Ground) (p : PropId) (found : List PropId) → term_at p.0 table ≡ Some term → are_ascending found ≡ true →
+          ((q : PropId) → has_number q.0 found ≡ (excludes_at theory table term q && list_any (λ key. in_group groups key q.0) (other_keys theory.exclusives term))) →
+          found ≡ filter (exclusive_at theory table p) (added_props added.rows)
+      own-found term p found is ascending members =
+          same_members found (filter (exclusive_at theory table p) (added_props added.rows)) ascending
+          (are_ascending-filter (exclusive_at theory table p) (added_props added.rows) (are_ascending-rows lists added.rows rows_are))
+          (λ q. members q ∙ exclusive-found forms groups kept.grouped theory table has_forms term p q is
+          ∙ ap (λ b. exclusive_at theory table p q && b) (form-there q)
+          ∙ sym (has_number-filter q (exclusive_at theory table p) (added_props added.rows)))
 
   -- ---- a property more
 
@@ -139,13 +98,7 @@ module _ (lists : List (Option Row)) (forms : List (Option Form)) (groups : List
         (λ e. ap is_some (ap (λ n. kept_at n more) (sym (eqb-true p.0 q.0 e)) ∙ set) ∙ sym (ap is_some (with_own q ∙ ap (λ b. cond b (Some own) (cond (has_number q.0 own) (option_map (with_number p) (list_at q lists)) (list_at q lists))) e)))
         (λ e. ap is_some (others q.0 (eqb-apart p.0 q.0 e)) ∙ kept.both q ∙ sym (ap is_some (with_own q) ∙ is_some-with p q own (list_at q lists) e))
         (cases_Bool (p.0 == q.0));
-    grouped = λ key n. ⊎_elim
-        (λ e. enters key n ∙ ap₂ (λ b c. (b && is_among form.keys.items key) || c) e (ap (in_group groups key) (sym (eqb-true p.0 n e)) ∙ absent key)
-        ∙ or-false (is_among form.keys.items key)
-        ∙ sym (stands_under-form key n more form (ap (λ m. kept_at m more) (sym (eqb-true p.0 n e)) ∙ set)))
-        (λ e. enters key n ∙ ap (λ b. (b && is_among form.keys.items key) || in_group groups key n) e ∙ kept.grouped key n
-        ∙ sym (ap (λ o. stands_under key (option_map form_in o)) (others n (eqb-apart p.0 n e))))
-        (cases_Bool (p.0 == n));
+    grouped = AreGrouped-with forms groups kept.grouped p more form entered absent set others enters;
   }
 
   -- ---- a property less
@@ -169,13 +122,7 @@ module _ (lists : List (Option Row)) (forms : List (Option Form)) (groups : List
         ∙ sym (ap is_some (without q ∙ ap (λ b. cond b None (cond (has_number q.0 own) (option_map (without_number p) (list_at q lists)) (list_at q lists))) e)))
         (λ e. ap is_some (others q.0 (λ is. eqb-apart q.0 p.0 e (sym is))) ∙ kept.both q ∙ sym (ap is_some (without q) ∙ is_some-left p q own (list_at q lists) e))
         (cases_Bool (q.0 == p.0));
-    grouped = λ key n. ⊎_elim
-        (λ e. leaves key n ∙ ap₂ (λ b c. not (b && is_among form.keys.items key) && c) e
-        (kept.grouped key n ∙ stands_under-form key n forms form (ap (λ m. kept_at m forms) (sym (eqb-true p.0 n e)) ∙ was))
-        ∙ not-and_self (is_among form.keys.items key) ∙ sym (ap (λ o. stands_under key (option_map form_in o)) (ap (λ m. kept_at m less) (sym (eqb-true p.0 n e)) ∙ gone)))
-        (λ e. leaves key n ∙ ap (λ b. not (b && is_among form.keys.items key) && in_group groups key n) e ∙ kept.grouped key n
-        ∙ sym (ap (λ o. stands_under key (option_map form_in o)) (others n (eqb-apart p.0 n e))))
-        (cases_Bool (p.0 == n));
+    grouped = AreGrouped-less forms groups kept.grouped p less form left was gone others leaves;
   }
 
   -- rows and groups that say the same
@@ -184,5 +131,5 @@ module _ (lists : List (Option Row)) (forms : List (Option Form)) (groups : List
   AreKept-same new more other rows same_lists same_forms same_groups = record {
     lists = subst AreMutual (sym rows) kept.lists;
     both = λ q. ap is_some (same_forms q.0) ∙ kept.both q ∙ sym (ap is_some (same_lists q));
-    grouped = λ key n. same_groups key n ∙ kept.grouped key n ∙ sym (ap (λ o. stands_under key (option_map form_in o)) (same_forms n));
+    grouped = AreGrouped-same forms groups kept.grouped more other same_forms same_groups;
   }

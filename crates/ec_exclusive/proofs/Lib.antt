@@ -10,4 +10,5 @@ pub mod KeyLemmas
 pub mod RowLemmas
 pub mod NewRow
 pub mod SameTerms
+pub mod Grouping
 pub mod Grouped

@@ -4,3 +4,4 @@ pub mod Groups
 pub mod Kept
 pub mod Keys
 pub mod Neighbours
+pub mod CurrentProps
