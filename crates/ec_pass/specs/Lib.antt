@@ -1,0 +1,5 @@
+pub mod Numbers
+pub mod Settled
+pub mod Looked
+pub mod Present
+pub mod Written
