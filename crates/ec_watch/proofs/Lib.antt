@@ -1,0 +1,4 @@
+pub mod Rows
+pub mod Edits
+pub mod Cuts
+pub mod Lists
