@@ -65,6 +65,35 @@ later-start p i is = by_cases i.from is
     by_cases before_all is = is
     by_cases (begin_at s) is = refl
 
+-- ---- what ends before an instant
+
+-- what marks from an instant on spell does not end before it
+later-ends : (a : ℤ) (strong : Bool) (begun : Option Begin) (marks : List PlainMark) → list_all (λ (m : PlainMark). not (int_lt m.instant a)) marks ≡ true
+    → list_all (λ i. not (ends_before a i)) (pass interval_by strong begun marks) ≡ true
+later-ends a strong begun marks from_a =
+    ap (list_all (λ i. not (ends_before a i))) (pass-spelt_through strong begun marks)
+    ∙ list_all-both (λ i. not (ends_before a i)) (ended_through strong begun marks) (option_to_list (lasting (Some None) (open_through strong begun marks)))
+    (list_all-weaker (ends_where (λ e. not (int_lt e a))) (λ i. not (ends_before a i)) (λ i ends. other i.until ends) (ended_through strong begun marks)
+    (ended_through-ends (λ e. not (int_lt e a)) strong begun marks from_a))
+    (last (open_through strong begun marks))
+  where
+    other : (until : Option ℤ) → option_map_or (λ e. not (int_lt e a)) until false ≡ true → not (option_map_or (λ e. int_lt e a) until false) ≡ true
+    other None ends = refl
+    other (Some e) ends = ends
+
+    last : (left : Option Begin) → list_all (λ i. not (ends_before a i)) (option_to_list (lasting (Some None) left)) ≡ true
+    last None = refl
+    last (Some begin) = refl
+
+-- So what a row spells that ends before an instant is what its marks before it end.
+pub ends_before-pass : (a : ℤ) (strong : Bool) (begun : Option Begin) (before marks : List PlainMark) → list_all (λ (m : PlainMark). int_lt m.instant a) before ≡ true
+    → list_all (λ (m : PlainMark). not (int_lt m.instant a)) marks ≡ true
+    → filter (ends_before a) (pass interval_by strong begun (before ++ marks)) ≡ ended_through strong begun before
+ends_before-pass a strong begun before marks before_a from_a =
+    filter-front (ends_before a) (ended_through strong begun before) (pass interval_by strong (open_through strong begun before) marks) (pass interval_by strong begun (before ++ marks))
+    (sym (pass-append strong begun before marks))
+    (ended_through-ends (λ e. int_lt e a) strong begun before before_a) (later-ends a strong (open_through strong begun before) marks from_a)
+
 -- ---- the window
 
 module _ (strong initial : Bool) (a b : ℤ) (before : List PlainMark) (front starts : List Interval)
@@ -85,25 +114,9 @@ module _ (strong initial : Bool) (a b : ℤ) (before : List PlainMark) (front st
     kept-ends : list_all (ends_before a) kept ≡ true
     kept-ends = ended_through-ends (λ e. int_lt e a) strong (first_open initial) before before_a
 
-    left-ends : list_all (λ i. not (ends_before a i)) (pass interval_by strong opened old) ≡ true
-    left-ends =
-        ap (list_all (λ i. not (ends_before a i))) (pass-spelt_through strong opened old)
-        ∙ list_all-both (λ i. not (ends_before a i)) (ended_through strong opened old) (option_to_list (lasting (Some None) (open_through strong opened old)))
-        (list_all-weaker (ends_where (λ e. not (int_lt e a))) (λ i. not (ends_before a i)) (λ i ends. other i.until ends) (ended_through strong opened old)
-        (ended_through-ends (λ e. not (int_lt e a)) strong opened old from_a))
-        (last (open_through strong opened old))
-      where
-        other : (until : Option ℤ) → option_map_or (λ e. not (int_lt e a)) until false ≡ true → not (option_map_or (λ e. int_lt e a) until false) ≡ true
-        other None ends = refl
-        other (Some e) ends = ends
-
-        last : (begun : Option Begin) → list_all (λ i. not (ends_before a i)) (option_to_list (lasting (Some None) begun)) ≡ true
-        last None = refl
-        last (Some begin) = refl
-
     -- what ends before the window is what stays
     pub kept-filter : filter (ends_before a) (front ++ starts) ≡ kept
-    kept-filter = filter-front (ends_before a) kept (pass interval_by strong opened old) (front ++ starts) (sym whole) kept-ends left-ends
+    kept-filter = ap (filter (ends_before a)) is ∙ ends_before-pass a strong (first_open initial) before old before_a from_a
 
     pub kept-taken : (lo : ℕ) → list_all (ends_before a) (take lo starts) ≡ true → list_all (λ i. not (ends_before a i)) (drop lo starts) ≡ true →
         filter (ends_before a) front ++ take lo starts ≡ kept

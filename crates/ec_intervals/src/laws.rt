@@ -1,5 +1,5 @@
 //! The laws of rows of intervals, each the contract of a function that does nothing.
-ghost use Rattle.ec_intervals.specs.ChangedRows.{GrowthIsBounded, InertMarksSpellNothing};
+ghost use Rattle.ec_intervals.specs.ChangedRows.{GrowthIsBounded, InertMarksSpellNothing, WhatEndsBeforeAChangeStays};
 ghost use Rattle.ec_intervals.specs.Laws.{MarksAreReadInParts, OpenBeginsAreToldByOneMark, SpansAreFew};
 
 use ec_moment::Moment;
@@ -30,4 +30,9 @@ pub fn growth_is_bounded_law<T: Moment>()
 /// change among such marks leaves the intervals as they are.
 pub fn inert_marks_spell_nothing_law<T: Moment>()
     ensures { InertMarksSpellNothing T.rank }
+{}
+
+/// What ends before an instant is known by the marks before it: a change from there on leaves it as it is.
+pub fn what_ends_before_a_change_stays_law<T: Moment>()
+    ensures { WhatEndsBeforeAChangeStays T.rank }
 {}
