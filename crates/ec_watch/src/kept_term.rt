@@ -10,7 +10,7 @@ use std::marker::Model;
 
 /// A ground term with all its arguments in place, so that to keep it takes no memory.
 #[derive(Drop)]
-pub(crate) struct KeptTerm {
+pub struct KeptTerm {
     name: Name,
     args: ArrayVec<Arg, MOST_ARGS>,
 }

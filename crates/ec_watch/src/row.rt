@@ -1,4 +1,4 @@
-//! A row of the table of what is watched.
+//! A watched property.
 ghost use Rattle.std.specs.Prelude.{◌≡◌, ◌<◌, ◌==◌, ℕ, true, false, slice_set, replicate, length, IsTrue};
 ghost use Rattle.std.specs.List.{list_any};
 ghost use Rattle.ec_terms.specs.Term.{ground_of, names_are_names, term_cmp};
@@ -12,11 +12,11 @@ use std::cmp::Ordering;
 /// How many sessions there are.
 pub(crate) const ALL: usize = SESSIONS as usize;
 
-/// A watched property, and which sessions watch it.
+/// A watched property, and which sessions watch it: a place for each session.
 #[derive(Drop)]
-pub(crate) struct Row {
-    prop: KeptTerm,
-    sessions: [bool; ALL],
+pub struct Row {
+    pub prop: KeptTerm,
+    pub sessions: [bool; ALL],
 }
 
 impl Row {
@@ -43,7 +43,7 @@ impl Row {
     }
 
     /// The property.
-    pub(crate) fn prop(&self) -> GroundRef<'_>
+    pub fn prop(&self) -> GroundRef<'_>
         ensures same { ground_of result ≡ self.now.prop }
         ensures names { IsTrue (names_are_names self.now.prop) }
     {
@@ -51,7 +51,7 @@ impl Row {
     }
 
     /// Whether a session watches the property.
-    pub(crate) fn is_watched_by(&self, session: u8) -> bool
+    pub fn is_watched_by(&self, session: u8) -> bool
         requires session { session < SESSIONS }
         ensures { result ≡ is_watched_by session self.now }
     {

@@ -2,11 +2,10 @@
 ghost use Rattle.std.specs.List.Sorted.{IsPartitionPoint};
 ghost use Rattle.std.specs.Vec.{vec_capacity};
 ghost use Rattle.ec_terms.specs.declared.ground.Ground.{Ground};
-ghost use Rattle.std.specs.Prelude.{◌≡◌, ◌≤◌, ◌<◌, ◌*◌, ℕ, IsTrue, IfOk, IfErr, OnOk, OnErr, length, replicate, slice_set, [], false, true};
-ghost use Rattle.ec_axioms.specs.Links.{with_property};
+ghost use Rattle.std.specs.Prelude.{◌≡◌, ◌≤◌, ◌<◌, ◌*◌, ℕ, IsTrue, IfOk, IfErr, IfNone, IfSome, OnOk, OnErr, length, replicate, [], false, true};
 ghost use Rattle.ec_terms.specs.Term.{ground_of, names_are_names};
 ghost use Rattle.ec_rows.specs.Ordered.{is_ascending};
-ghost use Rattle.ec_watch.specs.Watched.{AreRows, HasUnwatched, HasWatched, IsFree, IsRefusedWatch, IsThere, comes_first, has_property, is_below, watched_by, watched_by_each, watched_in, without_property};
+ghost use Rattle.ec_watch.specs.Watched.{AreRows, HasUnwatched, HasWatched, IsFree, IsRefusedWatch, IsThere, comes_first, has_property, is_below, watched_by, watched_by_each};
 
 use crate::row::{ALL, Row};
 use ec_commands::{MOST_WATCHED, SESSIONS};
@@ -128,7 +127,7 @@ fn leave(rows: &mut Vec<Row>, place: usize, session: u8) -> bool
     true
 }
 
-/// What each session watches. Contracts see a list of properties for each session, in term order.
+/// What each session watches: a row for each watched property, in term order.
 #[derive(Drop)]
 pub struct Watches {
     rows: Vec<Row>,
@@ -138,13 +137,13 @@ impl Model for Watches {
     ghost use Rattle.std.specs.Prelude.{List, ◌≤◌, ◌*◌};
     ghost use Rattle.std.specs.List.Sorted.{IsPartitionPoint};
     ghost use Rattle.std.specs.Vec.{vec_capacity};
-    ghost use Rattle.ec_terms.specs.declared.ground.Ground.{Ground};
+    ghost use Rattle.ec_watch.specs.declared.row.Row.{Row};
     ghost use Rattle.ec_commands.specs.declared.limits.TheConstants.{MOST_WATCHED, SESSIONS};
-    ghost use Rattle.ec_watch.specs.Watched.{AreRows, watched_by_each};
+    ghost use Rattle.ec_watch.specs.Watched.{AreRows};
 
-    ghost Value = { List (List Ground) };
+    ghost Value = { List Row };
 
-    ghost view = { λ watches. watched_by_each watches.rows.items };
+    ghost view = { λ watches. watches.rows.items };
 
     ghost invariant = { λ watches. AreRows watches.rows.items × (SESSIONS * MOST_WATCHED ≤ vec_capacity watches.rows) };
 }
@@ -161,7 +160,7 @@ pub enum WatchRefusal {
 impl Watches {
     /// No watch, with room for all that there may be. `Err`: memory ran out.
     pub fn new(alloc: Global) -> Result<Watches, NoMemory>
-        ensures { IfOk result (λ watches. watches ≡ replicate SESSIONS []) }
+        ensures { IfOk result (λ watches. watched_by_each watches ≡ replicate SESSIONS []) }
     {
         let mut rows = Vec::new(alloc);
         rows.reserve(MOST_ROWS)?;
@@ -172,10 +171,8 @@ impl Watches {
     pub fn watch(&mut self, session: u8, p: &GroundRef<'_>) -> Result<(), WatchRefusal>
         requires session { session < SESSIONS }
         requires named { IsTrue (names_are_names (ground_of p.now)) }
-        ensures ok { OnOk result (self.new ≡ slice_set self.old session (with_property (ground_of p.now) (watched_in self.old session))) }
-        ensures new { OnOk result (has_property (ground_of p.now) (watched_in self.old session) ≡ false) }
-        ensures few { OnOk result (length (watched_in self.old session) < MOST_WATCHED) }
-        ensures refused { IfErr result (λ refusal. IsRefusedWatch refusal (ground_of p.now) (watched_in self.old session)) }
+        ensures ok { OnOk result (HasWatched (ground_of p.now) session self.old self.new) }
+        ensures refused { IfErr result (λ refusal. IsRefusedWatch refusal (ground_of p.now) (watched_by session self.old)) }
         ensures err { OnErr result (self.new ≡ self.old) }
     {
         match place_of(&self.rows, p) {
@@ -187,8 +184,8 @@ impl Watches {
     /// From now on a session watches a property no more. Answers whether it did; where it did not, all is as it was.
     pub fn unwatch(&mut self, session: u8, p: &GroundRef<'_>) -> bool
         requires session { session < SESSIONS }
-        ensures watched { result ≡ has_property (ground_of p.now) (watched_in self.old session) }
-        ensures left { result ≡ true → self.new ≡ slice_set self.old session (without_property (ground_of p.now) (watched_in self.old session)) }
+        ensures watched { result ≡ has_property (ground_of p.now) (watched_by session self.old) }
+        ensures left { result ≡ true → HasUnwatched (ground_of p.now) session self.old self.new }
         ensures same { result ≡ false → self.new ≡ self.old }
     {
         match place_of(&self.rows, p) {
@@ -200,11 +197,30 @@ impl Watches {
     /// Whether a session watches a property.
     pub fn is_watched(&self, session: u8, p: &GroundRef<'_>) -> bool
         requires session { session < SESSIONS }
-        ensures { result ≡ has_property (ground_of p.now) (watched_in self.now session) }
+        ensures { result ≡ has_property (ground_of p.now) (watched_by session self.now) }
     {
         match place_of(&self.rows, p) {
             Ok(place) => self.rows[place].is_watched_by(session),
             Err(_) => false,
+        }
+    }
+
+    /// The watched properties, in term order.
+    pub fn rows(&self) -> &[Row]
+        ensures rows { result.now ≡ self.now }
+        ensures order { AreRows self.now }
+    {
+        self.rows.as_slice()
+    }
+
+    /// The place of the row of a property, if some session watches it.
+    pub fn find(&self, p: &GroundRef<'_>) -> Option<usize>
+        ensures there { IfSome result (λ i. IsThere (ground_of p.now) self.now i) }
+        ensures unwatched { IfNone result ((session : ℕ) → has_property (ground_of p.now) (watched_by session self.now) ≡ false) }
+    {
+        match place_of(&self.rows, p) {
+            Ok(place) => Some(place),
+            Err(_) => None,
         }
     }
 }
