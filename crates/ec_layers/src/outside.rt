@@ -234,6 +234,53 @@ fn the_real_sink_fails_with_its_device(rt: HostRuntime) {
     assert!(rt; has_answers(&mut RealSink::new(Broken), &BROKEN_SINK));
 }
 
+/// A device that takes and gives seven bytes at most at once.
+#[derive(Drop)]
+struct Narrow<D>(D);
+
+impl<R: Read> Read for Narrow<R> {
+    fn read(&mut self, into: &mut [u8]) -> io::Result<usize> {
+        let room = into.len().min(7);
+        self.0.read(&mut into[..room])
+    }
+}
+
+impl<W: Write> Write for Narrow<W> {
+    fn write(&mut self, from: &[u8]) -> io::Result<usize> {
+        let room = from.len().min(7);
+        self.0.write(&from[..room])
+    }
+
+    fn flush(&mut self) -> io::Result<()> {
+        self.0.flush()
+    }
+}
+
+/// A text that takes many reads and writes.
+const STORY: &[u8] =
+    b"assert e1 5 push(lamp,1)\nassert e2 7 plug(lamp)\nholds on(lamp) 9\nretract e1\nwhy on(lamp) 9\nclashes\nquit\n";
+
+/// Whether a source gives these bytes, in however many reads, and is then at its end.
+fn gives(source: &mut impl Source, buffer: &mut [u8], wanted: &[u8]) -> bool {
+    let mut rest = wanted;
+    for _ in 0..=wanted.len() {
+        match source.read(buffer) {
+            Ok(0) => return rest.is_empty(),
+            Ok(count) if rest.starts_with(&buffer[..count]) => rest = &rest[count..],
+            _ => return false,
+        }
+    }
+    false
+}
+
+#[test]
+fn the_real_source_reads_back_what_the_real_sink_wrote(rt: HostRuntime) {
+    let mut written = Vec::new(rt.alloc());
+    let result = write_all(&mut RealSink::new(Narrow(&mut written)), STORY);
+    let mut source = RealSource::new(Narrow(written.as_slice()));
+    assert!(rt; result.is_ok() && gives(&mut source, &mut [0; 16], STORY));
+}
+
 /// The paths of some files, and the answer when ten bytes of each are asked for.
 const PATHS: [(&str, Result<(), FolderAnswer>); 4] = [
     ("/dev/null", Ok(())),
