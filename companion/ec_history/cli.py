@@ -8,10 +8,10 @@ import os
 import sys
 from typing import List, Optional
 
-from . import asking, drawing, explaining, importing, keeping, linting
+from . import asking, drawing, explaining, importing, keeping, linting, splitting
 from .errors import HistoryError
 
-COMMANDS = (importing, linting, asking, drawing, explaining, keeping)
+COMMANDS = (importing, linting, asking, drawing, explaining, keeping, splitting)
 """The modules of the commands; each has `add_parser(subparsers)` and `run(args)`."""
 
 DESCRIPTION = """\

@@ -10,9 +10,10 @@ from typing import TYPE_CHECKING, Iterator, Optional
 from .client import Server
 from .errors import HistoryError, TermError
 from .history import History, tell
-from .program import add_program
+from .program import add_program, find_program
 from .terms import Pattern
-
+from .theory import Theory
+from .theory_faults import check, fault_finding
 
 if TYPE_CHECKING:
     SubParsers = argparse._SubParsersAction[argparse.ArgumentParser]
@@ -43,6 +44,17 @@ def told(args: argparse.Namespace) -> Iterator[History]:
         for warning in tell(server, args.lines).warnings():
             print(f"ec-history: {warning}", file=sys.stderr)
         yield History(server)
+
+
+def accepted_theory(path: str, program: Optional[str]) -> Theory:
+    """The theory of a file. Raises HistoryError where `ec` does not accept it."""
+    try:
+        refused = check(find_program(program), path)
+    except OSError as fault:
+        raise HistoryError(f"{path} can't be read: {fault.strerror}") from None
+    if refused is not None:
+        raise HistoryError(str(fault_finding(path, refused)))
+    return Theory.read(path)
 
 
 def tell_doubt(history: History, pattern: Optional[Pattern]) -> None:

@@ -12,7 +12,7 @@ import argparse
 import os
 import sys
 from dataclasses import dataclass, field
-from typing import Dict, List, Mapping, Optional, Sequence, Set, Tuple
+from typing import Dict, List, Mapping, NamedTuple, Optional, Sequence, Set, Tuple
 
 from .errors import HistoryError
 from .mapping import EventForm, Map, read_map
@@ -43,6 +43,35 @@ Key = Tuple[str, ...]
 """What tells a record: the texts of the columns of its key."""
 
 
+class Event(NamedTuple):
+    """An event that a record tells: its identity, its time, and what happened."""
+
+    identity: str
+    time: str
+    term: str
+
+    def line(self) -> str:
+        """The line that asserts it."""
+        return f"assert {self.identity} {self.time} {self.term}"
+
+
+class Change(NamedTuple):
+    """What a record changes: events that go, by identity and term, and that come.
+
+    Where it `corrects` a record, both happen together.
+    """
+
+    gone: Sequence[Tuple[str, str]]
+    made: Sequence[Event]
+    corrects: bool
+
+    def lines(self) -> List[str]:
+        """The lines of the change."""
+        lines = [f"retract {identity}" for identity, _ in self.gone]
+        lines += [event.line() for event in self.made]
+        return ["begin", *lines, "commit"] if self.corrects and lines else lines
+
+
 @dataclass
 class Imported:
     """What became of a file: its lines, its faults by row, and counts."""
@@ -53,22 +82,49 @@ class Imported:
     corrections: int = 0
 
 
-@dataclass
 class Told:
-    """What is known of the records told so far, by their keys.
+    """What is known of the records told so far, by their keys, in memory."""
 
-    `events` has the identities that stand for a record now, and `place` where it stood.
-    A record that was corrected is in `corrected`, with the key of what replaced it.
-    """
+    def __init__(self) -> None:
+        self._events: Dict[Key, Sequence[Tuple[str, str]]] = {}
+        self._places: Dict[Key, str] = {}
+        self._corrected: Dict[Key, Key] = {}
+        self._identities: Set[str] = set()
 
-    events: Dict[Key, List[str]] = field(default_factory=dict)
-    place: Dict[Key, str] = field(default_factory=dict)
-    corrected: Dict[Key, Key] = field(default_factory=dict)
-    identities: Set[str] = field(default_factory=set)
+    def place(self, key: Key) -> Optional[str]:
+        """Where a record stood; None where there was none."""
+        return self._places.get(key)
+
+    def events(self, key: Key) -> Optional[Sequence[Tuple[str, str]]]:
+        """The identities and terms of the events that stand for a record now.
+
+        None where there is no such record, or where it was corrected by another.
+        """
+        return self._events.get(key)
+
+    def corrected_by(self, key: Key) -> Optional[Key]:
+        """The key of the record that corrected this one, where another did."""
+        return self._corrected.get(key)
+
+    def has_identity(self, identity: str) -> bool:
+        """Whether an event that stands for a record now has this identity."""
+        return identity in self._identities
+
+    def tell(self, key: Key, place: str, events: Sequence[Event]) -> None:
+        """Keeps a record with its events."""
+        self._events[key] = [(event.identity, event.term) for event in events]
+        self._identities.update(event.identity for event in events)
+        self._places[key] = place
+
+    def take_back(self, target: Key, key: Key) -> None:
+        """Notes that a record is corrected by that of another key, or by itself."""
+        self._identities.difference_update(i for i, _ in self._events.pop(target))
+        if target != key:
+            self._corrected[target] = key
 
 
 class Importer:
-    """Makes lines of records, one after the other."""
+    """Makes changes of records, one after the other."""
 
     def __init__(self, map_of: Map, names: Names, told: Optional[Told] = None) -> None:
         self.map = map_of
@@ -76,56 +132,41 @@ class Importer:
         self.told = told or Told()
         self.result = Imported()
 
-    def add(self, record: Record) -> None:
-        """Adds the lines of a record, or its fault."""
+    def add(self, record: Record) -> Optional[Change]:
+        """What a record changes; None where it is at fault, which is noted."""
         self.result.records += 1
         try:
             if record.fault:
                 raise FieldFault(record.fault)
-            self.result.lines += self._lines(record)
+            return self._change(record)
         except FieldFault as fault:
             self.result.faults.append(f"{record.place}: {fault}")
+            return None
 
-    def _lines(self, record: Record) -> List[str]:
+    def _change(self, record: Record) -> Change:
         fields = record.fields
         name, key = self.map.key.fill(fields, self.names), self.map.key.parts(fields)
         withdraws = bool(self.map.withdrawn) and _is(fields, self.map.withdrawn)
         made = [] if withdraws else self._events(name, fields)
         target = self._corrected(key, fields, withdraws)
+        gone: Sequence[Tuple[str, str]] = ()
         if target is None:
-            if key in self.told.place:
-                raise FieldFault(self._twice(key))
-            lines = [_assert(*event) for event in made]
-            self._free([identity for identity, _, _ in made], [])
+            place = self.told.place(key)
+            if place is not None:
+                raise FieldFault(_twice(key, place))
         else:
-            gone = self.told.events[target]
-            self._free([identity for identity, _, _ in made], gone)
-            lines = [f"retract {identity}" for identity in gone]
-            lines += [_assert(*event) for event in made]
-            lines = ["begin", *lines, "commit"] if lines else []
-            self._take_back(target, key)
-        self.told.events[key] = [identity for identity, _, _ in made]
-        self.told.identities.update(self.told.events[key])
-        self.told.place[key] = record.place
-        return lines
-
-    def _take_back(self, target: Key, key: Key) -> None:
-        self.told.identities.difference_update(self.told.events.pop(target))
-        if target != key:
-            self.told.corrected[target] = key
-        self.result.corrections += 1
-
-    def _twice(self, key: Key) -> str:
-        return (
-            f"the key {_shown(key)} stands in {self.told.place[key]} already; if this "
-            'row corrects that one, say so by `corrects` or by `again = "corrects"` in '
-            "the map"
-        )
+            gone = self.told.events(target) or ()
+        self._free([event.identity for event in made], [i for i, _ in gone])
+        if target is not None:
+            self.told.take_back(target, key)
+            self.result.corrections += 1
+        self.told.tell(key, record.place, made)
+        return Change(gone, made, target is not None)
 
     def _free(self, made: Sequence[str], gone: Sequence[str]) -> None:
         """Makes sure that no identity stands for two events."""
         for identity in made:
-            if identity in self.told.identities and identity not in gone:
+            if self.told.has_identity(identity) and identity not in gone:
                 raise FieldFault(f"the identity {identity} is another record's already")
             if made.count(identity) > 1:
                 raise FieldFault(
@@ -139,30 +180,28 @@ class Importer:
         """The key of the record that this one corrects, where it corrects one."""
         target = tuple(fields[column] for column in self.map.corrects)
         if not target or not all(target):
-            again = self.map.again and key in self.told.events
+            again = self.map.again and self.told.events(key) is not None
             if not again and not withdraws:
                 return None
             target = key
         seen = {target}
-        while self.map.chain and target in self.told.corrected:
-            target = self.told.corrected[target]
+        by = self.told.corrected_by(target)
+        while self.map.chain and by is not None:
+            target, by = by, self.told.corrected_by(by)
             if target in seen:
                 break
             seen.add(target)
-        if target in self.told.events:
+        if self.told.events(target) is not None:
             return target
-        if target in self.told.corrected:
-            other = _shown(self.told.corrected[target])
+        if by is not None:
             raise FieldFault(
-                f"it corrects {_shown(target)}, which {other} has corrected already: "
-                f"name {other}, or say `chain = true` in the map"
+                f"it corrects {_shown(target)}, which {_shown(by)} has corrected "
+                f"already: name {_shown(by)}, or say `chain = true` in the map"
             )
         raise FieldFault(f"it corrects {_shown(target)}, which no row before has told")
 
-    def _events(
-        self, name: str, fields: Mapping[str, str]
-    ) -> List[Tuple[str, str, str]]:
-        """The events of a record: identity, time and term."""
+    def _events(self, name: str, fields: Mapping[str, str]) -> List[Event]:
+        """The events of a record."""
         made = []
         met = False
         for form in self.map.events:
@@ -180,9 +219,7 @@ class Importer:
             )
         return made
 
-    def _event(
-        self, name: str, form: EventForm, fields: Mapping[str, str]
-    ) -> Tuple[str, str, str]:
+    def _event(self, name: str, form: EventForm, fields: Mapping[str, str]) -> Event:
         identity = name + form.suffix
         if len(identity) > LONGEST_NAME:
             raise FieldFault(
@@ -194,7 +231,14 @@ class Importer:
             time = self.map.times.read(fields[form.time], which)
         except TimeFault as fault:
             raise FieldFault(f"column {form.time}: {fault}") from None
-        return identity, time, form.event.fill(fields, self.names)
+        return Event(identity, time, form.event.fill(fields, self.names))
+
+
+def _twice(key: Key, place: str) -> str:
+    return (
+        f"the key {_shown(key)} stands in {place} already; if this row corrects that "
+        'one, say so by `corrects` or by `again = "corrects"` in the map'
+    )
 
 
 def _shown(key: Key) -> str:
@@ -205,16 +249,14 @@ def _is(fields: Mapping[str, str], conditions: Mapping[str, Tuple[str, ...]]) ->
     return all(fields[column] in texts for column, texts in conditions.items())
 
 
-def _assert(identity: str, time: str, term: str) -> str:
-    return f"assert {identity} {time} {term}"
-
-
 def import_file(map_of: Map, path: str, names: Names) -> Imported:
     """The lines and faults of a file of records. Names that are new are added."""
     importer = Importer(map_of, names)
     with Progress("records") as progress:
         for record in read_records(path, map_of.file, map_of.fields):
-            importer.add(record)
+            change = importer.add(record)
+            if change is not None:
+                importer.result.lines += change.lines()
             progress.step()
     return importer.result
 
