@@ -202,6 +202,13 @@ class Server:
         """Sends lines as they are, in one piece; for each what `send` answers."""
         return self._pipe.send_all(map(line_bytes, lines))
 
+    def pour(self, content: bytes) -> bytes:
+        """Sends whole lines as they are, and answers all their replies, in one piece.
+
+        None of them may be `watch` or `quit`. Nothing is raised for a refusal.
+        """
+        return self._pipe.pour(content)
+
     def play(self, lines: Iterable[LineLike]) -> Iterator[Played]:
         """Sends lines as they are, and gives each with its reply, in their order.
 
@@ -230,6 +237,10 @@ class Server:
         status = self._pipe.close()
         if status:
             raise Ended(f"ec did not end as it should: {status_words(status)}", status)
+
+    def kill(self) -> None:
+        """Ends the program at once; what was sent and not answered is lost."""
+        self._pipe.kill()
 
     def __enter__(self) -> Server:
         return self

@@ -3,13 +3,12 @@
 from __future__ import annotations
 
 import argparse
-import contextlib
+import os
 import sys
-from typing import TYPE_CHECKING, Iterator, Optional
+from typing import TYPE_CHECKING, Optional
 
-from .client import Server
 from .errors import HistoryError, TermError
-from .history import History, tell
+from .history import doubt
 from .program import add_program, find_program
 from .terms import Pattern
 from .theory import Theory
@@ -17,7 +16,9 @@ from .theory_faults import check, fault_finding
 
 if TYPE_CHECKING:
     SubParsers = argparse._SubParsersAction[argparse.ArgumentParser]
+    Arguments = argparse._ActionsContainer
 else:
+    Arguments = object
     SubParsers = argparse._SubParsersAction
 
 
@@ -25,25 +26,33 @@ def add_history(parser: argparse.ArgumentParser) -> None:
     """Adds the theory, the lines and the program."""
     parser.add_argument("theory", metavar="THEORY", help="the theory's file")
     parser.add_argument(
-        "lines", metavar="LINES", help="the file of lines; - is standard input"
+        "lines",
+        metavar="LINES",
+        help="the file of lines (- is standard input), or a folder of parts",
     )
     add_program(parser)
 
 
-@contextlib.contextmanager
-def told(args: argparse.Namespace) -> Iterator[History]:
-    """A history of the theory and the lines that the words name.
+def add_processes(parser: Arguments) -> None:
+    """Adds how many parts are answered side by side."""
+    parser.add_argument(
+        "--processes",
+        type=int,
+        metavar="N",
+        default=os.cpu_count() or 1,
+        help="how many parts are played side by side (as many as there are processors)",
+    )
 
-    Warns on standard error of lines that were refused or not read.
-    """
-    try:
-        server = Server(args.theory, args.program)
-    except OSError as fault:
-        raise HistoryError(f"{args.theory} can't be read: {fault.strerror}") from None
-    with server:
-        for warning in tell(server, args.lines).warnings():
-            print(f"ec-history: {warning}", file=sys.stderr)
-        yield History(server)
+
+def add_workers(parser: Arguments) -> None:
+    """Adds who answers about a history in parts."""
+    add_processes(parser)
+    parser.add_argument(
+        "--on",
+        metavar="ADDRESS",
+        help="have a cluster of Dask answer, whose scheduler is there; the folder must "
+        "have the same path on all its machines",
+    )
 
 
 def accepted_theory(path: str, program: Optional[str]) -> Theory:
@@ -57,11 +66,11 @@ def accepted_theory(path: str, program: Optional[str]) -> Theory:
     return Theory.read(path)
 
 
-def tell_doubt(history: History, pattern: Optional[Pattern]) -> None:
+def tell_doubt(theory: Theory, pattern: Optional[Pattern]) -> None:
     """Says on standard error where no property can fit a pattern."""
-    doubt = None if pattern is None else history.doubt(pattern)
-    if doubt is not None:
-        print(f"ec-history: {doubt}", file=sys.stderr)
+    words = None if pattern is None else doubt(theory, pattern)
+    if words is not None:
+        print(f"ec-history: {words}", file=sys.stderr)
 
 
 def read_pattern(text: str) -> Optional[Pattern]:

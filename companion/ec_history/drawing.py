@@ -7,18 +7,19 @@ import os
 import shutil
 import stat
 import sys
-from typing import Dict, List, Optional, Sequence
+from itertools import chain
+from typing import List, Optional, Sequence, Tuple
 
 from .axis import axis_of
 from .chart import chart_of
-from .common import SubParsers, add_history, read_pattern, tell_doubt, told
+from .common import SubParsers, add_history, add_workers, read_pattern, tell_doubt
 from .errors import HistoryError, TermError
-from .history import History
+from .keys import PROPERTY
 from .moments import Moment
 from .page import page_of
+from .sources import Source, source_of
 from .svg import layout_of, svg_of
-from .terms import Term
-from .timelines import Timelines
+from .timelines import Course, courses_of, merged, timeline_of
 from .wording import Wording, add_wording, shown_by
 
 DESCRIPTION = """\
@@ -67,6 +68,7 @@ def add_parser(subparsers: SubParsers) -> None:
     )
     parser.add_argument("--title", help="(the file and the patterns)")
     add_wording(parser)
+    add_workers(parser)
     parser.set_defaults(run=run)
 
 
@@ -77,9 +79,9 @@ def run(args: argparse.Namespace) -> int:
     patterns = [shown.unquoted(pattern) for pattern in args.patterns]
     for pattern in patterns:
         read_pattern(pattern)  # what is no pattern is told before the lines are read
-    with told(args) as history:
-        wording = shown.wording(history.theory)
-        text = draw(history, wording, patterns, args, form)
+    with source_of(args) as source:
+        wording = shown.wording(source.theory)
+        text = draw(source, wording, patterns, args, form)
     if args.output is None:
         sys.stdout.write(text)
         return 0
@@ -119,16 +121,15 @@ def name_of_output() -> Optional[str]:
 
 
 def draw(
-    history: History,
+    source: Source,
     wording: Wording,
     patterns: Sequence[str],
     args: argparse.Namespace,
     form: str,
 ) -> str:
     """The picture, the page or the text, as the words of the command ask for it."""
-    reader = Timelines(history, wording)
-    properties = _properties(history, patterns)
-    lines, count = reader.read_some(properties, args.rows)
+    courses, count = _courses(source, patterns, args.rows)
+    lines = [timeline_of(course, wording) for course in courses]
     if count > len(lines):
         print(
             f"ec-history: {count} properties fit, and {len(lines)} are drawn: name "
@@ -137,7 +138,7 @@ def draw(
         )
     first, last = (_moment(wording, text) for text in (args.first, args.last))
     if first is not None and last is not None:
-        if history.clock.rank(first) >= history.clock.rank(last):
+        if source.clock.rank(first) >= source.clock.rank(last):
             raise HistoryError("--from is not before --to; exchange the two times")
     moments = [moment for line in lines for moment in line.moments()]
     axis = axis_of(wording, moments, first, last)
@@ -152,14 +153,16 @@ def draw(
     return svg_of(lines, axis, title, layout)
 
 
-def _properties(history: History, patterns: Sequence[str]) -> List[Term]:
-    """The candidates of all patterns, each once, in the order of the patterns."""
-    found: Dict[Term, None] = {}
-    for text in patterns:
-        pattern = read_pattern(text)
-        tell_doubt(history, pattern)
-        found.update(dict.fromkeys(history.candidates(pattern)))
-    return list(found)
+def _courses(
+    source: Source, texts: Sequence[str], most: int
+) -> Tuple[List[Course], int]:
+    """The courses that fit the patterns, in their order; and how many there are."""
+    patterns = [read_pattern(text) for text in texts]
+    for pattern in patterns:
+        tell_doubt(source.theory, pattern)
+    asked = patterns[0] if len(patterns) == 1 else None
+    found = source.rows(PROPERTY, asked, courses_of, patterns, most)
+    return merged(chain.from_iterable(found), most)
 
 
 def _moment(wording: Wording, text: Optional[str]) -> Optional[Moment]:

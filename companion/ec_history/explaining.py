@@ -5,13 +5,17 @@ from __future__ import annotations
 import argparse
 import json
 import sys
-from typing import Optional
+from typing import Dict, Iterator, Optional
 
-from .common import SubParsers, add_history, read_pattern, told
+from .common import SubParsers, add_history, add_workers, read_pattern
 from .errors import HistoryError, TermError
-from .reasons import Explainer
+from .history import History
+from .keys import PROPERTY
+from .moments import Moment
+from .reasons import Explainer, Key, Node
+from .sources import source_of
 from .telling import Teller, json_of
-from .terms import Term
+from .terms import Pattern, Term
 from .wording import add_wording, shown_by
 
 DESCRIPTION = """\
@@ -48,6 +52,7 @@ def add_parser(subparsers: SubParsers) -> None:
         "--format", choices=("text", "json"), default="text", help="(text)"
     )
     add_wording(parser)
+    add_workers(parser)
     parser.set_defaults(run=run)
 
 
@@ -61,18 +66,27 @@ def _property(text: str) -> Term:
     return pattern.fill({})
 
 
+def _nodes(
+    history: History, property: Term, instant: Moment, depth: Optional[int]
+) -> Iterator[Dict[Key, Node]]:
+    """The whole reason, found in the history that has all that it rests on."""
+    yield Explainer(history).explain(property, instant, depth)
+
+
 def run(args: argparse.Namespace) -> int:
     """Writes the tree to standard output."""
     shown = shown_by(args)
     property = _property(shown.unquoted(args.property))
     depth: Optional[int] = args.depth
-    with told(args) as history:
-        wording = shown.wording(history.theory)
+    with source_of(args) as source:
+        wording = shown.wording(source.theory)
         try:
             instant = wording.read_moment(args.time)
         except TermError as fault:
             raise HistoryError(str(fault)) from None
-        nodes = Explainer(history).explain(property, instant, depth)
+        pattern = Pattern(property.name, property.arguments)
+        (found,) = source.rows(PROPERTY, pattern, _nodes, property, instant, depth)
+        (nodes,) = found
         if args.format == "json":
             json.dump(json_of(nodes, wording), sys.stdout, ensure_ascii=False, indent=1)
             print()

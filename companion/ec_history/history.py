@@ -9,7 +9,9 @@ from __future__ import annotations
 
 import sys
 from dataclasses import dataclass, field
-from typing import Dict, Iterable, Iterator, List, NamedTuple, Optional
+from functools import cached_property
+from typing import Callable, Dict, Iterable, Iterator, List, NamedTuple, Optional
+from typing import TypeVar
 
 from .client import Server
 from .errors import HistoryError
@@ -19,6 +21,9 @@ from .refusals import refusal_words
 from .replies import Event
 from .terms import Binding, Pattern, Term
 from .theory import Rule, Theory
+
+
+Row = TypeVar("Row")
 
 
 class Entry(NamedTuple):
@@ -87,13 +92,28 @@ class History:
         self.session = server.main
         self.theory: Theory = server.theory
         self.clock = server.clock
-        self.events: List[Event] = self.session.events()
-        self._by_identity = {event.identity: event for event in self.events}
         self._entries: Optional[Dict[Term, List[Entry]]] = None
+
+    @cached_property
+    def events(self) -> List[Event]:
+        """The events that are present, by time and then by identity."""
+        return self.session.events()
+
+    @cached_property
+    def _by_identity(self) -> Dict[str, Event]:
+        return {event.identity: event for event in self.events}
 
     def event(self, identity: str) -> Event:
         """The event of an identity, which is present."""
         return self._by_identity[identity]
+
+    def owns_property(self, term: Term) -> bool:
+        """Whether this history answers about a property: all do, of a whole one."""
+        return True
+
+    def own_events(self) -> Iterable[Event]:
+        """The events that this history tells: all, of a whole one."""
+        return self.events
 
     @property
     def entries(self) -> Dict[Term, List[Entry]]:
@@ -124,17 +144,18 @@ class History:
             for term, entries in self.entries.items()
             if (pattern is None or pattern.match(term) is not None)
             and (term in initial or any(entry.rule.initiates for entry in entries))
+            and self.owns_property(term)
         )
 
-    def doubt(self, pattern: Pattern) -> Optional[str]:
-        """Why no property can fit a pattern, in words, where the theory tells."""
-        shapes = {(r.head.name, r.head.arity) for r in self.theory.rules if r.initiates}
-        shapes |= {(t.name, t.arity) for t in self.theory.initial_properties()}
-        if (pattern.name, pattern.arity) in shapes:
-            return None
-        known = ", ".join(f"{name}/{arity}" for name, arity in sorted(shapes))
-        count = "1 argument" if pattern.arity == 1 else f"{pattern.arity} arguments"
-        return f"no rule starts {pattern.name} with {count}; the theory has {known}"
+    def rows(
+        self,
+        _kind: str,
+        _pattern: Optional[Pattern],
+        work: Callable[..., Iterable[Row]],
+        *words: object,
+    ) -> List[Iterable[Row]]:
+        """What some work finds in this history; see `sources.Source`."""
+        return [work(self, *words)]
 
     def ask_all(self, commands: Iterable[str], what: str) -> Iterator[str]:
         """The replies to many queries, with progress told as so many of `what`."""
@@ -142,6 +163,17 @@ class History:
             for reply in self.session.ask_all(commands):
                 progress.step()
                 yield reply
+
+
+def doubt(theory: Theory, pattern: Pattern) -> Optional[str]:
+    """Why no property can fit a pattern, in words, where the theory tells."""
+    shapes = {(r.head.name, r.head.arity) for r in theory.rules if r.initiates}
+    shapes |= {(t.name, t.arity) for t in theory.initial_properties()}
+    if (pattern.name, pattern.arity) in shapes:
+        return None
+    known = ", ".join(f"{name}/{arity}" for name, arity in sorted(shapes))
+    count = "1 argument" if pattern.arity == 1 else f"{pattern.arity} arguments"
+    return f"no rule starts {pattern.name} with {count}; the theory has {known}"
 
 
 def tell(server: Server, path: str) -> Telling:

@@ -14,9 +14,11 @@ import sys
 from dataclasses import dataclass, field
 from typing import Dict, List, Mapping, NamedTuple, Optional, Sequence, Set, Tuple
 
+from .common import add_processes
 from .errors import HistoryError
 from .mapping import EventForm, Map, read_map
 from .names import Names
+from .program import add_program
 from .progress import Progress
 from .records import Record, read_records
 from .templates import FieldFault
@@ -262,6 +264,7 @@ def import_file(map_of: Map, path: str, names: Names) -> Imported:
 
 
 def add_parser(subparsers: argparse._SubParsersAction) -> None:
+    """Adds the words of the command."""
     parser = subparsers.add_parser(
         "import",
         help="turn CSV, TSV, JSON lines or XES into lines of ec",
@@ -282,40 +285,74 @@ def add_parser(subparsers: argparse._SubParsersAction) -> None:
         action="store_true",
         help="write the lines of the other records where some are at fault",
     )
+    parts = parser.add_argument_group(
+        "parts", "A history that is too large for one ec, see `ec-history split`."
+    )
+    parts.add_argument(
+        "--into",
+        metavar="FOLDER",
+        help="write the lines of each part into a new folder",
+    )
+    parts.add_argument(
+        "--parts", metavar="N", default="auto", help="how many (auto: as are needed)"
+    )
+    parts.add_argument(
+        "--theory", metavar="THEORY", help="the theory; it must fall apart"
+    )
+    add_processes(parts)
+    add_program(parser)
     parser.set_defaults(run=run)
 
 
 def run(args: argparse.Namespace) -> int:
     """Writes the lines; 1 where a record is at fault."""
+    if args.into is not None:
+        from .dividing import run_into
+
+        return run_into(args)
+    if args.theory is not None or args.parts != "auto":
+        raise HistoryError("--theory and --parts go with --into")
     map_of = read_map(args.map, args.file)
     path = args.names or map_of.names
     names = Names.read(path, map_of.keep_case)
     known = len(names)
     result = import_file(map_of, args.file, names)
-    for fault in result.faults[:MOST_FAULTS]:
-        print(f"{args.file}: {fault}", file=sys.stderr)
-    if len(result.faults) > MOST_FAULTS:
-        more = len(result.faults) - MOST_FAULTS
-        print(f"{args.file}: and {more:,} more faults", file=sys.stderr)
+    tell_faults(result, args.file, args.skip_faulty)
     if result.faults and not args.skip_faulty:
-        print(
-            f"ec-history: {len(result.faults):,} of {result.records:,} records are at "
-            "fault, so nothing was written (--skip-faulty writes the others)",
-            file=sys.stderr,
-        )
         return 1
     sys.stdout.write("".join(f"{line}\n" for line in result.lines))
     if len(names) > known:
-        _write_names(names, path)
+        write_names(names, path)
     print(
-        f"{result.records:,} records, {result.corrections:,} of them corrections: "
-        f"{len(result.lines):,} lines; {len(names) - known:,} new names in {path}",
+        f"{told_words(result)}: {len(result.lines):,} lines; "
+        f"{len(names) - known:,} new names in {path}",
         file=sys.stderr,
     )
     return 1 if result.faults else 0
 
 
-def _write_names(names: Names, path: str) -> None:
+def told_words(result: Imported) -> str:
+    """How many records there were, in words."""
+    return f"{result.records:,} records, {result.corrections:,} of them corrections"
+
+
+def tell_faults(result: Imported, path: str, skip_faulty: bool) -> None:
+    """Says on standard error which records are at fault."""
+    for fault in result.faults[:MOST_FAULTS]:
+        print(f"{path}: {fault}", file=sys.stderr)
+    if len(result.faults) > MOST_FAULTS:
+        more = len(result.faults) - MOST_FAULTS
+        print(f"{path}: and {more:,} more faults", file=sys.stderr)
+    if result.faults and not skip_faulty:
+        print(
+            f"ec-history: {len(result.faults):,} of {result.records:,} records are at "
+            "fault, so nothing was written (--skip-faulty writes the others)",
+            file=sys.stderr,
+        )
+
+
+def write_names(names: Names, path: str) -> None:
+    """Writes the file of names; raises HistoryError where it can't."""
     try:
         names.write(path)
     except OSError as fault:

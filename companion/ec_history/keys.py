@@ -64,11 +64,6 @@ class Split:
         place = self.places.get(Form(kind, term.name, term.arity))
         return None if place is None else term.arguments[place]
 
-    def key_of_pattern(self, pattern: Pattern) -> Optional[Place]:
-        """What stands in a pattern of properties where the key stands, or None."""
-        place = self.places.get(Form(PROPERTY, pattern.name, pattern.arity))
-        return None if place is None else pattern.places[place]
-
 
 class Link(NamedTuple):
     """Two patterns of a clause whose places of the key depend on each other."""

@@ -9,15 +9,20 @@ and an end at one instant, and what is easily wrong with a file.
 from __future__ import annotations
 
 import argparse
+import os
 import sys
 from collections import Counter, defaultdict
+from concurrent.futures import ProcessPoolExecutor
 from dataclasses import dataclass, field
 from difflib import get_close_matches
+from functools import partial
 from typing import Dict, Iterator, List, Optional, Set, Tuple
 
 from .client import Server
+from .common import add_processes
 from .errors import HistoryError
 from .moments import TICK, Clock
+from .parts import Parts, PartsFault, is_parts, open_parts
 from .program import add_program, find_program
 from .progress import Progress
 from .reading import Command, Line, LineFault, Reader, as_sent, is_silent
@@ -332,6 +337,36 @@ def same_instants(lint: Lint, server: Server) -> Iterator[Finding]:
             )
 
 
+def lint_parts(
+    program: str, theory_path: str, folder: str, processes: int
+) -> List[Finding]:
+    """What is found in the lines of the parts of a folder."""
+    parts = open_parts(folder, theory_path)
+    findings: List[Finding] = []
+    job = partial(_lint_part, program, theory_path, parts)
+    with ProcessPoolExecutor(min(processes, parts.count)) as pool:
+        with Progress("parts looked through") as progress:
+            for found in pool.map(job, range(parts.count)):
+                findings += found
+                progress.step()
+    return findings
+
+
+def _lint_part(
+    program: str, theory_path: str, parts: Parts, part: int
+) -> List[Finding]:
+    """What is found in the lines of a part."""
+    path = parts.lines_path(part)
+    try:
+        parts.lines(part)
+        findings = []
+    except PartsFault as fault:
+        findings = [Finding(parts.path, 0, str(fault))]
+    if not os.path.exists(path):
+        return findings
+    return findings + lint_lines(program, theory_path, True, path)
+
+
 def add_parser(subparsers: argparse._SubParsersAction) -> None:
     """Adds the words of the command."""
     parser = subparsers.add_parser(
@@ -343,7 +378,13 @@ def add_parser(subparsers: argparse._SubParsersAction) -> None:
         formatter_class=argparse.RawDescriptionHelpFormatter,
     )
     parser.add_argument("theory", metavar="THEORY", help="a theory file")
-    parser.add_argument("lines", metavar="LINES", nargs="?", help="a file of lines")
+    parser.add_argument(
+        "lines",
+        metavar="LINES",
+        nargs="?",
+        help="a file of lines, or a folder of parts",
+    )
+    add_processes(parser)
     add_program(parser)
     parser.set_defaults(run=run)
 
@@ -355,10 +396,12 @@ def run(args: argparse.Namespace) -> int:
         accepted, findings = lint_theory(program, args.theory)
     except OSError as fault:
         raise HistoryError(f"{args.theory}: can't be read: {fault.strerror}") from None
-    if args.lines is not None:
+    if args.lines is not None and is_parts(args.lines):
+        findings += lint_parts(program, args.theory, args.lines, args.processes)
+    elif args.lines is not None:
         findings += lint_lines(program, args.theory, accepted, args.lines)
     order = {args.theory: 0}
-    findings.sort(key=lambda found: (order.get(found.path, 1), found.line))
+    findings.sort(key=lambda f: (order.get(f.path, 1), f.path, f.line))
     for finding in findings:
         print(finding)
     if findings:

@@ -93,10 +93,15 @@ class Named:
 
 
 class Names:
-    """All names given so far, each with the one thing that it names."""
+    """All names given so far, each with the one thing that it names.
+
+    Where `forgets_plain` is set, the identities of events in which the text stands as it
+    is are not kept: there may be many, and nothing is lost by it.
+    """
 
     def __init__(self, keep_case: bool = False) -> None:
         self.keep_case = keep_case
+        self.forgets_plain = False
         self._names: Dict[Named, str] = {}
         self._named: Dict[Tuple[str, str], Named] = {}
 
@@ -114,6 +119,8 @@ class Names:
         if known is not None:
             return known
         name = self._made(named)
+        if self.forgets_plain and form.kind == "event" and name == form.fill(parts):
+            return name
         other = self._named.get((form.kind, name))
         if other is not None:
             raise NameFault(
@@ -225,14 +232,15 @@ class Names:
         try:
             with open(handle, "w", encoding="utf-8", newline="") as file:
                 file.write("\n".join(lines) + "\n")
-            os.chmod(draft, 0o666 & ~_umask())
+            os.chmod(draft, 0o666 & ~umask())
             os.replace(draft, path)
         except BaseException:
             os.unlink(draft)
             raise
 
 
-def _umask() -> int:
+def umask() -> int:
+    """The bits that the files of this process do without."""
     mask = os.umask(0)
     os.umask(mask)
     return mask

@@ -5,7 +5,8 @@
     theory.ec        the theory, as it was when the parts were made
     part-000.lines   the lines of the first part, and so on
     manifest.json    the theory's SHA-256, the places of the key in events and properties
-                     (from 1, null for none), and the lines and events of each part
+                     (from 1, null for none), and of each part how many lines and events
+                     it has, and the SHA-256 of its lines
 
 Which part has a key follows from the text of the key alone.
 """
@@ -15,7 +16,7 @@ from __future__ import annotations
 import hashlib
 import json
 import os
-from dataclasses import dataclass
+from dataclasses import dataclass, replace
 from typing import Any, Dict, List, NamedTuple, Optional
 
 from .errors import HistoryError
@@ -36,10 +37,13 @@ class PartsFault(HistoryError):
 
 
 class Held(NamedTuple):
-    """What a part holds: lines, and events that are present behind the last of them."""
+    """What a part holds: lines, events that are present behind the last of them, and
+    the SHA-256 of the lines.
+    """
 
     lines: int
     events: int
+    sha256: str
 
 
 def slot_of(text: str) -> int:
@@ -61,13 +65,25 @@ def slot_of_event(split: Split, event: Term) -> Optional[int]:
 
 @dataclass(frozen=True)
 class Parts:
-    """A folder of parts. The parts are numbered from 0."""
+    """A folder of parts. The parts are numbered from 0.
+
+    `sha256` is that of the theory, and `digest` stands for all that the folder has.
+    """
 
     path: str
     theory: Theory
     sha256: str
     split: Split
     held: List[Held]
+
+    @property
+    def digest(self) -> str:
+        """The same for two folders that hold the same."""
+        return hashlib.sha256(repr((self.sha256, self.held)).encode()).hexdigest()
+
+    def at(self, path: str) -> "Parts":
+        """The same parts, in a folder of another path."""
+        return replace(self, path=path)
 
     @property
     def count(self) -> int:
@@ -83,6 +99,21 @@ class Parts:
         """The file of a part's lines."""
         return os.path.join(self.path, f"part-{part:03}.lines")
 
+    def lines(self, part: int) -> bytes:
+        """The lines of a part. Raises PartsFault where they are not as written."""
+        path = self.lines_path(part)
+        try:
+            with open(path, "rb") as file:
+                content = file.read()
+        except OSError as fault:
+            raise PartsFault(f"{path} can't be read: {fault.strerror}") from None
+        if hashlib.sha256(content).hexdigest() != self.held[part].sha256:
+            raise PartsFault(
+                f"{path} has changed since it was written: its SHA-256 is another than "
+                f"that in {MANIFEST}. Import the records again, into another folder"
+            )
+        return content
+
     def part_of_event(self, event: Term) -> Optional[int]:
         """The part that has an event; None where all have it."""
         slot = slot_of_event(self.split, event)
@@ -93,15 +124,20 @@ class Parts:
         key = self.split.key(PROPERTY, term)
         return None if key is None else slot_of(str(key)) % self.count
 
-    def parts_asked(self, pattern: Optional[Pattern]) -> List[int]:
-        """The parts that have properties that fit a pattern (None is any)."""
+    def asked(self, kind: str, pattern: Optional[Pattern]) -> List[int]:
+        """The parts that have events or properties that fit a pattern (None is any)."""
+        every = list(range(self.count))
         if pattern is None:
-            return list(range(self.count))
-        key = self.split.key_of_pattern(pattern)
-        if key is None:
+            return every
+        form = Form(kind, pattern.name, pattern.arity)
+        if form not in self.split.places:
+            return every if kind == EVENT else [0]
+        place = self.split.places[form]
+        if place is None:
             return [0]
+        key = pattern.places[place]
         if isinstance(key, (Variable, Anything)):
-            return list(range(self.count))
+            return every
         return [slot_of(str(key)) % self.count]
 
     def owns_property(self, part: int, term: Term) -> bool:

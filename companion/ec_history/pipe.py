@@ -131,6 +131,34 @@ class Pipe:
         self._end()
         raise _without_reply(self._fault, line)
 
+    def pour(self, content: bytes) -> bytes:
+        """Sends whole lines, none of them `watch` or `quit`; answers all replies.
+
+        Nothing else may be on its way. Raises `Ended` where a reply does not come.
+        """
+        with self._sending:
+            if not self._is_idle or self._fault is not None or self._has_quit:
+                raise self._fault or Ended("lines are on their way already", None)
+            end = b"" if content.endswith(b"\n") or not content else b"\n"
+            pieces = (content, end + b"last\n")
+            writer = threading.Thread(target=lambda: [*map(self._write, pieces)])
+            writer.start()
+            replies = self._until_last()
+            writer.join()
+            return replies
+
+    def _until_last(self) -> bytes:
+        """The replies up to that to `last`, and without it."""
+        replies: List[bytes] = []
+        while True:
+            reply = self._replies.readline()
+            if reply.startswith(b"last "):
+                return b"".join(replies)
+            if reply[-1:] != b"\n":
+                self._end()
+                raise _without_reply(self._fault, b"last")
+            replies.append(reply)
+
     def send(self, line: bytes) -> Optional[Sent]:
         """Sends a line, given without its line feed; None if it has no reply.
 

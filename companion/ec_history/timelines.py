@@ -7,12 +7,13 @@ them from `why`, asked within each stretch and behind it.
 from __future__ import annotations
 
 from dataclasses import dataclass, field
-from typing import Iterable, Iterator, List, NamedTuple, Optional, Tuple
+from typing import Dict, Iterable, Iterator, List, NamedTuple, Optional, Sequence
+from typing import Tuple
 
 from .history import History
 from .moments import Moment
-from .replies import Cause, Reason, read_broken, read_intervals, read_reason
-from .terms import GREATEST_NUMBER, Term
+from .replies import Event, Reason, read_broken, read_intervals, read_reason
+from .terms import GREATEST_NUMBER, Pattern, Term
 from .wording import Wording
 
 CLOSED, UNENDED, BROKEN = "closed", "unended", "broken"
@@ -59,38 +60,114 @@ class Timeline:
             yield from (m for m in (stretch.start, stretch.end) if m is not None)
 
 
+class Asked(NamedTuple):
+    """Why a property is as it is from one instant up to another, as `ec` says it.
+
+    `events` are those that the reason names.
+    """
+
+    after: Optional[Moment]
+    until: Optional[Moment]
+    reason: Reason
+    events: Tuple[Event, ...]
+
+
+class Course(NamedTuple):
+    """The stretches of a property, and the reasons for them; without words."""
+
+    property: Term
+    stretches: List[Stretch]
+    reasons: List[Asked]
+
+
+class Courses(NamedTuple):
+    """The first courses of a history, each with the place of the pattern that it fits,
+    and how many there are in all.
+    """
+
+    courses: List[Tuple[int, Course]]
+    count: int
+
+
+def courses_of(
+    history: History, patterns: Sequence[Optional[Pattern]], most: int
+) -> Iterator[Courses]:
+    """The courses of properties that fit one of the patterns and ever started."""
+    places: Dict[Term, int] = {}
+    for place, pattern in enumerate(patterns):
+        for term in history.candidates(pattern):
+            if history.owns_property(term):
+                places.setdefault(term, place)
+    courses, count = CourseReader(history).read(list(places), most)
+    yield Courses([(places[c.property], c) for c in courses], count)
+
+
+def merged(found: Iterable[Courses], most: int) -> Tuple[List[Course], int]:
+    """The first so many courses of several histories, and how many there are in all."""
+    all_of_them = list(found)
+    courses = sorted(
+        (placed for each in all_of_them for placed in each.courses),
+        key=lambda placed: (placed[0], placed[1].property.sort_key()),
+    )
+    count = sum(each.count for each in all_of_them)
+    return [course for _, course in courses[:most]], count
+
+
+def timeline_of(course: Course, wording: Wording) -> Timeline:
+    """A course in words."""
+    label = wording.term(course.property)
+    timeline = Timeline(course.property, label, course.stretches)
+    for after, until, reason, events in course.reasons:
+        words = wording.reason(reason)
+        if events:
+            words += f" [{'; '.join(_event_words(e, wording) for e in events)}]"
+        timeline.spells.append(Spell(after, until, reason.holds, words))
+    return timeline
+
+
+def _event_words(event: Event, wording: Wording) -> str:
+    return f"{wording.identity(event.identity)}: {wording.term(event.term)}"
+
+
 class Timelines:
     """Reads the timelines of properties from a history."""
 
     def __init__(self, history: History, wording: Wording) -> None:
         self.history = history
-        self.clock = history.clock
         self.wording = wording
 
     def read(self, properties: List[Term]) -> List[Timeline]:
         """The timelines of those properties that ever started, in their order."""
-        return self.read_some(properties, len(properties))[0]
+        courses, _ = CourseReader(self.history).read(properties, len(properties))
+        return [timeline_of(course, self.wording) for course in courses]
 
-    def read_some(
-        self, properties: List[Term], most: int
-    ) -> Tuple[List[Timeline], int]:
-        """The first so many timelines, and how many there are in all."""
+
+class CourseReader:
+    """Reads the courses of properties from a history."""
+
+    def __init__(self, history: History) -> None:
+        self.history = history
+        self.clock = history.clock
+
+    def read(self, properties: List[Term], most: int) -> Tuple[List[Course], int]:
+        """The first so many courses, and how many there are in all."""
         commands = (
             f"{command} {term}"
             for term in properties
             for command in ("intervals", "broken")
         )
         replies = self.history.ask_all(commands, "timelines read")
-        lines, count = [], 0
+        courses: List[Course] = []
+        count = 0
         for intervals, broken, term in zip(replies, replies, properties):
             if intervals == broken == "0":
                 continue
             count += 1
             if count <= most:
                 stretches = self._stretches(intervals, broken)
-                lines.append(Timeline(term, self.wording.term(term), stretches))
-        self._add_spells(lines)
-        return lines, count
+                courses.append(Course(term, stretches, []))
+        self._add_reasons(courses)
+        return courses, count
 
     def _stretches(self, intervals: str, broken: str) -> List[Stretch]:
         rank = self.clock.rank
@@ -104,21 +181,22 @@ class Timelines:
         later = [s for s in stretches if s.start is not None]
         return first + sorted(later, key=lambda stretch: rank(stretch.start or 0))
 
-    def _add_spells(self, lines: List[Timeline]) -> None:
+    def _add_reasons(self, courses: List[Course]) -> None:
         """Asks for the reasons, all at once."""
-        asked: List[Tuple[Timeline, Optional[Moment], Optional[Moment], Moment]] = []
-        for line in lines:
-            for after, until in self._borders(line.stretches):
+        asked: List[Tuple[Course, Optional[Moment], Optional[Moment], Moment]] = []
+        for course in courses:
+            for after, until in self._borders(course.stretches):
                 instant = self._within(after, until)
                 if instant is not None:
-                    asked.append((line, after, until, instant))
+                    asked.append((course, after, until, instant))
         write = self.clock.write
-        commands = (f"why {line.property} {write(at)}" for line, _, _, at in asked)
+        commands = (f"why {course.property} {write(at)}" for course, _, _, at in asked)
         replies = self.history.ask_all(commands, "reasons read")
-        for reply, (line, after, until, at) in zip(replies, asked):
+        for reply, (course, after, until, at) in zip(replies, asked):
             reason = read_reason(reply, at, self.clock)
-            words = self._words(reason)
-            line.spells.append(Spell(after, until, reason.holds, words))
+            causes = (cause for cause in (reason.by, reason.until) if cause)
+            events = tuple(self.history.event(cause.event) for cause in causes)
+            course.reasons.append(Asked(after, until, reason, events))
 
     def _borders(
         self, stretches: List[Stretch]
@@ -147,14 +225,3 @@ class Timelines:
             return self.clock.moment(0)
         rank = self.clock.rank(after)
         return None if rank == GREATEST_NUMBER else self.clock.moment(rank + 1)
-
-    def _words(self, reason: Reason) -> str:
-        """The reason in words, with what the events said that it names."""
-        words = self.wording.reason(reason)
-        told = [self._event(cause) for cause in (reason.by, reason.until) if cause]
-        return f"{words} [{'; '.join(told)}]" if told else words
-
-    def _event(self, cause: Cause) -> str:
-        event = self.history.event(cause.event)
-        identity = self.wording.identity(event.identity)
-        return f"{identity}: {self.wording.term(event.term)}"

@@ -81,6 +81,7 @@ def _metadata() -> List[Tuple[str, bytes]]:
         f"Metadata-Version: 2.1\nName: {PACKAGE}\nVersion: {_version()}\n"
         f"Summary: {_project('description')}\n"
         f"Requires-Python: {_project('requires-python')}\n"
+        'Provides-Extra: cluster\nRequires-Dist: distributed; extra == "cluster"\n'
         f"Description-Content-Type: text/markdown\n\n{readme}"
     )
     kind = "Wheel-Version: 1.0\nGenerator: plain_wheel\nRoot-Is-Purelib: true\n"

@@ -4,7 +4,7 @@ import unittest
 from typing import List
 
 from ec_history.client import Server
-from ec_history.history import History, Telling, tell
+from ec_history.history import History, Telling, doubt, tell
 from ec_history.terms import Pattern
 
 from .calculus import Calculus
@@ -89,9 +89,9 @@ class Candidates(unittest.TestCase):
             with Server(paths[0], program()) as server:
                 tell(server, paths[1])
                 history = History(server)
-        self.assertIsNone(history.doubt(Pattern.parse("powered(_)")))
+        self.assertIsNone(doubt(history.theory, Pattern.parse("powered(_)")))
         self.assertEqual(
-            history.doubt(Pattern.parse("powered(_,_)")),
+            doubt(history.theory, Pattern.parse("powered(_,_)")),
             "no rule starts powered with 2 arguments; the theory has powered/1",
         )
 
