@@ -87,7 +87,7 @@ module _ (theory : Theory) (id : List ℕ) (events : List PlainEvent) (history :
 -- ---- updates
 
 -- an update that is accepted leaves a list within the limits
-updated-within : (theory : Theory) (events after : List PlainEvent) (update : PlainUpdate) → IsListWithinLimits theory events
+pub updated-within : (theory : Theory) (events after : List PlainEvent) (update : PlainUpdate) → IsListWithinLimits theory events
     → updated theory events update ≡ Ok after → IsListWithinLimits theory after
 unfolding asserted retracted with_few_mentions
 updated-within theory events after (asserting e) within is =
