@@ -67,11 +67,11 @@ one_place = record { clause = 8; left = pattern (codes "at") (Var 0 ∷ Var 1 �
 
 -- theory A
 unfoldable pub theory_a : Theory
-theory_a = record { rules = lamp_rules; exclusives = one_place; strongs = []; initials = [] }
+theory_a = record { rules = lamp_rules; exclusives = one_place; strongs = []; initials = []; times = [] }
 
 -- theory B: being somewhere is strong
 unfoldable pub theory_b : Theory
-theory_b = record { rules = lamp_rules; exclusives = one_place; strongs = record { clause = 9; name = codes "at"; arity = pos 2 } ∷ []; initials = [] }
+theory_b = record { rules = lamp_rules; exclusives = one_place; strongs = record { clause = 9; name = codes "at"; arity = pos 2 } ∷ []; initials = []; times = [] }
 
 -- theory C: who is rung at home has answered
 unfoldable pub theory_c : Theory
@@ -80,11 +80,12 @@ theory_c = record {
   exclusives = one_place;
   strongs = [];
   initials = [];
+  times = [];
 }
 
 -- theory A with the lamp a powered from before all events
 unfoldable pub theory_powered : Theory
-theory_powered = record { rules = lamp_rules; exclusives = one_place; strongs = []; initials = record { clause = 9; prop = pattern (codes "powered") (Fixed (Word (codes "a")) ∷ []) } ∷ [] }
+theory_powered = record { rules = lamp_rules; exclusives = one_place; strongs = []; initials = record { clause = 9; prop = pattern (codes "powered") (Fixed (Word (codes "a")) ∷ []) } ∷ []; times = [] }
 
 -- properties
 abbrev pub lit_a : Ground
@@ -146,7 +147,7 @@ bob_answered = term (codes "answered") (codes "bob" ∷ [])
 
 -- theory A with bob at home from before all events, and the same where being somewhere is strong
 unfoldable pub home_from_the_start : Theory
-home_from_the_start = record { rules = lamp_rules; exclusives = one_place; strongs = []; initials = record { clause = 9; prop = pattern (codes "at") (Fixed (Word (codes "bob")) ∷ Fixed (Word (codes "home")) ∷ []) } ∷ [] }
+home_from_the_start = record { rules = lamp_rules; exclusives = one_place; strongs = []; initials = record { clause = 9; prop = pattern (codes "at") (Fixed (Word (codes "bob")) ∷ Fixed (Word (codes "home")) ∷ []) } ∷ []; times = [] }
 
 unfoldable pub strong_home_from_the_start : Theory
 strong_home_from_the_start = record {
@@ -154,6 +155,7 @@ strong_home_from_the_start = record {
   exclusives = one_place;
   strongs = record { clause = 9; name = codes "at"; arity = pos 2 } ∷ [];
   initials = record { clause = 10; prop = pattern (codes "at") (Fixed (Word (codes "bob")) ∷ Fixed (Word (codes "home")) ∷ []) } ∷ [];
+  times = [];
 }
 
 -- a push and a plug at one instant
@@ -214,6 +216,7 @@ theory_of_ties = record {
   exclusives = [];
   strongs = [];
   initials = [];
+  times = [];
 }
 
 -- a push and a plug at 10

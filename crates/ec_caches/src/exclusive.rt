@@ -337,6 +337,7 @@ fn undeclared(alloc: Global) -> Theory
         exclusives: Sequence::new(alloc),
         strongs: Sequence::new(alloc),
         initials: Sequence::new(alloc),
+        times: Sequence::new(alloc),
     }
 }
 

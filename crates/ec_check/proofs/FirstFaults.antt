@@ -10,12 +10,13 @@ use Rattle.ec_terms.specs.declared.theory.Rule.{Rule}
 use Rattle.ec_terms.specs.declared.theory.Exclusive.{Exclusive}
 use Rattle.ec_terms.specs.declared.theory.Strong.{Strong}
 use Rattle.ec_terms.specs.declared.theory.Initial.{Initial}
+use Rattle.ec_terms.specs.declared.theory.TimeDecl.{TimeDecl}
 use Rattle.ec_terms.specs.declared.theory.Theory.{Theory}
 use Rattle.ec_check.specs.declared.fault.CheckFault.{CheckFault}
 use Rattle.ec_check.specs.declared.fault.CheckFault.TheVariants.{Arity, TooMany, AnyInHead, Unbound}
-use Rattle.ec_check.specs.declared.fault.Many.TheVariants.{Rules, EventRules, Tests, Literals, Variables, Exclusives, Strongs, Initials}
-use Rattle.ec_check.specs.declared.limits.TheConstants.{MOST_RULES, MOST_EVENT_RULES, MOST_TESTS, MOST_LITERALS, MOST_EXCLUSIVES, MOST_STRONGS, MOST_INITIALS}
-use Rattle.ec_check.specs.Faults.{each_open, exclusive_places, has_few_variables, is_narrow, is_narrow_rule, is_no_any, least_unbound, least_variable, rule_places, same_event, clause_of, earlier_fault, exclusive_fault, first_fault, first_of, first_wrong, initial_fault, rule_fault, strong_fault, IsClauseFault, in_clause, IsFaultOf, of_rule, of_exclusive, of_strong, of_initial, IsFirstFault}
+use Rattle.ec_check.specs.declared.fault.Many.TheVariants.{Rules, EventRules, Tests, Literals, Variables, Exclusives, Strongs, Initials, Times}
+use Rattle.ec_check.specs.declared.limits.TheConstants.{MOST_RULES, MOST_EVENT_RULES, MOST_TESTS, MOST_LITERALS, MOST_EXCLUSIVES, MOST_STRONGS, MOST_INITIALS, MOST_TIMES}
+use Rattle.ec_check.specs.Faults.{each_open, exclusive_places, has_few_variables, is_narrow, is_narrow_rule, is_no_any, least_unbound, least_variable, rule_places, same_event, clause_of, earlier_fault, exclusive_fault, first_fault, first_of, first_wrong, initial_fault, rule_fault, strong_fault, time_fault, IsClauseFault, in_clause, IsFaultOf, of_rule, of_exclusive, of_strong, of_initial, of_time, IsFirstFault}
 use Rattle.ec_check.specs.Numbering.{IsNumbered}
 
 -- ---- the clause of a fault
@@ -74,6 +75,10 @@ initial_fault-clause earlier i =
     (IsIn-else i.clause (not (has_few_variables i.prop.args)) (TooMany Variables i.clause) _ refl
     (IsIn-else i.clause (not (list_all is_no_any i.prop.args)) (AnyInHead i.clause) _ refl
     (IsIn-unbound i.clause (least_variable i.prop)))))
+
+time_fault-clause : (earlier : List TimeDecl) (t : TimeDecl) → IsIn t.clause (time_fault earlier t)
+unfolding time_fault clause_of
+time_fault-clause earlier t = IsIn-else t.clause (nat_le MOST_TIMES (length earlier)) (TooMany Times t.clause) _ refl (IsIn-none t.clause)
 
 -- ---- numbers that ascend
 
@@ -183,37 +188,43 @@ earlier-tells P Q (Some a) (Some b) first second = by_test (nat_lt (clause_of b)
         let le : clause_of a ≤ clause_of b = ⊎_elim (λ l. absurd (false≢true (sym is ∙ lt-ltb (clause_of b) (clause_of a) l))) (λ g. g) (cases_lt (clause_of b) (clause_of a)) in
         (inl first.0, λ g either. ⊎_elim (first.1 g) (λ q. let later = second.1 g q in omega (arith, le, later)) either)
 
--- the faults of the four kinds
-abbrev Four : Theory → CheckFault → Type 0
-Four theory g = IsClauseFault rule_fault theory.rules g ⊎ (IsClauseFault exclusive_fault theory.exclusives g ⊎ (IsClauseFault strong_fault theory.strongs g ⊎ IsClauseFault initial_fault theory.initials g))
+-- the faults of each kind
+abbrev OfEachKind : Theory → CheckFault → Type 0
+OfEachKind theory g =
+    IsClauseFault rule_fault theory.rules g ⊎ (IsClauseFault exclusive_fault theory.exclusives g ⊎ (IsClauseFault strong_fault theory.strongs g
+    ⊎ (IsClauseFault initial_fault theory.initials g ⊎ IsClauseFault time_fault theory.times g)))
 
-to_four : (theory : Theory) (g : CheckFault) → IsFaultOf theory g → Four theory g
-to_four theory g (of_rule f) = inl f
-to_four theory g (of_exclusive f) = inr (inl f)
-to_four theory g (of_strong f) = inr (inr (inl f))
-to_four theory g (of_initial f) = inr (inr (inr f))
+to_each_kind : (theory : Theory) (g : CheckFault) → IsFaultOf theory g → OfEachKind theory g
+to_each_kind theory g (of_rule f) = inl f
+to_each_kind theory g (of_exclusive f) = inr (inl f)
+to_each_kind theory g (of_strong f) = inr (inr (inl f))
+to_each_kind theory g (of_initial f) = inr (inr (inr (inl f)))
+to_each_kind theory g (of_time f) = inr (inr (inr (inr f)))
 
-from_four : (theory : Theory) (g : CheckFault) → Four theory g → IsFaultOf theory g
-from_four theory g four = ⊎_elim (λ f. of_rule f) (λ a. ⊎_elim (λ f. of_exclusive f) (λ b. ⊎_elim (λ f. of_strong f) (λ f. of_initial f) b) a) four
+from_each_kind : (theory : Theory) (g : CheckFault) → OfEachKind theory g → IsFaultOf theory g
+from_each_kind theory g is =
+    ⊎_elim (λ f. of_rule f)
+    (λ a. ⊎_elim (λ f. of_exclusive f) (λ b. ⊎_elim (λ f. of_strong f) (λ c. ⊎_elim (λ f. of_initial f) (λ f. of_time f) c) b) a) is
 
-first_wrong-tells : (theory : Theory) → IsNumbered theory → Tells (Four theory) (first_wrong theory)
+first_wrong-tells : (theory : Theory) → IsNumbered theory → Tells (OfEachKind theory) (first_wrong theory)
 unfolding first_wrong
 first_wrong-tells theory numbered =
     earlier-tells _ _ _ _ (first_fault-tells rule_fault (λ (r : Rule). r.clause) rule_fault-clause theory.rules numbered.rules_ascend)
     (earlier-tells _ _ _ _ (first_fault-tells exclusive_fault (λ (e : Exclusive). e.clause) exclusive_fault-clause theory.exclusives numbered.exclusives_ascend)
     (earlier-tells _ _ _ _ (first_fault-tells strong_fault (λ (s : Strong). s.clause) strong_fault-clause theory.strongs numbered.strongs_ascend)
-    (first_fault-tells initial_fault (λ (i : Initial). i.clause) initial_fault-clause theory.initials numbered.initials_ascend)))
+    (earlier-tells _ _ _ _ (first_fault-tells initial_fault (λ (i : Initial). i.clause) initial_fault-clause theory.initials numbered.initials_ascend)
+    (first_fault-tells time_fault (λ (t : TimeDecl). t.clause) time_fault-clause theory.times numbered.times_ascend))))
 
 -- the fault that is found is in the clause with the least number among those that have one
 pub found_is_first : (theory : Theory) (fault : CheckFault) → IsNumbered theory → first_wrong theory ≡ Some fault → IsFirstFault theory fault
 unfolding Tells
 found_is_first theory fault numbered found =
-    let tells : Tells (Four theory) (Some fault) = subst (Tells (Four theory)) found (first_wrong-tells theory numbered) in
-    record { is_fault = from_four theory fault tells.0; least = λ other is. tells.1 other (to_four theory other is) }
+    let tells : Tells (OfEachKind theory) (Some fault) = subst (Tells (OfEachKind theory)) found (first_wrong-tells theory numbered) in
+    record { is_fault = from_each_kind theory fault tells.0; least = λ other is. tells.1 other (to_each_kind theory other is) }
 
 -- where none is found, no clause has one
 pub none_is_sound : (theory : Theory) → IsNumbered theory → first_wrong theory ≡ None → (fault : CheckFault) → IsFaultOf theory fault → ⊥
 unfolding Tells
 none_is_sound theory numbered none fault is =
-    let tells : Tells (Four theory) None = subst (Tells (Four theory)) none (first_wrong-tells theory numbered) in
-    tells fault (to_four theory fault is)
+    let tells : Tells (OfEachKind theory) None = subst (Tells (OfEachKind theory)) none (first_wrong-tells theory numbered) in
+    tells fault (to_each_kind theory fault is)

@@ -191,8 +191,9 @@ IsMatchable-well_formed theory well_formed =
     let rules = earlier_fault-none _ _ well_formed.no_fault in
     let exclusives = earlier_fault-none _ _ rules.1 in
     let strongs = earlier_fault-none _ _ exclusives.1 in
+    let initials = earlier_fault-none _ _ strongs.1 in
     record {
       rules = All-first_fault rule_fault (λ (r : Rule). AreWithoutGap (rule_places r)) IsMatchableRule (λ earlier r full none. IsMatchableRule-bound r (IsBound-no_fault earlier r full none)) [] theory.rules numbered.rules rules.0;
       exclusives = All-first_fault exclusive_fault (λ (e : Exclusive). AreWithoutGap (exclusive_places e)) IsMatchableExclusive IsMatchableExclusive-no_fault [] theory.exclusives numbered.exclusives exclusives.0;
-      initials = All-first_fault initial_fault (λ (i : Initial). AreWithoutGap i.prop.args) (λ (initial : Initial). IsSmall initial.prop) IsSmall-no_fault [] theory.initials numbered.initials strongs.1;
+      initials = All-first_fault initial_fault (λ (i : Initial). AreWithoutGap i.prop.args) (λ (initial : Initial). IsSmall initial.prop) IsSmall-no_fault [] theory.initials numbered.initials initials.0;
     }

@@ -9,13 +9,14 @@ use Rattle.ec_terms.specs.declared.theory.Rule.{Rule}
 use Rattle.ec_terms.specs.declared.theory.Exclusive.{Exclusive}
 use Rattle.ec_terms.specs.declared.theory.Strong.{Strong}
 use Rattle.ec_terms.specs.declared.theory.Initial.{Initial}
+use Rattle.ec_terms.specs.declared.theory.TimeDecl.{TimeDecl}
 use Rattle.ec_terms.specs.declared.theory.Theory.{Theory}
 use Rattle.ec_terms.specs.Binding.{stands_in}
 use Rattle.ec_terms.specs.declared.limits.TheConstants.{MOST_ARGS, MOST_VARIABLES}
-use Rattle.ec_check.specs.declared.limits.TheConstants.{MOST_RULES, MOST_EVENT_RULES, MOST_TESTS, MOST_LITERALS, MOST_EXCLUSIVES, MOST_STRONGS, MOST_INITIALS}
+use Rattle.ec_check.specs.declared.limits.TheConstants.{MOST_RULES, MOST_EVENT_RULES, MOST_TESTS, MOST_LITERALS, MOST_EXCLUSIVES, MOST_STRONGS, MOST_INITIALS, MOST_TIMES}
 use Rattle.ec_check.specs.declared.fault.CheckFault.{CheckFault}
 use Rattle.ec_check.specs.declared.fault.CheckFault.TheVariants.{Arity, TooMany, AnyInHead, Unbound}
-use Rattle.ec_check.specs.declared.fault.Many.TheVariants.{Rules, EventRules, Tests, Literals, Variables, Exclusives, Strongs, Initials}
+use Rattle.ec_check.specs.declared.fault.Many.TheVariants.{Rules, EventRules, Tests, Literals, Variables, Exclusives, Strongs, Initials, Times}
 
 -- ---- parts of a rule
 
@@ -122,6 +123,10 @@ initial_fault earlier i =
     else (if not (list_all is_no_any i.prop.args) then Some (AnyInHead i.clause)
     else option_map (λ v. Unbound i.clause v) (least_variable i.prop))))
 
+-- the fault of a time declaration that stands behind others
+unfoldable pub time_fault : List TimeDecl → TimeDecl → Option CheckFault
+time_fault earlier t = if nat_le MOST_TIMES (length earlier) then Some (TooMany Times t.clause) else None
+
 -- ---- a theory
 
 -- the first of two, if there is one
@@ -153,7 +158,8 @@ unfoldable pub first_wrong : Theory → Option CheckFault
 first_wrong theory =
     earlier_fault (first_fault rule_fault [] theory.rules)
     (earlier_fault (first_fault exclusive_fault [] theory.exclusives)
-    (earlier_fault (first_fault strong_fault [] theory.strongs) (first_fault initial_fault [] theory.initials)))
+    (earlier_fault (first_fault strong_fault [] theory.strongs)
+    (earlier_fault (first_fault initial_fault [] theory.initials) (first_fault time_fault [] theory.times))))
 
 -- the fault is the first of one of the clauses
 pub data IsClauseFault {A : Type 0} (first : List A → A → Option CheckFault) (list : List A) (fault : CheckFault) : Type 0 where
@@ -165,6 +171,7 @@ pub data IsFaultOf (theory : Theory) (fault : CheckFault) : Type 0 where
   of_exclusive : IsClauseFault exclusive_fault theory.exclusives fault → IsFaultOf theory fault
   of_strong : IsClauseFault strong_fault theory.strongs fault → IsFaultOf theory fault
   of_initial : IsClauseFault initial_fault theory.initials fault → IsFaultOf theory fault
+  of_time : IsClauseFault time_fault theory.times fault → IsFaultOf theory fault
 
 -- the fault is the first of the clause with the least number among those that have one
 pub record IsFirstFault (theory : Theory) (fault : CheckFault) : Type 0 where

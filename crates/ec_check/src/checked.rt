@@ -4,10 +4,10 @@ ghost use Rattle.ec_check.specs.Faults.{first_wrong, earlier_fault, IsFaultOf, I
 ghost use Rattle.ec_check.specs.Numbering.{IsNumbered};
 ghost use Rattle.ec_check.specs.declared.fault.CheckFault.{CheckFault};
 
-use crate::clauses::{exclusives_fault, initials_fault, strongs_fault};
+use crate::clauses::{exclusives_fault, initials_fault, strongs_fault, times_fault};
 use crate::fault::CheckFault;
 use crate::rules::rules_fault;
-use ec_terms::Theory;
+use ec_terms::{Theory, TimeKind, time_of};
 use std::marker::Model;
 
 /// A theory that is well formed and within all limits. Only `check` makes one.
@@ -57,10 +57,9 @@ fn first_wrong(theory: &Theory) -> Option<CheckFault>
     let exclusives = exclusives_fault(theory.exclusives.as_slice());
     let strongs = strongs_fault(theory.strongs.as_slice());
     let initials = initials_fault(theory.initials.as_slice());
-    earlier_fault(
-        rules,
-        earlier_fault(exclusives, earlier_fault(strongs, initials)),
-    )
+    let times = times_fault(theory.times.as_slice());
+    let properties = earlier_fault(strongs, earlier_fault(initials, times));
+    earlier_fault(rules, earlier_fault(exclusives, properties))
 }
 
 /// Checks that a numbered theory is well formed. A fault comes exactly when the theory has one: of the
@@ -79,6 +78,7 @@ pub fn check(theory: Theory) -> Result<Checked, CheckFault>
 }
 
 impl Checked {
+    ghost use Rattle.ec_terms.specs.Domain.{time_of};
     ghost use Rattle.ec_terms.specs.Matchable.{IsMatchable};
     ghost use Rattle.ec_check.specs.WellFormed.{IsWellFormed};
 
@@ -89,5 +89,12 @@ impl Checked {
         ensures matchable { IsMatchable self.now }
     {
         &self.theory
+    }
+
+    /// The kind of the theory's time.
+    pub fn time(&self) -> TimeKind
+        ensures { result ≡ time_of self.now }
+    {
+        time_of(&self.theory)
     }
 }

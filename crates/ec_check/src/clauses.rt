@@ -3,13 +3,13 @@ ghost use Rattle.std.specs.Prelude.{◌≡◌, ◌&&◌, [], pos, int_le};
 ghost use Rattle.std.specs.List.{All};
 ghost use Rattle.ec_terms.specs.declared.theory.Exclusive.{Exclusive};
 ghost use Rattle.ec_terms.specs.declared.theory.Initial.{Initial};
-ghost use Rattle.ec_check.specs.Faults.{exclusive_fault, exclusive_places, has_few_variables, strong_fault, initial_fault, least_variable, first_fault};
+ghost use Rattle.ec_check.specs.Faults.{exclusive_fault, exclusive_places, has_few_variables, strong_fault, initial_fault, least_variable, time_fault, first_fault};
 ghost use Rattle.ec_check.specs.Numbering.{AreWithoutGap};
 
 use crate::fault::{CheckFault, Many};
-use crate::limits::{MOST_EXCLUSIVES, MOST_INITIALS, MOST_STRONGS};
+use crate::limits::{MOST_EXCLUSIVES, MOST_INITIALS, MOST_STRONGS, MOST_TIMES};
 use crate::rules::{both, has_no_any, is_narrow, is_small, stands_in, unbound_fault};
-use ec_terms::{Exclusive, Initial, MOST_ARGS, MOST_VARIABLES, Pattern, Strong};
+use ec_terms::{Exclusive, Initial, MOST_ARGS, MOST_VARIABLES, Pattern, Strong, TimeDecl};
 
 /// Whether an exclusive declaration has at most 16 different variables.
 #[tactic(auto, using(crate::proofs::FewVariables::few_in_exclusive))]
@@ -104,6 +104,19 @@ fn initial_fault(earlier: &[Initial], declaration: &Initial) -> Option<CheckFaul
     }
 }
 
+/// The first fault of a time declaration behind others.
+#[tactic(auto, unfolding(crate::specs::Faults::time_fault))]
+fn time_fault(earlier: &[TimeDecl], declaration: &TimeDecl) -> Option<CheckFault>
+    ensures { result ≡ time_fault earlier.now declaration.now }
+{
+    let clause = declaration.clause;
+    if earlier.len() >= MOST_TIMES {
+        Some(CheckFault::TooMany(Many::Times, clause))
+    } else {
+        None
+    }
+}
+
 /// The first fault of the exclusive declarations of a theory.
 #[tactic(auto, using(crate::proofs::FirstFound::fault_here, crate::proofs::FirstFound::fault_on, crate::proofs::FirstFound::fault_end))]
 pub fn exclusives_fault(declarations: &[Exclusive]) -> Option<CheckFault>
@@ -139,6 +152,19 @@ pub fn initials_fault(declarations: &[Initial]) -> Option<CheckFault>
 {
     for (place, declaration) in declarations.iter().enumerate() {
         if let Some(fault) = initial_fault(&declarations[..place], declaration) {
+            return Some(fault);
+        }
+    }
+    None
+}
+
+/// The first fault of the time declarations of a theory.
+#[tactic(auto, using(crate::proofs::FirstFound::fault_here, crate::proofs::FirstFound::fault_on, crate::proofs::FirstFound::fault_end))]
+pub fn times_fault(declarations: &[TimeDecl]) -> Option<CheckFault>
+    ensures { result ≡ first_fault time_fault [] declarations.now }
+{
+    for (place, declaration) in declarations.iter().enumerate() {
+        if let Some(fault) = time_fault(&declarations[..place], declaration) {
             return Some(fault);
         }
     }

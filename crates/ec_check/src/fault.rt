@@ -21,6 +21,8 @@ pub enum Many {
     Strongs,
     /// Over 1,024 initial properties.
     Initials,
+    /// Over one time declaration.
+    Times,
 }
 
 /// The first fault of a theory. The first number is that of its clause, from 1 over all clauses.

@@ -20,3 +20,6 @@ pub const MOST_STRONGS: usize = 1_024;
 
 /// The most initial properties of a theory.
 pub const MOST_INITIALS: usize = 1_024;
+
+/// The most time declarations of a theory.
+pub const MOST_TIMES: usize = 1;

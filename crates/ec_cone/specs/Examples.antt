@@ -21,6 +21,7 @@ theory_of_doors = record {
   exclusives = record { clause = 6; left = pattern (codes "open") (Any ∷ []); right = bare_pattern (codes "shut") } ∷ [];
   strongs = [];
   initials = [];
+  times = [];
 }
 
 -- properties of doors

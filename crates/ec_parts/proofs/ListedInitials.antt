@@ -75,7 +75,11 @@ all_fixed earlier (i ∷ initials) none small =
 -- no initial property has a fault
 no_fault : (theory : Theory) → IsWellFormed theory → first_fault initial_fault [] theory.initials ≡ None
 unfolding first_wrong
-no_fault theory well_formed = (earlier_fault-none _ _ (earlier_fault-none _ _ (earlier_fault-none _ _ well_formed.no_fault).1).1).1
+no_fault theory well_formed =
+    let rules = earlier_fault-none _ _ well_formed.no_fault in
+    let exclusives = earlier_fault-none _ _ rules.1 in
+    let strongs = earlier_fault-none _ _ exclusives.1 in
+    (earlier_fault-none _ _ strongs.1).0
 
 pub lists_initials : (theory : Theory) → IsWellFormed theory → IsMatchable theory → ListsInitials theory
 lists_initials theory well_formed matchable = FixedInitialsAreListed-law theory (all_fixed [] theory.initials (no_fault theory well_formed) matchable.initials)

@@ -8,7 +8,7 @@ use Rattle.ec_outside.proofs.Streams.{Appended-then-NothingAppended, AppendedPar
 use Rattle.ec_outside.specs.Files.{Files, HasFile, IsMissing, IsTooLong}
 use Rattle.ec_server.specs.declared.status.Status.{Status}
 use Rattle.ec_server.specs.declared.status.Status.TheVariants as status
-use Rattle.ec_server.specs.Answered.{in_ticks}
+use Rattle.ec_server.specs.Answered.{language_of}
 use Rattle.ec_server.specs.CommandEnds.{SaysBytes, SaysLine, SaysRefused, SaysReplayed, SaysUnread, WithTheory, Wrote}
 use Rattle.ec_server.specs.Ending.{SaysServed}
 use Rattle.ec_server.specs.InputLimits.{most_input, IsShort, IsLong}
@@ -153,7 +153,7 @@ module _ {K : Type 0} (stands : K → List ℕ → Type 0) (faults : K → ℕ) 
 
 module _ {S K : Type 0} (left : S → Option (List ℕ)) (read_faults : S → ℕ) (stands : K → List ℕ → Type 0) (write_faults : K → ℕ) (theory : Theory)
     (input_before input : S) (output_before output : K) where
-  pub same_serve : (s : Status) → IsUntouched s → SaysServed left read_faults stands write_faults (in_ticks theory) most_input input_before input output_before output s
+  pub same_serve : (s : Status) → IsUntouched s → SaysServed left read_faults stands write_faults (language_of theory) most_input input_before input output_before output s
       → (output ≡ output_before) × (input ≡ input_before)
   same_serve status.NoMemory untouched says = says
   same_serve status.FolderFault untouched says = absurd says
@@ -178,7 +178,7 @@ module _ {K : Type 0} (stands : K → List ℕ → Type 0) (faults : K → ℕ) 
     pub replay_done : (bytes : List ℕ) → HasLines told name bytes → (s : Status) → SaysReplayed stands faults told name before after old new theory s → (s ≡ status.Done) ⊎ (s ≡ status.NoMemory)
     replay_done bytes has s (inl read) = answered s read.2
       where
-        answered : (s : Status) → SaysBytes stands faults (in_ticks theory) old new read.0 s → (s ≡ status.Done) ⊎ (s ≡ status.NoMemory)
+        answered : (s : Status) → SaysBytes stands faults (language_of theory) old new read.0 s → (s ≡ status.Done) ⊎ (s ≡ status.NoMemory)
         answered status.Done says = inl refl
         answered status.NoShape says = absurd says
         answered status.BadTheory says = absurd says
@@ -205,10 +205,10 @@ module _ {S K : Type 0} (left : S → Option (List ℕ)) (read_faults : S → �
     (input_before input : S) (output_before output : K) (is_text : left input_before ≡ Some text)
     (reads : ¬ Rose (read_faults input_before) (read_faults input)) (writes : ¬ Rose (write_faults output_before) (write_faults output)) where
   abbrev Serving : Status → Type 0
-  Serving s = SaysServed left read_faults stands write_faults (in_ticks theory) most_input input_before input output_before output s
+  Serving s = SaysServed left read_faults stands write_faults (language_of theory) most_input input_before input output_before output s
 
   -- a short input is read to its end or to `quit`
-  pub done_if_short : IsShort (in_ticks theory) most_input text → (s : Status) → Serving s → (s ≡ status.Done) ⊎ (s ≡ status.NoMemory)
+  pub done_if_short : IsShort (language_of theory) most_input text → (s : Status) → Serving s → (s ≡ status.Done) ⊎ (s ≡ status.NoMemory)
   done_if_short short status.Done says = inl refl
   done_if_short short status.NoShape says = absurd says
   done_if_short short status.BadTheory says = absurd says
@@ -220,7 +220,7 @@ module _ {S K : Type 0} (left : S → Option (List ℕ)) (read_faults : S → �
   done_if_short short status.LongLines says = absurd says
 
   -- a long one up to the limit
-  pub limit_if_long : IsLong (in_ticks theory) most_input text → (s : Status) → Serving s → (s ≡ status.LimitReached) ⊎ (s ≡ status.NoMemory)
+  pub limit_if_long : IsLong (language_of theory) most_input text → (s : Status) → Serving s → (s ≡ status.LimitReached) ⊎ (s ≡ status.NoMemory)
   limit_if_long long status.Done says = absurd (long_not_done says text is_text long.long long.going)
   limit_if_long long status.NoShape says = absurd says
   limit_if_long long status.BadTheory says = absurd says

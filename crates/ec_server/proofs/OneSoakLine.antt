@@ -19,7 +19,7 @@ use Rattle.ec_soak.specs.declared.generated_line.GeneratedLine.TheVariants.{Asse
 use Rattle.ec_soak.specs.Load.{generated_lines, generated_load, line_text}
 use Rattle.ec_soak.specs.Tally.{counts_of, is_memory, summary_line}
 use Rattle.ec_soak.proofs.CutLoads.{lines_of-load}
-use Rattle.ec_server.specs.Answered.{in_ticks}
+use Rattle.ec_server.specs.Answered.{language_of}
 use Rattle.ec_server.specs.Soaking.{IsSoaked, IsSoakLine, soak_theory}
 use Rattle.ec_server.proofs.ReplyEnds.{IsEnded, ended-append, reply_of-ended}
 
@@ -120,9 +120,9 @@ lines_of_load lines seed = lines_of-load (generated_lines lines seed)
 same_counts : (lines seed : ℕ) (counts other : Counts) → IsSoaked lines seed counts → IsSoaked lines seed other → counts ≡ other
 same_counts lines seed counts other one two =
     let load = lines_of_load lines seed in
-    let run = subst (λ (l : List (List ℕ)). Run (in_ticks soak_theory) empty_state l one.out one.run.0) load one.run.1 in
-    let further = subst (λ (l : List (List ℕ)). Run (in_ticks soak_theory) empty_state l two.out two.run.0) load two.run.1 in
-    let same = one_output (in_ticks soak_theory) empty_state one.run.0 two.run.0 (generated_lines lines seed) one.out two.out
+    let run = subst (λ (l : List (List ℕ)). Run (language_of soak_theory) empty_state l one.out one.run.0) load one.run.1 in
+    let further = subst (λ (l : List (List ℕ)). Run (language_of soak_theory) empty_state l two.out two.run.0) load two.run.1 in
+    let same = one_output (language_of soak_theory) empty_state one.run.0 two.run.0 (generated_lines lines seed) one.out two.out
     (HasNoRefusal-of one.out (sym (ap (λ (c : Counts). c.memory) one.counts_are) ∙ one.no_memory))
     (HasNoRefusal-of two.out (sym (ap (λ (c : Counts). c.memory) two.counts_are) ∙ two.no_memory)) run further in
     one.counts_are ∙ ap counts_of same ∙ sym two.counts_are

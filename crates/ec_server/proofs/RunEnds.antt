@@ -6,10 +6,10 @@ use Rattle.ec_outside.specs.Counts.{Rose}
 use Rattle.ec_outside.specs.Files.{Files, IsMissing, IsTooLong}
 use Rattle.ec_outside.specs.Streams.{Appended, AppendedPart, IsAtEnd, Took}
 use Rattle.ec_outside.proofs.Streams.{Took-nil}
-use Rattle.ec_replies.specs.Runs.{has_quit, is_quit}
+use Rattle.ec_replies.specs.Runs.{has_quit}
 use Rattle.ec_server.specs.declared.status.Status.{Status}
 use Rattle.ec_server.specs.declared.status.Status.TheVariants as status
-use Rattle.ec_server.specs.Answered.{AnswersLines, in_ticks}
+use Rattle.ec_server.specs.Answered.{AnswersLines, language_of}
 use Rattle.ec_server.specs.ByShape.{HasLongTheory, IsReady, IsRefused, LacksFile, Serves, TellsServed, WrotePart, takes_input}
 use Rattle.ec_server.specs.CommandEnds.{Wrote}
 use Rattle.ec_server.specs.Ending.{GoesOn}
@@ -22,18 +22,19 @@ use Rattle.ec_server.specs.TheoryFiles.{HasTheory, accepted_line, theory_line}
 use Rattle.ec_server.specs.Words.{Shape, check_theory, replay_lines, serve_theory, soak_lines, usage_line}
 use Rattle.ec_server.proofs.CommandEnds.{IsInputStatus, IsUntouched, done_if_short, limit_if_long, line_done, never_replayed, no_line, no_refusal, no_replay, only_memory, refuses_with, replay_done, replay_long, same_line, same_refusal, same_replay, same_serve, told_refused}
 use Rattle.ec_server.proofs.StatusCodes.{by_either, either_code, first_of_two, second_of_two, some_of, status_same, told_code}
-use Rattle.ec_server.proofs.TheoryTexts.{HasTheory-not_refused}
+use Rattle.ec_server.proofs.TheoryTexts.{HasFile-told, HasTheory-not_refused, HasTheory-same}
 use Rattle.ec_server.proofs.ToldFaults.{line_told, read_told, refusal_told, replay_told, write_told}
 use Rattle.ec_server.proofs.WholeInput.{left_at_limit, lines_done, read_done, taken_within}
 
--- whether a line is `quit` is the same with every theory
-same_quit : (theory other : Theory) (lines : List (List ℕ)) → has_quit (in_ticks theory) lines ≡ false → has_quit (in_ticks other) lines ≡ false
-unfolding is_quit
-same_quit theory other lines going = going
+-- the input that ends early does so with the theory in the file
+same_short : {told : Option Files} {name : List ℕ} {theory other : Theory} (text : List ℕ) → HasTheory told name theory → (IsSome told → HasTheory told name other)
+    → IsShort (language_of theory) most_input text → IsShort (language_of other) most_input text
+same_short text has tells short = subst (λ (t : Theory). IsShort (language_of t) most_input text) (HasTheory-same has (tells (HasFile-told has.file))) short
 
-same_short : (theory other : Theory) (text : List ℕ) → IsShort (in_ticks theory) most_input text → IsShort (in_ticks other) most_input text
-unfolding is_quit
-same_short theory other text short = short
+-- and the one that does not
+same_long : {told : Option Files} {name : List ℕ} {theory other : Theory} (text : List ℕ) → HasTheory told name theory → (IsSome told → HasTheory told name other)
+    → IsLong (language_of theory) most_input text → IsLong (language_of other) most_input text
+same_long text has tells long = subst (λ (t : Theory). IsLong (language_of t) most_input text) (HasTheory-same has (tells (HasFile-told has.file))) long
 
 -- ---- how a run ends
 
@@ -75,12 +76,12 @@ module _ {S K : Type 0} {left : S → Option (List ℕ)} {read_faults : S → �
   -- ---- 0
 
   pub replies : IsRan left read_faults stands write_faults told before after input_before input output_before output asks code → code ≡ 0 → (shape : Shape) → asks ≡ Some shape → TellsServed told (left input_before) shape
-      → (theory : Theory) × (text : List ℕ) × Serves told (left input_before) shape theory text × AnswersLines stands (in_ticks theory) (lines_of text) output_before output
+      → (theory : Theory) × (text : List ℕ) × Serves told (left input_before) shape theory text × AnswersLines stands (language_of theory) (lines_of text) output_before output
   unfolding code_of
   replies run is shape asked tells = by_shape shape (ends_at run status.Done is shape asked) tells
     where
       by_shape : (shape : Shape) → Ends left read_faults stands write_faults told before after input_before input output_before output (Some shape) status.Done → TellsServed told (left input_before) shape
-          → (theory : Theory) × (text : List ℕ) × Serves told (left input_before) shape theory text × AnswersLines stands (in_ticks theory) (lines_of text) output_before output
+          → (theory : Theory) × (text : List ℕ) × Serves told (left input_before) shape theory text × AnswersLines stands (language_of theory) (lines_of text) output_before output
       by_shape (check_theory name) ends tells = absurd tells
       by_shape (serve_theory name) ends tells =
           let with = first_of_two ends.says.says (λ none. none.0) in
@@ -105,7 +106,7 @@ module _ {S K : Type 0} {left : S → Option (List ℕ)} {read_faults : S → �
           (λ text why. HasTheory-not_refused ready.1 why) run.ended none.0))
       by_shape (serve_theory name) ends ready =
           by_either ends.says.says
-          (λ with. done_if_short left read_faults stands write_faults with.0 ready.1 input_before input output_before output ready.3 reads writes (same_short ready.0 with.0 ready.1 ready.4) run.ended with.2)
+          (λ with. done_if_short left read_faults stands write_faults with.0 ready.1 input_before input output_before output ready.3 reads writes (same_short ready.1 ready.2 with.1 ready.4) run.ended with.2)
           (λ none. inr (only_memory stands write_faults told name before after output_before output ready.2.bytes ready.2.file fine
           (λ text why. HasTheory-not_refused ready.2 why) run.ended none.0))
       by_shape (replay_lines name lines) ends ready =
@@ -117,7 +118,7 @@ module _ {S K : Type 0} {left : S → Option (List ℕ)} {read_faults : S → �
 
   pub ended : IsRan left read_faults stands write_faults told before after input_before input output_before output asks code → code ≡ 0 → (name : List ℕ) → asks ≡ Some (serve_theory name)
       → (theory : Theory) × (IsSome told → HasTheory told name theory)
-      × ((taken : List ℕ) × Took (left input_before) (left input) taken × (IsAtEnd (left input) ⊎ (has_quit (in_ticks theory) (whole_lines taken) ≡ true)))
+      × ((taken : List ℕ) × Took (left input_before) (left input) taken × (IsAtEnd (left input) ⊎ (has_quit (language_of theory) (whole_lines taken) ≡ true)))
   unfolding code_of
   ended run is name asked =
       let with = first_of_two (ends_at run status.Done is (serve_theory name) asked).says.says (λ none. none.0) in
@@ -214,7 +215,7 @@ module _ {S K : Type 0} {left : S → Option (List ℕ)} {read_faults : S → �
       (first_of_two (ends_at run status.ReadFault is (serve_theory alone.0) alone.1).says.says (λ none. none.0)).2.read_fault refl
 
   pub whole : IsRan left read_faults stands write_faults told before after input_before input output_before output asks code → code ≡ 4 → (name : List ℕ) → asks ≡ Some (serve_theory name)
-      → (theory : Theory) × (IsSome told → HasTheory told name theory) × ((taken : List ℕ) × Took (left input_before) (left input) taken × GoesOn stands (in_ticks theory) taken output_before output)
+      → (theory : Theory) × (IsSome told → HasTheory told name theory) × ((taken : List ℕ) × Took (left input_before) (left input) taken × GoesOn stands (language_of theory) taken output_before output)
   unfolding code_of
   whole run is name asked =
       let with = first_of_two (ends_at run status.ReadFault is (serve_theory name) asked).says.says (λ none. none.0) in
@@ -222,7 +223,7 @@ module _ {S K : Type 0} {left : S → Option (List ℕ)} {read_faults : S → �
 
   pub limit : IsRan left read_faults stands write_faults told before after input_before input output_before output asks code → code ≡ 8 → (name : List ℕ) → asks ≡ Some (serve_theory name)
       → (theory : Theory) × (IsSome told → HasTheory told name theory)
-      × ((taken : List ℕ) × Took (left input_before) (left input) taken × (length taken ≡ most_input) × GoesOn stands (in_ticks theory) taken output_before output)
+      × ((taken : List ℕ) × Took (left input_before) (left input) taken × (length taken ≡ most_input) × GoesOn stands (language_of theory) taken output_before output)
   unfolding code_of
   limit run is name asked =
       let with = first_of_two (ends_at run status.LimitReached is (serve_theory name) asked).says.says (λ none. none.0) in
@@ -235,17 +236,14 @@ module _ {S K : Type 0} {left : S → Option (List ℕ)} {read_faults : S → �
       left_at_limit (first_of_two (ends_at run status.LimitReached is (serve_theory alone.0) alone.1).says.says (λ none. none.0)).2 text is_text
 
   pub stops : IsRan left read_faults stands write_faults told before after input_before input output_before output asks code → (name text : List ℕ) (theory : Theory) → asks ≡ Some (serve_theory name) → HasTheory told name theory → left input_before ≡ Some text
-      → IsLong (in_ticks theory) most_input text → ¬ Rose before after → ¬ Rose (read_faults input_before) (read_faults input)
+      → IsLong (language_of theory) most_input text → ¬ Rose before after → ¬ Rose (read_faults input_before) (read_faults input)
       → ¬ Rose (write_faults output_before) (write_faults output) → (code ≡ 8) ⊎ (code ≡ 6)
   unfolding code_of
   stops run name text theory asked has is_text long fine reads writes =
       either_code status.LimitReached status.NoMemory run.is (by_either (ends_of run (serve_theory name) asked).says.says
-      (λ with. limit_if_long left read_faults stands write_faults with.0 text input_before input output_before output is_text reads writes (any_theory with.0) run.ended with.2)
+      (λ with. limit_if_long left read_faults stands write_faults with.0 text input_before input output_before output is_text reads writes (same_long text has with.1 long) run.ended with.2)
       (λ none. inr (only_memory stands write_faults told name before after output_before output has.bytes has.file fine
       (λ said why. HasTheory-not_refused has why) run.ended none.0)))
-    where
-      any_theory : (other : Theory) → IsLong (in_ticks other) most_input text
-      any_theory other = record { long = long.long; going = same_quit theory other (whole_lines (take most_input text)) long.going }
 
   -- ---- 5
 
@@ -337,7 +335,7 @@ module _ {S K : Type 0} {left : S → Option (List ℕ)} {read_faults : S → �
       by_words None ends = none_taken ends.says.2
       by_words (Some (check_theory name)) ends = none_taken ends.says.1
       by_words (Some (serve_theory name)) ends =
-          by_either ends.says.says (λ with. taken_within left read_faults stands write_faults (in_ticks with.0) most_input input_before input output_before output run.ended with.2)
+          by_either ends.says.says (λ with. taken_within left read_faults stands write_faults (language_of with.0) most_input input_before input output_before output run.ended with.2)
           (λ none. none_taken none.1)
       by_words (Some (replay_lines name lines)) ends = none_taken ends.says.1
       by_words (Some (soak_lines lines seed)) ends = none_taken ends.says.1
@@ -388,7 +386,7 @@ module _ {S K : Type 0} {left : S → Option (List ℕ)} {read_faults : S → �
       by_words None ends = inr (ap read_faults ends.says.2)
       by_words (Some (check_theory name)) ends = inr (ap read_faults ends.says.1)
       by_words (Some (serve_theory name)) ends =
-          by_either ends.says.says (λ with. read_told left read_faults stands write_faults (in_ticks with.0) most_input input_before input output_before output run.ended with.2)
+          by_either ends.says.says (λ with. read_told left read_faults stands write_faults (language_of with.0) most_input input_before input output_before output run.ended with.2)
           (λ none. inr (ap read_faults none.1))
       by_words (Some (replay_lines name lines)) ends = inr (ap read_faults ends.says.1)
       by_words (Some (soak_lines lines seed)) ends = inr (ap read_faults ends.says.1)
@@ -424,7 +422,7 @@ module _ {S K : Type 0} {left : S → Option (List ℕ)} {read_faults : S → �
           (λ none. refused_line (refusal_told stands write_faults output_before output told name before after run.ended none.0))
       by_words (Some (serve_theory name)) ends =
           by_either ends.says.says
-          (λ with. broken (write_told left read_faults stands write_faults (in_ticks with.0) most_input input_before input output_before output run.ended with.2))
+          (λ with. broken (write_told left read_faults stands write_faults (language_of with.0) most_input input_before input output_before output run.ended with.2))
           (λ none. refused_line (refusal_told stands write_faults output_before output told name before after run.ended none.0))
       by_words (Some (replay_lines name lines)) ends =
           by_either ends.says.0.says (λ with. broken (replay_told stands write_faults output_before output told lines before after with.0 run.ended with.2))

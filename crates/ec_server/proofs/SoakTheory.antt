@@ -13,7 +13,7 @@ use Rattle.ec_axioms.specs.Examples.{lamp_rules, lit_second, literal, one_place,
 use Rattle.ec_theory.specs.declared.token_fault.TokenFault.{TokenFault}
 use Rattle.ec_theory.specs.Lexeme.{Lexemes}
 use Rattle.ec_theory.specs.Tokens.{mark_piece, name_piece, number_piece, piece_length, piece_of, place_behind, start, tokens_from, tokens_of, with_end, with_front, with_piece}
-use Rattle.ec_check.specs.Faults.{each_open, earlier_fault, exclusive_fault, first_fault, first_from, first_wrong, has_few_variables, initial_fault, is_narrow_rule, is_unbound, least_unbound, rule_fault, rule_places, same_event, strong_fault, variables_in}
+use Rattle.ec_check.specs.Faults.{each_open, earlier_fault, exclusive_fault, first_fault, first_from, first_wrong, has_few_variables, initial_fault, is_narrow_rule, is_unbound, least_unbound, rule_fault, rule_places, same_event, strong_fault, time_fault, variables_in}
 use Rattle.ec_theory.specs.declared.clause.Clause.TheVariants as clause
 use Rattle.ec_theory.specs.declared.condition.Condition.TheVariants as condition
 use Rattle.ec_theory.specs.Accepted.{IsAccepted}
@@ -31,9 +31,9 @@ lexemes_or (Err fault) = record { tokens = []; end = start }
 abbrev soak_lexemes : Lexemes
 soak_lexemes = lexemes_or (tokens_of soak_text)
 
--- a theory without initial properties
+-- a theory without initial properties, whose times are whole numbers
 abbrev of_clauses : List Rule → List Exclusive → List Strong → Theory
-of_clauses rules exclusives strongs = record { rules = rules; exclusives = exclusives; strongs = strongs; initials = [] }
+of_clauses rules exclusives strongs = record { rules = rules; exclusives = exclusives; strongs = strongs; initials = []; times = [] }
 
 abbrev at_one_place : Exclusive
 at_one_place = record { clause = 8; left = pattern (codes "at") (Var 0 ∷ Var 1 ∷ []); right = pattern (codes "at") (Var 0 ∷ Var 2 ∷ []) }
@@ -76,7 +76,7 @@ soak_reads =
     (one_more {c = clause.Strong at_is_strong} {theory = of_clauses [] [] []} (strong refl) no_more))))))))
 
 no_fault : first_wrong theory_b ≡ None
-unfolding first_wrong earlier_fault first_fault rule_fault exclusive_fault strong_fault initial_fault each_open is_narrow_rule same_event rule_places variables_in has_few_variables is_unbound first_from least_unbound theory_b lamp_rules one_place
+unfolding first_wrong earlier_fault first_fault rule_fault exclusive_fault strong_fault initial_fault time_fault each_open is_narrow_rule same_event rule_places variables_in has_few_variables is_unbound first_from least_unbound theory_b lamp_rules one_place
 no_fault = refl
 
 cut : tokens_of soak_text ≡ Ok soak_lexemes

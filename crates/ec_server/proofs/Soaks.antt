@@ -11,7 +11,7 @@ use Rattle.ec_soak.proofs.CutLoads.{is_long-line_text, length-drawn_lines}
 use Rattle.ec_theory.specs.Accepted.{IsAccepted}
 use Rattle.ec_server.specs.declared.status.Status.{Status}
 use Rattle.ec_server.specs.declared.status.Status.TheVariants as status
-use Rattle.ec_server.specs.Answered.{AnswersLines, in_ticks}
+use Rattle.ec_server.specs.Answered.{AnswersLines, language_of}
 use Rattle.ec_server.specs.CommandEnds.{SaysBytes}
 use Rattle.ec_server.specs.Ending.{SaysServed}
 use Rattle.ec_server.specs.Soaking.{IsSoaked, soak_text, soak_theory}
@@ -40,14 +40,14 @@ length-generated_load lines seed = omega (arith, length-load_of (generated_lines
 -- what was served to the end was counted
 pub IsSoaked-of : (lines seed limit : ℕ) (theory : Theory) (text before left : List ℕ) (blank tally : Tally) (s : Status) (counts : Counts) → length (generated_load lines seed) < limit
     → text ≡ soak_text → IsAccepted text theory → before ≡ generated_load lines seed → blank ≡ tally_of [] → s ≡ status.Done
-    → SaysServed (λ (bytes : List ℕ). Some bytes) (λ (bytes : List ℕ). 0) stands_for_tally (λ (t : Tally). 0) (in_ticks theory) limit before left blank tally s
+    → SaysServed (λ (bytes : List ℕ). Some bytes) (λ (bytes : List ℕ). 0) stands_for_tally (λ (t : Tally). 0) (language_of theory) limit before left blank tally s
     → ((output : List ℕ) → stands_for_tally tally output → counts ≡ counts_of output) → counts.memory ≡ 0 → IsSoaked lines seed counts
 IsSoaked-of lines seed limit theory text before left blank tally s counts below is_text accepted is_load is_blank done served counted none =
     let same : theory ≡ soak_theory = accepted_same (subst (λ (t : List ℕ). IsAccepted t theory) is_text accepted) soak_accepted in
-    let answers : AnswersLines stands_for_tally (in_ticks soak_theory) (lines_of (generated_load lines seed)) blank tally =
-    subst (λ (t : Theory). AnswersLines stands_for_tally (in_ticks t) (lines_of (generated_load lines seed)) blank tally) same
-    (subst (λ (t : Status). SaysBytes stands_for_tally (λ (t : Tally). 0) (in_ticks theory) blank tally (generated_load lines seed) t) done
-    (SaysBytes-of (λ (bytes : List ℕ). Some bytes) (λ (bytes : List ℕ). 0) stands_for_tally (λ (t : Tally). 0) (in_ticks theory) limit before left blank tally
+    let answers : AnswersLines stands_for_tally (language_of soak_theory) (lines_of (generated_load lines seed)) blank tally =
+    subst (λ (t : Theory). AnswersLines stands_for_tally (language_of t) (lines_of (generated_load lines seed)) blank tally) same
+    (subst (λ (t : Status). SaysBytes stands_for_tally (λ (t : Tally). 0) (language_of theory) blank tally (generated_load lines seed) t) done
+    (SaysBytes-of (λ (bytes : List ℕ). Some bytes) (λ (bytes : List ℕ). 0) stands_for_tally (λ (t : Tally). 0) (language_of theory) limit before left blank tally
     (generated_load lines seed) (ap (λ (b : List ℕ). Some b) is_load) below zero_stays s served)).0 in
     record {
       out = answers.out;

@@ -85,6 +85,10 @@ HasTheory-not_refused has (too_long long) = HasFile-not_long has.file has.fits l
 HasTheory-not_refused {theory = theory} has (faulty bytes text fault file fits wrong said) =
     accepted_not_faulty (subst (λ (b : List ℕ). IsAccepted b theory) (HasFile-same has.file file) has.accepted) text fault wrong said
 
+-- a file has at most one theory
+pub HasTheory-same : {told : Option Files} {name : List ℕ} {a b : Theory} → HasTheory told name a → HasTheory told name b → a ≡ b
+HasTheory-same {b = b} one other = accepted_same one.accepted (subst (λ (bytes : List ℕ). IsAccepted bytes b) (sym (HasFile-same one.file other.file)) other.accepted)
+
 -- what is refused is a file that the folder tells
 pub IsNoTheory-file : {told : Option Files} {name text : List ℕ} → IsNoTheory told name text → (bytes : List ℕ) × HasFile told name bytes
 IsNoTheory-file (too_long long) = (long.bytes, long.file)

@@ -7,7 +7,7 @@ use Rattle.ec_server.specs.declared.ending.Ending.{Ending}
 use Rattle.ec_server.specs.declared.ending.Ending.TheVariants as ending
 use Rattle.ec_server.specs.declared.status.Status.{Status}
 use Rattle.ec_server.specs.declared.status.Status.TheVariants as status
-use Rattle.ec_server.specs.Answered.{in_ticks}
+use Rattle.ec_server.specs.Answered.{language_of}
 use Rattle.ec_server.specs.CommandEnds.{SaysBytes, SaysLine, SaysRefused, SaysReplayed, SaysUnread}
 use Rattle.ec_server.specs.Ending.{HasEnded, SaysServed}
 use Rattle.ec_server.proofs.StatusCodes.{second_of_two}
@@ -90,7 +90,7 @@ module _ {K : Type 0} (stands : K → List ℕ → Type 0) (faults : K → ℕ) 
 
     -- the lines of a file
     pub replay_told : (theory : Theory) (s : Status) → SaysReplayed stands faults told name before after old new theory s → (s ≡ status.WriteFault) ⊎ (faults new ≡ faults old)
-    replay_told theory s (inl read) = bytes_told (in_ticks theory) read.0 s read.2
+    replay_told theory s (inl read) = bytes_told (language_of theory) read.0 s read.2
     replay_told theory s (inr unread) = inr (unread_told s unread)
 
     -- without a theory only the one line about it is written

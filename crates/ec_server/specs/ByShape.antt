@@ -4,7 +4,7 @@ use Rattle.ec_terms.specs.declared.theory.Theory.{Theory}
 use Rattle.ec_commands.specs.Lines.{lines_of}
 use Rattle.ec_outside.specs.Files.{Files, IsMissing, IsTooLong}
 use Rattle.ec_outside.specs.Streams.{AppendedPart, Took}
-use Rattle.ec_server.specs.Answered.{AnswersPart, in_ticks}
+use Rattle.ec_server.specs.Answered.{AnswersPart, language_of}
 use Rattle.ec_server.specs.Ending.{IsBroken}
 use Rattle.ec_server.specs.InputLimits.{most_input, IsShort}
 use Rattle.ec_server.specs.LineFiles.{HasLines}
@@ -63,7 +63,7 @@ TellsServed told left (soak_lines lines seed) = ⊥
 abbrev pub IsReady : Option Files → Option (List ℕ) → Shape → Type 0
 IsReady told left (check_theory name) = (theory : Theory) × HasTheory told name theory
 IsReady told left (serve_theory name) =
-    (theory : Theory) × (text : List ℕ) × HasTheory told name theory × (left ≡ Some text) × IsShort (in_ticks theory) most_input text
+    (theory : Theory) × (text : List ℕ) × HasTheory told name theory × (left ≡ Some text) × IsShort (language_of theory) most_input text
 IsReady told left (replay_lines name lines) = (theory : Theory) × (text : List ℕ) × HasTheory told name theory × HasLines told lines text
 IsReady told left (soak_lines lines seed) = Unit {0}
 
@@ -76,8 +76,8 @@ WrotePart stands told before after (check_theory name) old new =
     (theory : Theory) × (IsSome told → HasTheory told name theory) × AppendedPart stands old new (accepted_line theory)
 WrotePart stands told before after (serve_theory name) old new =
     (theory : Theory) × (IsSome told → HasTheory told name theory)
-    × ((taken : List ℕ) × Took before after taken × IsBroken stands (in_ticks theory) after taken old new)
+    × ((taken : List ℕ) × Took before after taken × IsBroken stands (language_of theory) after taken old new)
 WrotePart stands told before after (replay_lines name lines) old new =
     (theory : Theory) × (IsSome told → HasTheory told name theory)
-    × ((text : List ℕ) × (IsSome told → HasLines told lines text) × AnswersPart stands (in_ticks theory) (lines_of text) old new)
+    × ((text : List ℕ) × (IsSome told → HasLines told lines text) × AnswersPart stands (language_of theory) (lines_of text) old new)
 WrotePart stands told before after (soak_lines lines seed) old new = (text : List ℕ) × IsSoakLine lines seed text × AppendedPart stands old new text

@@ -8,7 +8,7 @@ use Rattle.ec_outside.specs.Streams.{Appended, AppendedPart}
 use Rattle.ec_replies.specs.Replies.{Language}
 use Rattle.ec_server.specs.declared.status.Status.{Status}
 use Rattle.ec_server.specs.declared.status.Status.TheVariants as status
-use Rattle.ec_server.specs.Answered.{AnswersLines, AnswersPart, in_ticks}
+use Rattle.ec_server.specs.Answered.{AnswersLines, AnswersPart, language_of}
 use Rattle.ec_server.specs.Ending.{SaysServed}
 use Rattle.ec_server.specs.InputLimits.{most_input}
 use Rattle.ec_server.specs.LineFiles.{HasLines, most_replayed}
@@ -69,7 +69,7 @@ module _ {K : Type 0} (stands : K → List ℕ → Type 0) (faults : K → ℕ) 
   -- The status says this of the lines in a file, where the folder tells its files. Or the file was not read.
   abbrev pub SaysReplayed : Theory → Status → Type 0
   SaysReplayed theory ended =
-      ((bytes : List ℕ) × (IsSome told → HasLines told name bytes) × SaysBytes stands faults (in_ticks theory) old new bytes ended) ⊎ SaysUnread ended
+      ((bytes : List ℕ) × (IsSome told → HasLines told name bytes) × SaysBytes stands faults (language_of theory) old new bytes ended) ⊎ SaysUnread ended
 
   -- the line about a refused theory was written; where the folder tells its files, it says why; a file is found too long without a fault
   pub record IsToldWhy : Type 0 where
@@ -111,4 +111,4 @@ module _ {S K : Type 0} (left : S → Option (List ℕ)) (read_faults : S → �
   abbrev pub HasServed : Status → Type 0
   HasServed ended =
       WithTheory stands write_faults told name before after output_before output
-      (λ theory served. SaysServed left read_faults stands write_faults (in_ticks theory) most_input input_before input output_before output served) (input ≡ input_before) ended
+      (λ theory served. SaysServed left read_faults stands write_faults (language_of theory) most_input input_before input output_before output served) (input ≡ input_before) ended

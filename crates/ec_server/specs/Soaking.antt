@@ -7,7 +7,7 @@ use Rattle.ec_replies.specs.Runs.{IsRun}
 use Rattle.ec_soak.specs.declared.counts.Counts.{Counts}
 use Rattle.ec_soak.specs.Load.{generated_load}
 use Rattle.ec_soak.specs.Tally.{counts_of, summary_line}
-use Rattle.ec_server.specs.Answered.{in_ticks}
+use Rattle.ec_server.specs.Answered.{language_of}
 
 -- the text of the theory: lamps, and people who are at one place each
 unfoldable pub soak_text : List ℕ
@@ -20,7 +20,7 @@ soak_theory = theory_b
 -- the counts of the replies to so many lines drawn from a seed, where memory ran out for none of them
 pub record IsSoaked (lines seed : ℕ) (counts : Counts) : Type 0 where
   pub out : List ℕ
-  pub run : IsRun (in_ticks soak_theory) (lines_of (generated_load lines seed)) out
+  pub run : IsRun (language_of soak_theory) (lines_of (generated_load lines seed)) out
   pub counts_are : counts ≡ counts_of out
   pub no_memory : counts.memory ≡ 0
 

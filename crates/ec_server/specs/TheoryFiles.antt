@@ -56,6 +56,7 @@ many_text many.Variables = codes "many-variables"
 many_text many.Exclusives = codes "many-exclusives"
 many_text many.Strongs = codes "many-strongs"
 many_text many.Initials = codes "many-initials"
+many_text many.Times = codes "many-times"
 
 -- a fault of a clause
 unfoldable pub wrong_text : CheckFault → List ℕ

@@ -1,6 +1,6 @@
 //! Serving the lines of a file.
 ghost use Rattle.std.specs.Prelude.{◌≡◌, ◌≤◌, ◌⊎◌, IsTrue, length};
-ghost use Rattle.ec_server.specs.Answered.{in_ticks};
+ghost use Rattle.ec_server.specs.Answered.{language_of};
 ghost use Rattle.ec_server.specs.CommandEnds.{SaysBytes, SaysReplayed};
 ghost use Rattle.ec_server.specs.ExitStatus.{hands_on};
 
@@ -17,7 +17,7 @@ pub const MOST_REPLAYED: usize = 67_108_864;
 /// Serves the lines of bytes with a theory.
 fn serve_bytes<K: Sink>(alloc: Global, checked: Checked, bytes: Vec<u8>, output: &mut K) -> Status
     requires { length bytes.items ≤ MOST_REPLAYED }
-    ensures says { SaysBytes K.stands K.faults (in_ticks checked) output.old output.new bytes.items result }
+    ensures says { SaysBytes K.stands K.faults (language_of checked) output.old output.new bytes.items result }
     ensures handed_on { IsTrue (hands_on result) → K.waiting output.new ≡ 0 }
 {
     let mut source = FileSource::new(bytes);

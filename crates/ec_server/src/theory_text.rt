@@ -78,6 +78,7 @@ fn many_name(many: Many) -> &'static [u8]
         Many::Exclusives => b"many-exclusives",
         Many::Strongs => b"many-strongs",
         Many::Initials => b"many-initials",
+        Many::Times => b"many-times",
     }
 }
 

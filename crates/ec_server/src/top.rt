@@ -6,7 +6,7 @@ ghost use Rattle.ec_outside.specs.Counts.{Rose};
 ghost use Rattle.ec_outside.specs.Files.{IsTooLong};
 ghost use Rattle.ec_outside.specs.Streams.{Appended, IsAtEnd, NothingAppended, Took};
 ghost use Rattle.ec_replies.specs.Runs.{has_quit};
-ghost use Rattle.ec_server.specs.Answered.{AnswersLines, in_ticks};
+ghost use Rattle.ec_server.specs.Answered.{AnswersLines, language_of};
 ghost use Rattle.ec_server.specs.ByShape.{HasLongTheory, IsReady, IsRefused, LacksFile, Serves, TellsServed, WrotePart, takes_input};
 ghost use Rattle.ec_server.specs.CommandEnds.{Wrote};
 ghost use Rattle.ec_server.specs.Ending.{GoesOn};
@@ -74,7 +74,7 @@ pub fn run<F: Folder, S: Source, K: Sink>(
     // answered `ok` so far.
     ensures replies { result ≡ 0 → (shape : PlainShape) → asked words.now ≡ Some shape → TellsServed (F.files files.old) (S.left input.old) shape →
         (theory : Theory) × (text : List ℕ) × Serves (F.files files.old) (S.left input.old) shape theory text
-        × AnswersLines K.stands (in_ticks theory) (lines_of text) output.old output.new }
+        × AnswersLines K.stands (language_of theory) (lines_of text) output.old output.new }
 
     // With 0, and where the input failed or its limit was reached, the output holds nothing back: all that was written is handed on.
     ensures handed_on { (result ≡ 0) ⊎ ((result ≡ 4) ⊎ (result ≡ 8)) → K.waiting output.new ≡ 0 }
@@ -88,7 +88,7 @@ pub fn run<F: Folder, S: Source, K: Sink>(
     // With 0 `serve` left nothing of the input, or `quit` is among the whole lines of what was taken.
     ensures ended { result ≡ 0 → (name : List ℕ) → asked words.now ≡ Some (serve_theory name) →
         (theory : Theory) × (IsSome (F.files files.old) → HasTheory (F.files files.old) name theory)
-        × ((taken : List ℕ) × Took (S.left input.old) (S.left input.new) taken × (IsAtEnd (S.left input.new) ⊎ (has_quit (in_ticks theory) (whole_lines taken) ≡ true))) }
+        × ((taken : List ℕ) × Took (S.left input.old) (S.left input.new) taken × (IsAtEnd (S.left input.new) ⊎ (has_quit (language_of theory) (whole_lines taken) ≡ true))) }
 
     // The one line of `check`, and that of `soak`.
     ensures accepted { result ≡ 0 → (name : List ℕ) → asked words.now ≡ Some (check_theory name) →
@@ -115,7 +115,7 @@ pub fn run<F: Folder, S: Source, K: Sink>(
     ensures read_fault { result ≡ 4 → Rose (S.faults input.old) (S.faults input.new) }
     ensures whole { result ≡ 4 → (name : List ℕ) → asked words.now ≡ Some (serve_theory name) →
         (theory : Theory) × (IsSome (F.files files.old) → HasTheory (F.files files.old) name theory)
-        × ((taken : List ℕ) × Took (S.left input.old) (S.left input.new) taken × GoesOn K.stands (in_ticks theory) taken output.old output.new) }
+        × ((taken : List ℕ) × Took (S.left input.old) (S.left input.new) taken × GoesOn K.stands (language_of theory) taken output.old output.new) }
 
     // The output failed: a first part of what was to be written is written. Before the first read of `serve` that is nothing.
     ensures write_fault { result ≡ 5 → Rose (K.faults output.old) (K.faults output.new) }
@@ -136,9 +136,9 @@ pub fn run<F: Folder, S: Source, K: Sink>(
     // among them.
     ensures limit { result ≡ 8 → (name : List ℕ) → asked words.now ≡ Some (serve_theory name) →
         (theory : Theory) × (IsSome (F.files files.old) → HasTheory (F.files files.old) name theory)
-        × ((taken : List ℕ) × Took (S.left input.old) (S.left input.new) taken × (length taken ≡ most_input) × GoesOn K.stands (in_ticks theory) taken output.old output.new) }
+        × ((taken : List ℕ) × Took (S.left input.old) (S.left input.new) taken × (length taken ≡ most_input) × GoesOn K.stands (language_of theory) taken output.old output.new) }
     ensures stops { (name text : List ℕ) (theory : Theory) → asked words.now ≡ Some (serve_theory name) → HasTheory (F.files files.old) name theory →
-        S.left input.old ≡ Some text → IsLong (in_ticks theory) most_input text → ¬ Rose (F.faults files.old) (F.faults files.new) →
+        S.left input.old ≡ Some text → IsLong (language_of theory) most_input text → ¬ Rose (F.faults files.old) (F.faults files.new) →
         ¬ Rose (S.faults input.old) (S.faults input.new) → ¬ Rose (K.faults output.old) (K.faults output.new) →
         (result ≡ 8) ⊎ (result ≡ 6) }
     ensures rest { result ≡ 8 → (text : List ℕ) → S.left input.old ≡ Some text → S.left input.new ≡ Some (drop most_input text) }

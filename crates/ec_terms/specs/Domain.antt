@@ -1,4 +1,4 @@
--- What a theory says of one event and of properties: the entries of an event, and which properties are exclusive, strong and initial.
+-- What a theory says of one event and of properties: the entries of an event, and which properties are exclusive, strong and initial; and of which kind its times are.
 use Rattle.std.specs.Prelude.{ℕ, ◌+◌, Bool, ◌&&◌, ◌||◌, not, if◌then◌else◌, List, [], ◌∷◌, ◌++◌, length, map, Option, Some, None, pos, bytes_eq}
 use Rattle.std.specs.List.{list_all, list_any, cons_option}
 use Rattle.std.specs.Ordering.{int_eq}
@@ -8,6 +8,9 @@ use Rattle.ec_terms.specs.declared.theory.Kind.{Kind}
 use Rattle.ec_terms.specs.declared.theory.Literal.{Literal}
 use Rattle.ec_terms.specs.declared.theory.Rule.{Rule}
 use Rattle.ec_terms.specs.declared.theory.Exclusive.{Exclusive}
+use Rattle.ec_terms.specs.declared.theory.TimeKind.{TimeKind}
+use Rattle.ec_terms.specs.declared.theory.TimeKind.TheVariants.{Tick}
+use Rattle.ec_terms.specs.declared.theory.TimeDecl.{TimeDecl}
 use Rattle.ec_terms.specs.declared.theory.Theory.{Theory}
 use Rattle.ec_terms.specs.Term.{term_eq}
 use Rattle.ec_terms.specs.Matching.{Values, binding_of, first_value, fits, fits_some, filled, test_holds}
@@ -70,3 +73,12 @@ is_strong theory p = list_any (λ s. bytes_eq s.name p.name && int_eq s.arity (p
 -- a property that is declared initial
 unfoldable pub is_initial : Theory → Ground → Bool
 is_initial theory p = list_any (λ i. fits_some i.prop p) theory.initials
+
+-- the kind of the first of some declarations; without one, ticks
+abbrev pub first_kind : List TimeDecl → TimeKind
+first_kind [] = Tick
+first_kind (declaration ∷ later) = declaration.kind
+
+-- the kind of time of a theory
+unfoldable pub time_of : Theory → TimeKind
+time_of theory = first_kind theory.times

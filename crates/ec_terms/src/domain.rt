@@ -1,7 +1,7 @@
-//! What a theory says of properties: which are initial, strong and exclusive.
+//! What a theory says of properties: which are initial, strong and exclusive; and of which kind its times are.
 ghost use Rattle.std.specs.Prelude.{◌≡◌, IsTrue, ◌&&◌};
 ghost use Rattle.ec_terms.specs.Binding.{IsSmall};
-ghost use Rattle.ec_terms.specs.Domain.{are_exclusive as exclusive, both_fit, excludes as excluding, is_initial as initial, is_strong as strong};
+ghost use Rattle.ec_terms.specs.Domain.{are_exclusive as exclusive, both_fit, excludes as excluding, is_initial as initial, is_strong as strong, time_of as kind_of_time};
 ghost use Rattle.ec_terms.specs.Matching.{fits_some};
 ghost use Rattle.ec_terms.specs.Matchable.{IsMatchable, IsMatchableExclusive};
 ghost use Rattle.ec_terms.specs.Term.{names_are_names};
@@ -10,7 +10,7 @@ ghost use Rattle.ec_terms.specs.Term.{ground_of, term_eq};
 use crate::ground::GroundRef;
 use crate::matching::{extend_match, matches};
 use crate::pattern::Pattern;
-use crate::theory::{Exclusive, Theory};
+use crate::theory::{Exclusive, Theory, TimeKind};
 
 /// Whether two terms are the same.
 #[tactic(auto, unfolding(crate::specs::Term::term_eq))]
@@ -101,4 +101,15 @@ pub fn are_exclusive(theory: &Theory, p: &GroundRef<'_>, q: &GroundRef<'_>) -> b
         }
     }
     false
+}
+
+/// The kind of time that a theory declares first; ticks where it declares none.
+#[tactic(auto, unfolding(crate::specs::Domain::time_of))]
+pub fn time_of(theory: &Theory) -> TimeKind
+    ensures { result ≡ kind_of_time theory.now }
+{
+    match theory.times.as_slice().first() {
+        Some(declaration) => declaration.kind,
+        None => TimeKind::Tick,
+    }
 }

@@ -22,7 +22,7 @@ mod term_text;
 mod theory;
 
 pub use binding::Binding;
-pub use domain::{are_exclusive, is_initial, is_same, is_strong};
+pub use domain::{are_exclusive, is_initial, is_same, is_strong, time_of};
 pub use domain_laws::{entries_ascend, exclusive_is_symmetric, exclusive_is_under_one_binding};
 pub use filling::{fill, fill_ref, tests_hold};
 pub use ground::{Arg, ArgRef, ArgRefs, Args, Ground, GroundRef};
@@ -40,4 +40,5 @@ pub use term_order::order;
 pub use term_text::{TermText, text};
 pub use theory::{
     Exclusive, Initial, Kind, Literal, Literals, Rule, Strong, Test, TestOp, Tests, Theory,
+    TimeDecl, TimeKind,
 };

@@ -76,6 +76,20 @@ pub struct Initial {
     pub prop: Pattern,
 }
 
+/// The kinds of time: whole numbers, and days with times of day.
+#[derive(Clone, Copy, Debug, PartialEq, Eq)]
+pub enum TimeKind {
+    Tick,
+    Civil,
+}
+
+/// The times of events, and of what is asked, are of this kind.
+#[derive(Drop)]
+pub struct TimeDecl {
+    pub clause: u32,
+    pub kind: TimeKind,
+}
+
 /// A domain theory: its clauses by kind, each kind in the order of the text.
 #[derive(Drop)]
 pub struct Theory {
@@ -83,4 +97,5 @@ pub struct Theory {
     pub exclusives: Sequence<Exclusive>,
     pub strongs: Sequence<Strong>,
     pub initials: Sequence<Initial>,
+    pub times: Sequence<TimeDecl>,
 }

@@ -87,9 +87,40 @@ theory initially p(a,b,c,d,e,f,g,_,X). => 3 theory 1 arity|
 theory initially p. strong p/9. initially p(_). => 3 theory 2 arity|
 ";
 
+/// Texts with kinds of time.
+const TIMES: &str = "\
+# anywhere, with blanks and comments between, and with names like others
+theory initiates a b.|time % of days|\tcivil .|strong b/0. => 0 accepted rules 1 exclusives 0 strongs 1|
+theory initiates tick civil. strong time/1. initially time(tick). => 0 accepted rules 1 exclusives 0 strongs 1 initials 1|
+theory initiates time(civil) tick if time = civil, not time. => 0 accepted rules 1 exclusives 0 strongs 0|
+theory exclusive time civil. time tick. => 0 accepted rules 0 exclusives 1 strongs 0|
+# a clause that ends too early, or too late
+theory time => 3 theory 1 5 syntax|
+theory time| => 3 theory 2 1 syntax|
+theory time. => 3 theory 1 5 syntax|
+theory time civil => 3 theory 1 11 syntax|
+theory time civil tick. => 3 theory 1 12 syntax|
+theory time civil, tick. => 3 theory 1 11 syntax|
+theory time civil(utc). => 3 theory 1 11 syntax|
+theory time civil/0. => 3 theory 1 11 syntax|
+# another word than the two
+theory time Civil. => 3 theory 1 6 syntax|
+theory time 1. => 3 theory 1 6 syntax|
+theory time not. => 3 theory 1 6 syntax|
+theory time civils. => 3 theory 1 6 syntax|
+theory time time. => 3 theory 1 6 syntax|
+theory Time civil. => 3 theory 1 1 syntax|
+# one kind is declared, and once
+theory time civil. time tick. => 3 theory 2 many-times|
+theory time tick. initiates a b. time tick. time tick. => 3 theory 3 many-times|
+# the first clause with a fault is told, of whatever kind
+theory time tick. strong p/9. time tick. => 3 theory 2 arity|
+theory time tick. time tick. strong p/9. => 3 theory 2 many-times|
+";
+
 #[test]
 fn clauses_are_counted_or_their_first_fault_is_told(rt: HostRuntime) {
-    for table in [TEXTS, INITIALS] {
+    for table in [TEXTS, INITIALS, TIMES] {
         run_all(&rt, rt.alloc(), "words check,t.ec", table);
     }
 }

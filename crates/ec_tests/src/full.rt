@@ -3,19 +3,19 @@ use crate::dialogue::tell_all;
 
 const EVENTS: &str = "\
 # an event that goes makes room for one
-1..131072: assert e* 0 idle => ok
-assert z 0 idle => refused full-events 131072
+1..262144: assert e* 0 idle => ok
+assert z 0 idle => refused full-events 262144
 assert e1 0 idle => refused duplicate e1
 retract e1 => ok
 assert z 0 idle => ok
-assert e1 0 idle => refused full-events 131072
+assert e1 0 idle => refused full-events 262144
 begin => ok
 assert e1 0 idle => drafted 1
-commit => refused commit 1 full-events 131072
+commit => refused commit 1 full-events 262144
 ";
 
 #[test]
-fn a_history_holds_131072_events(rt: HostRuntime) {
+fn a_history_holds_262144_events(rt: HostRuntime) {
     tell_all(&rt, rt.alloc(), "theory ROOMS", EVENTS);
 }
 

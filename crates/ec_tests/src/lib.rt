@@ -4,6 +4,8 @@
 #[cfg(test)]
 mod cases;
 #[cfg(test)]
+mod civil;
+#[cfg(test)]
 mod clauses;
 #[cfg(test)]
 mod dialogue;

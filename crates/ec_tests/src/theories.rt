@@ -29,6 +29,9 @@ theory initially p(a,b,c,d,e,f,g,h,i). => 3 theory 1 arity|
 theory initially => 3 theory 1 10 syntax|
 theory initially powered(a)| => 3 theory 2 1 syntax|
 theory initially p if q. => 3 theory 1 13 syntax|
+# kinds of time
+theory time tick. time tick. => 3 theory 2 many-times|
+theory time solar. => 3 theory 1 6 syntax|
 ";
 
 #[test]
@@ -47,6 +50,9 @@ theory => 0 accepted rules 0 exclusives 0 strongs 0|
 theory initially initially. initially initially. => 0 accepted rules 0 exclusives 0 strongs 0 initials 2|
 # a name like others where no clause begins
 theory initiates initially(initially) initially if not initially. strong initially/0. => 0 accepted rules 1 exclusives 0 strongs 1|
+# the kind of time, of which nothing is said
+theory time tick. => 0 accepted rules 0 exclusives 0 strongs 0|
+theory time civil. initially p. => 0 accepted rules 0 exclusives 0 strongs 0 initials 1|
 # the rooms and lamps, with more clauses
 theory ROOMS => 0 accepted rules 7 exclusives 1 strongs 0|
 theory ROOMS strong at/2.| => 0 accepted rules 7 exclusives 1 strongs 1|
@@ -59,6 +65,8 @@ theory ROOMS =>
 theory ROOMS strong at/2.| =>
 theory ROOMS initially powered(a).| =>
 theory initially p. =>
+theory time tick. =>
+theory time civil. =>
 theory initiates a b if c. =>
 theory initiates a b. exclusive b c. =>
 theory initiates a b. strong b/0. =>

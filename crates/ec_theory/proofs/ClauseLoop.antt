@@ -6,7 +6,7 @@ use Rattle.ec_theory.specs.Lexeme.{Lexemes}
 use Rattle.ec_theory.specs.declared.clause.Clause.{Clause}
 use Rattle.ec_theory.specs.declared.clause.Clause.TheVariants as clause
 use Rattle.ec_theory.specs.Sign.{Sign, sign_of, signs_of, variables_of}
-use Rattle.ec_theory.specs.Grammar.{TakesClause, rule, exclusive, strong, initially, TakesBody, empty, conditions, TakesConditions, final, further, ReadsFrom, no_more, one_more, no_clauses, with_clause}
+use Rattle.ec_theory.specs.Grammar.{TakesClause, rule, exclusive, strong, initially, time, TakesBody, empty, conditions, TakesConditions, final, further, ReadsFrom, no_more, one_more, no_clauses, with_clause}
 use Rattle.ec_theory.specs.Walk.{Beginning, stop_of}
 use Rattle.ec_theory.specs.Reader.{clause_added}
 use Rattle.ec_theory.proofs.ShorterRests.{pattern_shorter, condition_shorter}
@@ -25,20 +25,35 @@ clause_shorter (rule begins event head body) = omega (arith, pattern_shorter eve
 clause_shorter (exclusive begins left right) = omega (arith, pattern_shorter left, pattern_shorter right)
 clause_shorter (strong begins) = omega arith
 clause_shorter (initially begins prop) = omega (arith, pattern_shorter prop)
+clause_shorter (time begins named) = omega arith
 
 -- the clauses of one theory and then those of another
 abbrev pub joined : Theory → Theory → Theory
-joined before after = record { rules = before.rules ++ after.rules; exclusives = before.exclusives ++ after.exclusives; strongs = before.strongs ++ after.strongs; initials = before.initials ++ after.initials }
+joined before after = record {
+  rules = before.rules ++ after.rules;
+  exclusives = before.exclusives ++ after.exclusives;
+  strongs = before.strongs ++ after.strongs;
+  initials = before.initials ++ after.initials;
+  times = before.times ++ after.times;
+}
 
 joined_clause : (before : Theory) (c : Clause) (after : Theory) → joined (clause_added before c) after ≡ joined before (with_clause c after)
 unfolding clause_added with_clause
-joined_clause before (clause.Rule r) after = ap (λ l. record { rules = l; exclusives = before.exclusives ++ after.exclusives; strongs = before.strongs ++ after.strongs; initials = before.initials ++ after.initials }) (append_assoc before.rules (r ∷ []) after.rules)
-joined_clause before (clause.Exclusive e) after = ap (λ l. record { rules = before.rules ++ after.rules; exclusives = l; strongs = before.strongs ++ after.strongs; initials = before.initials ++ after.initials }) (append_assoc before.exclusives (e ∷ []) after.exclusives)
-joined_clause before (clause.Strong s) after = ap (λ l. record { rules = before.rules ++ after.rules; exclusives = before.exclusives ++ after.exclusives; strongs = l; initials = before.initials ++ after.initials }) (append_assoc before.strongs (s ∷ []) after.strongs)
-joined_clause before (clause.Initial i) after = ap (λ l. record { rules = before.rules ++ after.rules; exclusives = before.exclusives ++ after.exclusives; strongs = before.strongs ++ after.strongs; initials = l }) (append_assoc before.initials (i ∷ []) after.initials)
+joined_clause before (clause.Rule r) after = ap (λ l. record (joined before after) { rules = l }) (append_assoc before.rules (r ∷ []) after.rules)
+joined_clause before (clause.Exclusive e) after = ap (λ l. record (joined before after) { exclusives = l }) (append_assoc before.exclusives (e ∷ []) after.exclusives)
+joined_clause before (clause.Strong s) after = ap (λ l. record (joined before after) { strongs = l }) (append_assoc before.strongs (s ∷ []) after.strongs)
+joined_clause before (clause.Initial i) after = ap (λ l. record (joined before after) { initials = l }) (append_assoc before.initials (i ∷ []) after.initials)
+joined_clause before (clause.Time t) after = ap (λ l. record (joined before after) { times = l }) (append_assoc before.times (t ∷ []) after.times)
 
 joined_none : (before : Theory) → joined before no_clauses ≡ before
-joined_none before = λ i. record { rules = append-nil before.rules i; exclusives = append-nil before.exclusives i; strongs = append-nil before.strongs i; initials = append-nil before.initials i }
+joined_none before =
+    λ i. record {
+      rules = append-nil before.rules i;
+      exclusives = append-nil before.exclusives i;
+      strongs = append-nil before.strongs i;
+      initials = append-nil before.initials i;
+      times = append-nil before.times i;
+    }
 
 -- the clauses so far: whatever clauses come next, all together are the text; and the walk came here
 pub record Clauses (start : Lexemes) (theory : Theory) (number : ℕ) (here : Lexemes) : Type 0 where

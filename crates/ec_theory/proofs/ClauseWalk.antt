@@ -2,6 +2,7 @@
 use Rattle.std.proofs.Common.{◌≡◌, ℕ, ◌<◌, Bool, false, List, [], ◌∷◌, length, map, ℤ, Some, refl, ◌∙◌, subst, arith}
 use Rattle.ec_terms.specs.declared.pattern.Pattern.{Pattern}
 use Rattle.ec_terms.specs.declared.theory.Kind.{Kind}
+use Rattle.ec_terms.specs.declared.theory.TimeKind.{TimeKind}
 use Rattle.ec_theory.specs.declared.token.Token.{Token}
 use Rattle.ec_theory.specs.declared.place.Place.{Place}
 use Rattle.ec_theory.specs.Lexeme.{Lexemes, lexeme_of}
@@ -11,12 +12,12 @@ use Rattle.ec_theory.specs.declared.condition.Body.{Body}
 use Rattle.ec_theory.specs.declared.clause.Clause.TheVariants as clause
 use Rattle.ec_theory.specs.declared.sign.Symbol.TheVariants.{Dot, Slash}
 use Rattle.ec_theory.specs.declared.sign.Keyword.{Keyword}
-use Rattle.ec_theory.specs.declared.sign.Keyword.TheVariants.{Rule, Exclusive, Strong, Initially}
+use Rattle.ec_theory.specs.declared.sign.Keyword.TheVariants.{Rule, Exclusive, Strong, Initially, Time}
 use Rattle.ec_theory.specs.Body.{Collects}
-use Rattle.ec_theory.specs.Sign.{Sign, Word, Number, Given, signs_of, keyword_of, is_given, is_word, is_number, is_keyword, is_rule, is_exclusive, is_strong, is_initially}
-use Rattle.ec_theory.specs.Grammar.{TakesPattern, TakesBody, TakesClause, rule, exclusive, strong, initially}
-use Rattle.ec_theory.specs.Walk.{Event, Head, Left, Right, Initial, Beginning, PatternAt, AfterPattern, StrongNameAt, SlashAt, ArityAt, AfterArity, moves, moves_behind, first_move, first_stop, stop_of}
-use Rattle.ec_theory.specs.Reader.{Steps, Refuses, HasKeyword, first_passes, place_at, IsStop}
+use Rattle.ec_theory.specs.Sign.{Sign, Word, Number, Given, signs_of, keyword_of, is_given, is_word, is_number, is_time_kind, is_keyword, is_rule, is_exclusive, is_strong, is_initially, is_time}
+use Rattle.ec_theory.specs.Grammar.{TakesPattern, TakesBody, TakesClause, rule, exclusive, strong, initially, time}
+use Rattle.ec_theory.specs.Walk.{Event, Head, Left, Right, Initial, Beginning, PatternAt, AfterPattern, StrongNameAt, SlashAt, ArityAt, AfterArity, TimeKindAt, AfterTimeKind, moves, moves_behind, first_move, first_stop, stop_of}
+use Rattle.ec_theory.specs.Reader.{Steps, Refuses, HasKeyword, HasTimeKind, first_passes, place_at, IsStop}
 use Rattle.ec_theory.proofs.WalkSteps.{steps_signs, step_goes, refused, same_row, goes_on_fault}
 
 -- a word that begins a clause
@@ -36,11 +37,15 @@ pub initially_goes : (l m : Lexemes) → HasKeyword l Initially m → stop_of Be
 unfolding moves first_move
 initially_goes l m has = step_goes Beginning (PatternAt Initial) l (Word has.word) m has.steps (rw has.begins refl)
 
+pub time_goes : (l m : Lexemes) → HasKeyword l Time m → stop_of Beginning l ≡ stop_of TimeKindAt m
+unfolding moves first_move
+time_goes l m has = step_goes Beginning TimeKindAt l (Word has.word) m has.steps (rw has.begins refl)
+
 -- a token that begins no clause
 pub no_clause : (tokens : List Token) (end : Place) (fault : SyntaxFault) → 0 < length tokens → ((test : Keyword → Bool) → first_passes (is_keyword test) (map lexeme_of tokens) ≡ false) → fault ≡ Syntax (place_at (map lexeme_of tokens) end) → IsStop fault (first_stop Beginning (map lexeme_of tokens) end)
 unfolding moves first_move first_stop first_passes place_at
 no_clause [] end fault nonempty fails place = absurd (omega arith)
-no_clause (t ∷ tokens) end fault nonempty fails place = rw (place, fails is_rule, fails is_exclusive, fails is_strong, fails is_initially) refl
+no_clause (t ∷ tokens) end fault nonempty fails place = rw (place, fails is_rule, fails is_exclusive, fails is_strong, fails is_initially, fails is_time) refl
 
 -- from the first pattern of a clause to the second
 pub event_to_head : (l : Lexemes) → stop_of (AfterPattern Event) l ≡ stop_of (PatternAt Head) l
@@ -119,3 +124,26 @@ module _ (l : Lexemes) where
           pub strong_takes : (names : List (List ℕ)) (clause_number : ℕ) (w : List ℕ) → keyword_of w ≡ Some Strong → TakesClause names clause_number (Word w ∷ signs_of l) (clause.Strong (record { clause = clause_number; name = name; arity = arity })) (signs_of rest)
           strong_takes names clause_number w begins =
               rw (steps_signs l (Word name) m word, steps_signs m (Given Slash) k slash, steps_signs k (Number arity) n number, steps_signs n (Given Dot) rest dot) (strong begins)
+
+-- the parts of a time declaration
+module _ (l : Lexemes) where
+  pub time_refused : (fault : SyntaxFault) → Refuses is_time_kind l fault → IsStop fault (stop_of TimeKindAt l)
+  unfolding moves first_move
+  time_refused fault refuses = refused TimeKindAt is_time_kind l fault refl (λ s e. rw e refl) refuses
+
+  module _ {kind : TimeKind} {m : Lexemes} (has : HasTimeKind l kind m) where
+    goes_dot : stop_of TimeKindAt l ≡ stop_of AfterTimeKind m
+    unfolding moves first_move
+    goes_dot = step_goes TimeKindAt AfterTimeKind l (Word has.word) m has.steps (rw has.names refl)
+
+    pub time_unended : (fault : SyntaxFault) → Refuses (is_given Dot) m fault → IsStop fault (stop_of TimeKindAt l)
+    unfolding moves first_move
+    time_unended fault refuses = goes_on_fault TimeKindAt AfterTimeKind l m fault goes_dot (refused AfterTimeKind (is_given Dot) m fault refl (λ s e. rw e refl) refuses)
+
+    module _ {rest : Lexemes} (dot : Steps m (Given Dot) rest) where
+      pub time_ends : stop_of TimeKindAt l ≡ stop_of Beginning rest
+      unfolding moves first_move
+      time_ends = goes_dot ∙ step_goes AfterTimeKind Beginning m (Given Dot) rest dot refl
+
+      pub time_takes : (names : List (List ℕ)) (clause_number : ℕ) (w : List ℕ) → keyword_of w ≡ Some Time → TakesClause names clause_number (Word w ∷ signs_of l) (clause.Time (record { clause = clause_number; kind = kind })) (signs_of rest)
+      time_takes names clause_number w begins = rw (steps_signs l (Word has.word) m has.steps, steps_signs m (Given Dot) rest dot) (time begins has.names)

@@ -1,5 +1,6 @@
 -- Where the walk over some tokens ends at a clause's beginning, the grammar reads them.
 use Rattle.std.proofs.Common.{◌≡◌, ℕ, ◌+◌, Bool, true, false, cond, eqb, List, [], ◌∷◌, ℤ, Option, Some, None, ◌⊎◌, inl, inr, ⊎_elim, refl, sym, ◌∙◌, subst, eqb-true, ap}
+use Rattle.std.specs.Prelude.{is_some}
 use Rattle.std.specs.Option.{option_map_or}
 use Rattle.std.proofs.lemmas.Bool.{false≢true}
 use Rattle.ec_terms.specs.declared.pattern.PatArg.{PatArg}
@@ -7,6 +8,7 @@ use Rattle.ec_terms.specs.declared.pattern.PatArg.TheVariants.{Var, Any, Fixed}
 use Rattle.ec_terms.specs.declared.ground.Arg.TheVariants.{Int, Word as Named}
 use Rattle.ec_terms.specs.declared.pattern.Pattern.{Pattern}
 use Rattle.ec_terms.specs.declared.theory.TestOp.{TestOp}
+use Rattle.ec_terms.specs.declared.theory.TimeKind.{TimeKind}
 use Rattle.ec_terms.specs.declared.theory.Theory.{Theory}
 use Rattle.ec_theory.specs.declared.condition.Condition.{Condition}
 use Rattle.ec_theory.specs.declared.condition.Condition.TheVariants as condition
@@ -14,10 +16,10 @@ use Rattle.ec_theory.specs.declared.clause.Clause.TheVariants as clause
 use Rattle.ec_theory.specs.declared.sign.Symbol.{Symbol}
 use Rattle.ec_theory.specs.declared.sign.Symbol.TheVariants.{If, Not, Anything, Open, Close, Comma, Dot, Slash}
 use Rattle.ec_theory.specs.declared.sign.Keyword.{Keyword}
-use Rattle.ec_theory.specs.declared.sign.Keyword.TheVariants.{Rule, Exclusive, Strong, Initially}
-use Rattle.ec_theory.specs.Sign.{Sign, Word, Variable, Number, Given, Compare, symbol_number, keyword_of, variables_of, argument_of, number_of, is_given, is_word, is_number, is_compare, is_argument, is_keyword, is_rule, is_exclusive, is_strong, is_initially}
-use Rattle.ec_theory.specs.Grammar.{TakesArguments, last, more, TakesPattern, alone, applied, TakesCondition, current, not_current, test, TakesConditions, final, further, TakesBody, empty, conditions, rule, exclusive, strong, initially, tests_of, literals_of, ReadsFrom, no_more, one_more, no_clauses, with_clause}
-use Rattle.ec_theory.specs.Walk.{Part, Event, Head, Left, Right, Condition as PartCondition, Initial, Spot, Beginning, PatternAt, AfterName, ArgumentAt, AfterArgument, AfterPattern, ConditionAt, AfterConditionName, CompareAt, RightSideAt, StrongNameAt, SlashAt, ArityAt, AfterArity, Move, on, moves, moves_behind, first_move, is_beginning}
+use Rattle.ec_theory.specs.declared.sign.Keyword.TheVariants.{Rule, Exclusive, Strong, Initially, Time}
+use Rattle.ec_theory.specs.Sign.{Sign, Word, Variable, Number, Given, Compare, symbol_number, keyword_of, time_kind_of, variables_of, argument_of, number_of, is_given, is_word, is_number, is_compare, is_argument, is_time_kind, is_keyword, is_rule, is_exclusive, is_strong, is_initially, is_time}
+use Rattle.ec_theory.specs.Grammar.{TakesArguments, last, more, TakesPattern, alone, applied, TakesCondition, current, not_current, test, TakesConditions, final, further, TakesBody, empty, conditions, rule, exclusive, strong, initially, time, tests_of, literals_of, ReadsFrom, no_more, one_more, no_clauses, with_clause}
+use Rattle.ec_theory.specs.Walk.{Part, Event, Head, Left, Right, Condition as PartCondition, Initial, Spot, Beginning, PatternAt, AfterName, ArgumentAt, AfterArgument, AfterPattern, ConditionAt, AfterConditionName, CompareAt, RightSideAt, StrongNameAt, SlashAt, ArityAt, AfterArity, TimeKindAt, AfterTimeKind, Move, on, moves, moves_behind, first_move, is_beginning}
 use Rattle.ec_theory.proofs.WalkEnds.{finishes}
 
 -- ---- what the tokens from a place on are
@@ -113,6 +115,10 @@ SlashThen signs = (arity : ℤ) × (rest : List Sign) × (signs ≡ Given Slash 
 abbrev StrongNameThen : List Sign → Type 0
 StrongNameThen signs = (name : List ℕ) × (arity : ℤ) × (rest : List Sign) × (signs ≡ Word name ∷ Given Slash ∷ Number arity ∷ Given Dot ∷ rest) × Readable rest
 
+-- the end of a time declaration
+abbrev TimeKindThen : List Sign → Type 0
+TimeKindThen signs = (name : List ℕ) × (kind : TimeKind) × (rest : List Sign) × (signs ≡ Word name ∷ Given Dot ∷ rest) × (time_kind_of name ≡ Some kind) × Readable rest
+
 -- what the tokens are that lead from a place to a clause's beginning
 abbrev Means : Spot → List (List ℕ) → List Sign → Type 0
 Means Beginning names signs = Readable signs
@@ -129,6 +135,8 @@ Means StrongNameAt names signs = StrongNameThen signs
 Means SlashAt names signs = SlashThen signs
 Means ArityAt names signs = ArityThen signs
 Means AfterArity names signs = DotThenClauses signs
+Means TimeKindAt names signs = TimeKindThen signs
+Means AfterTimeKind names signs = DotThenClauses signs
 
 -- ---- what a token is that passes a test
 
@@ -189,6 +197,17 @@ with_keyword P begins (Variable v) e p = absurd (false≢true e)
 with_keyword P begins (Number z) e p = absurd (false≢true e)
 with_keyword P begins (Given symbol) e p = absurd (false≢true e)
 with_keyword P begins (Compare op) e p = absurd (false≢true e)
+
+time_kind_by : (o : Option TimeKind) → is_some o ≡ true → (kind : TimeKind) × (o ≡ Some kind)
+time_kind_by None e = absurd (false≢true e)
+time_kind_by (Some kind) e = (kind, refl)
+
+with_time_kind : (P : Sign → Type 0) (s : Sign) → is_time_kind s ≡ true → ((w : List ℕ) (kind : TimeKind) → time_kind_of w ≡ Some kind → P (Word w)) → P s
+with_time_kind P (Word w) e p = let by = time_kind_by (time_kind_of w) e in p w by.0 by.1
+with_time_kind P (Variable v) e p = absurd (false≢true e)
+with_time_kind P (Number z) e p = absurd (false≢true e)
+with_time_kind P (Given symbol) e p = absurd (false≢true e)
+with_time_kind P (Compare op) e p = absurd (false≢true e)
 
 as_argument : (names : List (List ℕ)) (s : Sign) → is_argument s ≡ true → (a : PatArg) × (argument_of names s ≡ Some a)
 unfolding argument_of
@@ -317,6 +336,7 @@ module _ (s : Sign) (signs : List Sign) (later : (next : Spot) → finishes next
       by_keyword w Exclusive begins is number = absurd (false≢true is)
       by_keyword w Strong begins is number = absurd (false≢true is)
       by_keyword w Initially begins is number = absurd (false≢true is)
+      by_keyword w Time begins is number = absurd (false≢true is)
 
   exclusive_then : is_keyword is_exclusive s ≡ true → finishes (PatternAt Left) signs ≡ true → Readable (s ∷ signs)
   exclusive_then keyword ends = with_keyword (λ x. Readable (x ∷ signs)) is_exclusive s keyword by_keyword
@@ -333,6 +353,7 @@ module _ (s : Sign) (signs : List Sign) (later : (next : Spot) → finishes next
       by_keyword w (Rule kind) begins is number = absurd (false≢true is)
       by_keyword w Strong begins is number = absurd (false≢true is)
       by_keyword w Initially begins is number = absurd (false≢true is)
+      by_keyword w Time begins is number = absurd (false≢true is)
 
   strong_then : is_keyword is_strong s ≡ true → finishes StrongNameAt signs ≡ true → Readable (s ∷ signs)
   strong_then keyword ends = with_keyword (λ x. Readable (x ∷ signs)) is_strong s keyword by_keyword
@@ -347,6 +368,7 @@ module _ (s : Sign) (signs : List Sign) (later : (next : Spot) → finishes next
       by_keyword w (Rule kind) begins is number = absurd (false≢true is)
       by_keyword w Exclusive begins is number = absurd (false≢true is)
       by_keyword w Initially begins is number = absurd (false≢true is)
+      by_keyword w Time begins is number = absurd (false≢true is)
 
   initially_then : is_keyword is_initially s ≡ true → finishes (PatternAt Initial) signs ≡ true → Readable (s ∷ signs)
   initially_then keyword ends = with_keyword (λ x. Readable (x ∷ signs)) is_initially s keyword by_keyword
@@ -362,6 +384,22 @@ module _ (s : Sign) (signs : List Sign) (later : (next : Spot) → finishes next
       by_keyword w (Rule kind) begins is number = absurd (false≢true is)
       by_keyword w Exclusive begins is number = absurd (false≢true is)
       by_keyword w Strong begins is number = absurd (false≢true is)
+      by_keyword w Time begins is number = absurd (false≢true is)
+
+  time_then : is_keyword is_time s ≡ true → finishes TimeKindAt signs ≡ true → Readable (s ∷ signs)
+  time_then keyword ends = with_keyword (λ x. Readable (x ∷ signs)) is_time s keyword by_keyword
+    where
+      by_keyword : (w : List ℕ) (k : Keyword) → keyword_of w ≡ Some k → is_time k ≡ true → Readable (Word w ∷ signs)
+      by_keyword w Time begins is number =
+          let kind = later TimeKindAt ends [] in
+          let next = kind.5 (number + 1) in (
+            with_clause (clause.Time (record { clause = number; kind = kind.1 })) next.0,
+            subst (λ x. ReadsFrom number (Word w ∷ x) (with_clause (clause.Time (record { clause = number; kind = kind.1 })) next.0)) (sym kind.3) (one_more (time begins kind.4) next.1),
+          )
+      by_keyword w (Rule kind) begins is number = absurd (false≢true is)
+      by_keyword w Exclusive begins is number = absurd (false≢true is)
+      by_keyword w Strong begins is number = absurd (false≢true is)
+      by_keyword w Initially begins is number = absurd (false≢true is)
 
   step_means : (spot : Spot) → goes_by (moves spot) s signs ≡ true → (names : List (List ℕ)) → Means spot names (s ∷ signs)
   unfolding moves
@@ -369,7 +407,9 @@ module _ (s : Sign) (signs : List Sign) (later : (next : Spot) → finishes next
       ⊎_elim (λ m. rule_then m.0 m.1)
       (λ e2. ⊎_elim (λ m. exclusive_then m.0 m.1)
       (λ e3. ⊎_elim (λ m. strong_then m.0 m.1)
-      (λ e4. let m = by_only s signs (is_keyword is_initially) (PatternAt Initial) e4 in initially_then m.0 m.1)
+      (λ e4. ⊎_elim (λ m. initially_then m.0 m.1)
+      (λ e5. let m = by_only s signs (is_keyword is_time) TimeKindAt e5 in time_then m.0 m.1)
+      (by_first s signs (is_keyword is_initially) (PatternAt Initial) _ e4))
       (by_first s signs (is_keyword is_strong) StrongNameAt _ e3))
       (by_first s signs (is_keyword is_exclusive) (PatternAt Left) _ e2))
       (by_first s signs (is_keyword is_rule) (PatternAt Event) _ e)
@@ -401,6 +441,11 @@ module _ (s : Sign) (signs : List Sign) (later : (next : Spot) → finishes next
       let end = later AfterArity m.1 names in
       with_number (λ x. ArityThen (x ∷ signs)) s m.0 (λ z. (z, end.rest, ap (λ x. Number z ∷ x) end.dot, end.readable))
   step_means AfterArity e names = let m = by_only s signs (is_given Dot) Beginning e in dot_then s signs later names m.0 m.1
+  step_means TimeKindAt e names =
+      let m = by_only s signs is_time_kind AfterTimeKind e in
+      let end = later AfterTimeKind m.1 names in
+      with_time_kind (λ x. TimeKindThen (x ∷ signs)) s m.0 (λ w kind named. (w, kind, end.rest, ap (λ x. Word w ∷ x) end.dot, named, end.readable))
+  step_means AfterTimeKind e names = let m = by_only s signs (is_given Dot) Beginning e in dot_then s signs later names m.0 m.1
 
 -- no token is left
 at_end : (spot : Spot) → is_beginning spot ≡ true → (names : List (List ℕ)) → Means spot names []
@@ -418,6 +463,8 @@ at_end StrongNameAt e names = absurd (false≢true e)
 at_end SlashAt e names = absurd (false≢true e)
 at_end ArityAt e names = absurd (false≢true e)
 at_end AfterArity e names = absurd (false≢true e)
+at_end TimeKindAt e names = absurd (false≢true e)
+at_end AfterTimeKind e names = absurd (false≢true e)
 
 meant : (signs : List Sign) (spot : Spot) → finishes spot signs ≡ true → (names : List (List ℕ)) → Means spot names signs
 unfolding finishes

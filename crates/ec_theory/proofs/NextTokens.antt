@@ -11,7 +11,7 @@ use Rattle.std.specs.Prelude.{codes}
 use Rattle.std.proofs.Common.{None}
 use Rattle.std.proofs.lemmas.Bool.{false≢true}
 use Rattle.ec_theory.specs.declared.sign.Keyword.{Keyword}
-use Rattle.ec_theory.specs.Sign.{Sign, Word, Variable as SignVariable, Number as SignNumber, Given, Compare, keyword_of, is_word, is_keyword, sign_of, name_sign, mark_sign}
+use Rattle.ec_theory.specs.Sign.{Sign, Word, Variable as SignVariable, Number as SignNumber, Given, Compare, keyword_of, time_kind_of, is_word, is_keyword, is_time_kind, sign_of, name_sign, mark_sign}
 use Rattle.ec_theory.specs.Reader.{Steps, IsNamed, first_passes, next_passes}
 
 -- where no token is left, none passes
@@ -68,3 +68,23 @@ no_keyword test l e = first_keyword test l.tokens e
 -- a word that begins nothing
 pub word_no_keyword : (test : Keyword → Bool) (l : Lexemes) (w : List ℕ) (m : Lexemes) → Steps l (Word w) m → keyword_of w ≡ None → next_passes (is_keyword test) l ≡ false
 word_no_keyword test l w m steps none = steps_fail (is_keyword test) l (Word w) m steps (rw none refl)
+
+-- what is no word names no kind of time
+word_or_no_kind : (s : Sign) → is_word s ≡ false → is_time_kind s ≡ false
+word_or_no_kind (Word w) e = absurd (false≢true (sym e))
+word_or_no_kind (SignVariable v) e = refl
+word_or_no_kind (SignNumber z) e = refl
+word_or_no_kind (Given symbol) e = refl
+word_or_no_kind (Compare op) e = refl
+
+first_time_kind : (tokens : List Lexeme) → first_passes is_word tokens ≡ false → first_passes is_time_kind tokens ≡ false
+unfolding first_passes
+first_time_kind [] e = refl
+first_time_kind (t ∷ tokens) e = word_or_no_kind (sign_of t) e
+
+pub no_time_kind : (l : Lexemes) → next_passes is_word l ≡ false → next_passes is_time_kind l ≡ false
+no_time_kind l e = first_time_kind l.tokens e
+
+-- a word that names none
+pub word_no_time_kind : (l : Lexemes) (w : List ℕ) (m : Lexemes) → Steps l (Word w) m → time_kind_of w ≡ None → next_passes is_time_kind l ≡ false
+word_no_time_kind l w m steps none = steps_fail is_time_kind l (Word w) m steps (rw none refl)

@@ -6,11 +6,11 @@ use Rattle.std.specs.List.Sorted.{IsStrictlyIncreasing}
 use Rattle.std.proofs.lemmas.Bool.{eq-eqb, false_from_ne_true}
 use Rattle.std.proofs.lemmas.List.Elements.{All-nil, All-cons}
 use Rattle.ec_terms.specs.declared.theory.Theory.{Theory}
-use Rattle.ec_check.specs.Numbering.{times, rule_numbers, exclusive_numbers, strong_numbers, initial_numbers, clauses_numbered, clause_count}
+use Rattle.ec_check.specs.Numbering.{count_of, rule_numbers, exclusive_numbers, strong_numbers, initial_numbers, time_numbers, clauses_numbered, clause_count}
 use Rattle.ec_theory.specs.declared.clause.Clause.{Clause}
 use Rattle.ec_theory.specs.declared.clause.Clause.TheVariants as clause
 use Rattle.ec_theory.specs.Sign.{Sign}
-use Rattle.ec_theory.specs.Grammar.{TakesClause, rule, exclusive, strong, initially, ReadsFrom, no_more, one_more, with_clause}
+use Rattle.ec_theory.specs.Grammar.{TakesClause, rule, exclusive, strong, initially, time, ReadsFrom, no_more, one_more, with_clause}
 
 -- the number of a clause
 number_in : Clause → ℕ
@@ -18,6 +18,7 @@ number_in (clause.Rule r) = r.clause
 number_in (clause.Exclusive e) = e.clause
 number_in (clause.Strong s) = s.clause
 number_in (clause.Initial i) = i.clause
+number_in (clause.Time t) = t.clause
 
 takes-number : {names : List (List ℕ)} {number : ℕ} {signs : List Sign} {c : Clause} {rest : List Sign} → TakesClause names number signs c rest → number_in c ≡ number
 unfolding number_in
@@ -25,25 +26,27 @@ takes-number (rule begins event head body) = refl
 takes-number (exclusive begins left right) = refl
 takes-number (strong begins) = refl
 takes-number (initially begins prop) = refl
+takes-number (time begins named) = refl
 
 -- ---- how many clauses have a number
 
 abbrev one_if : Bool → ℕ
 one_if b = cond b 1 0
 
-times-cons : (n m : ℕ) (numbers : List ℕ) → times n (m ∷ numbers) ≡ one_if (eqb m n) + times n numbers
-times-cons n m numbers = by_test (eqb m n)
+count_of-cons : (n m : ℕ) (numbers : List ℕ) → count_of n (m ∷ numbers) ≡ one_if (eqb m n) + count_of n numbers
+count_of-cons n m numbers = by_test (eqb m n)
   where
-    by_test : (t : Bool) → length (cond t (m ∷ filter (λ k. eqb k n) numbers) (filter (λ k. eqb k n) numbers)) ≡ one_if t + times n numbers
+    by_test : (t : Bool) → length (cond t (m ∷ filter (λ k. eqb k n) numbers) (filter (λ k. eqb k n) numbers)) ≡ one_if t + count_of n numbers
     by_test true = omega arith
     by_test false = omega arith
 
 clauses_numbered-with : (n : ℕ) (c : Clause) (theory : Theory) → clauses_numbered n (with_clause c theory) ≡ one_if (eqb (number_in c) n) + clauses_numbered n theory
 unfolding clauses_numbered with_clause number_in
-clauses_numbered-with n (clause.Rule r) theory = let e = times-cons n r.clause (rule_numbers theory) in omega (arith, e)
-clauses_numbered-with n (clause.Exclusive x) theory = let e = times-cons n x.clause (exclusive_numbers theory) in omega (arith, e)
-clauses_numbered-with n (clause.Strong s) theory = let e = times-cons n s.clause (strong_numbers theory) in omega (arith, e)
-clauses_numbered-with n (clause.Initial i) theory = let e = times-cons n i.clause (initial_numbers theory) in omega (arith, e)
+clauses_numbered-with n (clause.Rule r) theory = let e = count_of-cons n r.clause (rule_numbers theory) in omega (arith, e)
+clauses_numbered-with n (clause.Exclusive x) theory = let e = count_of-cons n x.clause (exclusive_numbers theory) in omega (arith, e)
+clauses_numbered-with n (clause.Strong s) theory = let e = count_of-cons n s.clause (strong_numbers theory) in omega (arith, e)
+clauses_numbered-with n (clause.Initial i) theory = let e = count_of-cons n i.clause (initial_numbers theory) in omega (arith, e)
+clauses_numbered-with n (clause.Time t) theory = let e = count_of-cons n t.clause (time_numbers theory) in omega (arith, e)
 
 clause_count-with : (c : Clause) (theory : Theory) → clause_count (with_clause c theory) ≡ 1 + clause_count theory
 unfolding clause_count with_clause
@@ -51,6 +54,7 @@ clause_count-with (clause.Rule r) theory = omega arith
 clause_count-with (clause.Exclusive e) theory = omega arith
 clause_count-with (clause.Strong s) theory = omega arith
 clause_count-with (clause.Initial i) theory = omega arith
+clause_count-with (clause.Time t) theory = omega arith
 
 -- another number
 eqb-other : (a b : ℕ) → a < b → eqb a b ≡ false
@@ -108,12 +112,13 @@ Rises-cons first n numbers same rises = record {
         let e : suc k + 1 ≡ suc (k + 1) = omega arith in
         subst (λ m. get_or numbers k 0 < get_or (n ∷ numbers) m 0) (sym e) (rises.ascend k (omega arith))
 
--- the four lists of a theory
+-- the lists of a theory
 pub record AllRise (first : ℕ) (theory : Theory) : Type 0 where
   pub rules : Rises first (rule_numbers theory)
   pub exclusives : Rises first (exclusive_numbers theory)
   pub strongs : Rises first (strong_numbers theory)
   pub initials : Rises first (initial_numbers theory)
+  pub times : Rises first (time_numbers theory)
 
 AllRise-with : (first : ℕ) (c : Clause) (theory : Theory) → number_in c ≡ first → AllRise (first + 1) theory → AllRise first (with_clause c theory)
 unfolding with_clause number_in
@@ -122,26 +127,37 @@ AllRise-with first (clause.Rule r) theory same later = record {
   exclusives = Rises-later first _ later.exclusives;
   strongs = Rises-later first _ later.strongs;
   initials = Rises-later first _ later.initials;
+  times = Rises-later first _ later.times;
 }
 AllRise-with first (clause.Exclusive e) theory same later = record {
   rules = Rises-later first _ later.rules;
   exclusives = Rises-cons first e.clause (exclusive_numbers theory) same later.exclusives;
   strongs = Rises-later first _ later.strongs;
   initials = Rises-later first _ later.initials;
+  times = Rises-later first _ later.times;
 }
 AllRise-with first (clause.Strong s) theory same later = record {
   rules = Rises-later first _ later.rules;
   exclusives = Rises-later first _ later.exclusives;
   strongs = Rises-cons first s.clause (strong_numbers theory) same later.strongs;
   initials = Rises-later first _ later.initials;
+  times = Rises-later first _ later.times;
 }
 AllRise-with first (clause.Initial i) theory same later = record {
   rules = Rises-later first _ later.rules;
   exclusives = Rises-later first _ later.exclusives;
   strongs = Rises-later first _ later.strongs;
   initials = Rises-cons first i.clause (initial_numbers theory) same later.initials;
+  times = Rises-later first _ later.times;
+}
+AllRise-with first (clause.Time t) theory same later = record {
+  rules = Rises-later first _ later.rules;
+  exclusives = Rises-later first _ later.exclusives;
+  strongs = Rises-later first _ later.strongs;
+  initials = Rises-later first _ later.initials;
+  times = Rises-cons first t.clause (time_numbers theory) same later.times;
 }
 
 pub all_rise : {number : ℕ} {signs : List Sign} {theory : Theory} → ReadsFrom number signs theory → AllRise number theory
-all_rise (no_more {number = number}) = record { rules = Rises-nil number; exclusives = Rises-nil number; strongs = Rises-nil number; initials = Rises-nil number }
+all_rise (no_more {number = number}) = record { rules = Rises-nil number; exclusives = Rises-nil number; strongs = Rises-nil number; initials = Rises-nil number; times = Rises-nil number }
 all_rise (one_more {number = number} {c = c} {theory = theory} takes reads) = AllRise-with number c theory (takes-number takes) (all_rise reads)

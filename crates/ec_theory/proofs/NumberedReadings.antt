@@ -17,6 +17,7 @@ reads_numbered tokens theory reads =
       exclusives_ascend = rise.exclusives.ascend;
       strongs_ascend = rise.strongs.ascend;
       initials_ascend = rise.initials.ascend;
+      times_ascend = rise.times.ascend;
       rules = full.rules;
       exclusives = full.exclusives;
       initials = full.initials;

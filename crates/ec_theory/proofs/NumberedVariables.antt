@@ -28,7 +28,7 @@ use Rattle.ec_theory.specs.declared.clause.Clause.TheVariants as clause
 use Rattle.ec_theory.specs.declared.sign.Symbol.{Symbol}
 use Rattle.ec_theory.specs.declared.sign.Symbol.TheVariants.{If, Not, Anything, Open, Close, Comma, Dot, Slash}
 use Rattle.ec_theory.specs.Sign.{Sign, Word, Variable, Number, Given, Compare, argument_of, is_given, with_variable, with_sign, variables_from, variables_of, number_of}
-use Rattle.ec_theory.specs.Grammar.{TakesArguments, last, more, TakesPattern, alone, applied, TakesCondition, current, not_current, test, TakesConditions, final, further, TakesBody, empty, conditions, tests_of, literals_of, TakesClause, rule, exclusive, strong, initially, ReadsFrom, no_more, one_more, with_clause}
+use Rattle.ec_theory.specs.Grammar.{TakesArguments, last, more, TakesPattern, alone, applied, TakesCondition, current, not_current, test, TakesConditions, final, further, TakesBody, empty, conditions, tests_of, literals_of, TakesClause, rule, exclusive, strong, initially, time, ReadsFrom, no_more, one_more, with_clause}
 
 -- ---- the variables up to the next dot
 
@@ -123,6 +123,7 @@ clause_places (clause.Rule r) = rule_places r
 clause_places (clause.Exclusive e) = exclusive_places e
 clause_places (clause.Strong s) = []
 clause_places (clause.Initial i) = i.prop.args
+clause_places (clause.Time t) = []
 
 -- the variables of a clause are those up to its dot
 clause_step : {names : List (List ℕ)} {number : ℕ} {signs : List Sign} {c : Clause} {rest : List Sign} (q : ℕ) → TakesClause names number signs c rest → stands_before_dot names q signs ≡ list_any (stands_at q) (clause_places c)
@@ -139,6 +140,7 @@ clause_step {names = names} q (exclusive {left = left} {right = right} begins ta
     ∙ sym (list_any-append (stands_at q) left.args right.args)
 clause_step q (strong begins) = refl
 clause_step {names = names} q (initially {prop = prop} begins takes) = pattern_step names q takes ∙ or-false (list_any (stands_at q) prop.args)
+clause_step q (time begins named) = refl
 
 -- ---- the numbers of the variables
 
@@ -270,6 +272,7 @@ AllWithoutGap-with (clause.Rule r) theory own later = record { rules = All-cons 
 AllWithoutGap-with (clause.Exclusive e) theory own later = record { rules = later.rules; exclusives = All-cons (λ (e : Exclusive). AreWithoutGap (exclusive_places e)) e theory.exclusives own later.exclusives; initials = later.initials }
 AllWithoutGap-with (clause.Strong s) theory own later = record { rules = later.rules; exclusives = later.exclusives; initials = later.initials }
 AllWithoutGap-with (clause.Initial i) theory own later = record { rules = later.rules; exclusives = later.exclusives; initials = All-cons (λ (i : Initial). AreWithoutGap i.prop.args) i theory.initials own later.initials }
+AllWithoutGap-with (clause.Time t) theory own later = record { rules = later.rules; exclusives = later.exclusives; initials = later.initials }
 
 pub all_without_gap : {number : ℕ} {signs : List Sign} {theory : Theory} → ReadsFrom number signs theory → AllWithoutGap theory
 all_without_gap no_more = record { rules = All-nil (λ (r : Rule). AreWithoutGap (rule_places r)); exclusives = All-nil (λ (e : Exclusive). AreWithoutGap (exclusive_places e)); initials = All-nil (λ (i : Initial). AreWithoutGap i.prop.args) }

@@ -9,7 +9,7 @@ use Rattle.ec_theory.specs.declared.clause.Clause.{Clause}
 use Rattle.ec_theory.specs.declared.clause.Clause.TheVariants as clause
 use Rattle.ec_theory.specs.declared.sign.Symbol.TheVariants.{Comma, Dot}
 use Rattle.ec_theory.specs.Sign.{Sign, Given, argument_of, variables_of}
-use Rattle.ec_theory.specs.Grammar.{TakesArguments, last, more, TakesPattern, alone, applied, TakesCondition, current, not_current, test, TakesConditions, final, further, TakesBody, empty, conditions, TakesClause, rule, exclusive, strong, initially, tests_of, literals_of, ReadsFrom, no_more, one_more, with_clause}
+use Rattle.ec_theory.specs.Grammar.{TakesArguments, last, more, TakesPattern, alone, applied, TakesCondition, current, not_current, test, TakesConditions, final, further, TakesBody, empty, conditions, TakesClause, rule, exclusive, strong, initially, time, tests_of, literals_of, ReadsFrom, no_more, one_more, with_clause}
 use Rattle.ec_theory.proofs.WalkEnds.{opens, compares, pattern_closed, body_closed}
 
 module _ (names : List (List ℕ)) where
@@ -60,6 +60,7 @@ module _ (names : List (List ℕ)) where
   clause_same (rule begins event head body) (exclusive begins' left right) = let e = sym begins ∙ begins' in cc
   clause_same (rule begins event head body) (strong begins') = let e = sym begins ∙ begins' in cc
   clause_same (rule begins event head body) (initially begins' prop) = let e = sym begins ∙ begins' in cc
+  clause_same (rule begins event head body) (time begins' named) = let e = sym begins ∙ begins' in cc
   clause_same (exclusive begins left right) (rule begins' event head body) = let e = sym begins ∙ begins' in cc
   clause_same {number = n} (exclusive {rest = r} begins left right) (exclusive {right = right_pattern'} {rest = r'} begins' left' right') =
       let first = pattern_same left left' (pattern_closed _ right) (pattern_closed _ right') in
@@ -68,6 +69,7 @@ module _ (names : List (List ℕ)) where
       ((λ i. clause.Exclusive (record { clause = n; left = first.0 i; right = second.0 i })), cc)
   clause_same (exclusive begins left right) (strong begins') = let e = sym begins ∙ begins' in cc
   clause_same (exclusive begins left right) (initially begins' prop) = let e = sym begins ∙ begins' in cc
+  clause_same (exclusive begins left right) (time begins' named) = let e = sym begins ∙ begins' in cc
   clause_same (strong begins) (rule begins' event head body) = let e = sym begins ∙ begins' in cc
   clause_same (strong begins) (exclusive begins' left right) = let e = sym begins ∙ begins' in cc
   clause_same (strong begins) (strong begins') = (refl, refl)
@@ -79,6 +81,13 @@ module _ (names : List (List ℕ)) where
       let same = pattern_same prop prop' refl refl in
       let tail : Given Dot ∷ r ≡ Given Dot ∷ r' = same.1 in
       ((λ i. clause.Initial (record { clause = n; prop = same.0 i })), cc)
+  clause_same (initially begins prop) (time begins' named) = let e = sym begins ∙ begins' in cc
+  clause_same (time begins named) (rule begins' event head body) = let e = sym begins ∙ begins' in cc
+  clause_same (time begins named) (exclusive begins' left right) = let e = sym begins ∙ begins' in cc
+  clause_same (time begins named) (initially begins' prop) = let e = sym begins ∙ begins' in cc
+  clause_same {number = n} (time {kind = k} begins named) (time {kind = k'} begins' named') =
+      let kind : k ≡ k' = (let e = sym named ∙ named' in cc) in
+      ((λ i. clause.Time (record { clause = n; kind = kind i })), refl)
 
 -- two readings of one list are the same
 pub reading_same : {number : ℕ} {signs : List Sign} {a b : Theory} → ReadsFrom number signs a → ReadsFrom number signs b → a ≡ b

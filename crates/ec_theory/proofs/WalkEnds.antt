@@ -13,7 +13,7 @@ use Rattle.ec_theory.specs.declared.sign.Symbol.TheVariants.{If, Not, Anything, 
 use Rattle.ec_theory.specs.declared.condition.Condition.{Condition}
 use Rattle.ec_theory.specs.declared.clause.Clause.{Clause}
 use Rattle.ec_theory.specs.Sign.{Sign, Word, Variable, Number, Given, Compare, sign_of, argument_of, is_given, is_word, is_compare, is_argument}
-use Rattle.ec_theory.specs.Grammar.{TakesArguments, last, more, TakesPattern, alone, applied, TakesCondition, current, not_current, test, TakesConditions, final, further, TakesBody, empty, conditions, TakesClause, rule, exclusive, strong, initially, ReadsFrom, no_more, one_more}
+use Rattle.ec_theory.specs.Grammar.{TakesArguments, last, more, TakesPattern, alone, applied, TakesCondition, current, not_current, test, TakesConditions, final, further, TakesBody, empty, conditions, TakesClause, rule, exclusive, strong, initially, time, ReadsFrom, no_more, one_more}
 use Rattle.ec_theory.specs.Walk.{Part, Event, Head, Left, Right, Condition as PartCondition, Initial, Spot, Beginning, PatternAt, AfterName, ArgumentAt, AfterPattern, ConditionAt, AfterConditionName, RightSideAt, step, moves, moves_behind, first_move, first_stop, is_beginning}
 use Rattle.ec_theory.proofs.WalkSteps.{argument_passes}
 
@@ -129,6 +129,7 @@ module _ (names : List (List ℕ)) where
       rw begins (pattern_finishes left (pattern_closed right) Left ∙ next_pattern Left Right right (λ s e. rw e refl) ∙ pattern_finishes right refl Right)
   clause_finishes (strong begins) = rw begins refl
   clause_finishes (initially begins prop) = rw begins (pattern_finishes prop refl Initial)
+  clause_finishes (time begins named) = rw (begins, named) refl
 
 -- a reading ends the walk at a clause's beginning
 pub reading_finishes : {number : ℕ} {signs : List Sign} {theory : Theory} → ReadsFrom number signs theory → finishes Beginning signs ≡ true

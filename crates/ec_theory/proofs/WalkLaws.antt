@@ -9,7 +9,7 @@ use Rattle.ec_theory.specs.Lexeme.{Lexeme, Lexemes}
 use Rattle.ec_theory.specs.declared.syntax_fault.SyntaxFault.{SyntaxFault}
 use Rattle.ec_theory.specs.declared.syntax_fault.SyntaxFault.TheVariants.{Syntax, Memory}
 use Rattle.ec_theory.specs.Sign.{Sign, sign_of}
-use Rattle.ec_theory.specs.Walk.{Spot, Beginning, PatternAt, AfterName, ArgumentAt, AfterArgument, AfterPattern, ConditionAt, AfterConditionName, CompareAt, RightSideAt, StrongNameAt, SlashAt, ArityAt, AfterArity, step, walk, first_stop, stop_of, is_beginning}
+use Rattle.ec_theory.specs.Walk.{Spot, Beginning, PatternAt, AfterName, ArgumentAt, AfterArgument, AfterPattern, ConditionAt, AfterConditionName, CompareAt, RightSideAt, StrongNameAt, SlashAt, ArityAt, AfterArity, TimeKindAt, AfterTimeKind, step, walk, first_stop, stop_of, is_beginning}
 use Rattle.ec_theory.specs.Reading.{IsReadable, BeginsReadable, GoesWrongAt, at_token, at_end, IsSyntaxFault, HasNoReading}
 use Rattle.ec_theory.specs.Reader.{IsStop}
 use Rattle.ec_theory.proofs.WalkEnds.{finishes, reading_finishes, no_stop}
@@ -51,6 +51,8 @@ is_beginning-only StrongNameAt e = absurd (false≢true e)
 is_beginning-only SlashAt e = absurd (false≢true e)
 is_beginning-only ArityAt e = absurd (false≢true e)
 is_beginning-only AfterArity e = absurd (false≢true e)
+is_beginning-only TimeKindAt e = absurd (false≢true e)
+is_beginning-only AfterTimeKind e = absurd (false≢true e)
 
 at_beginning : (o : Option Spot) → option_map_or is_beginning o false ≡ true → o ≡ Some Beginning
 at_beginning None e = absurd (false≢true e)

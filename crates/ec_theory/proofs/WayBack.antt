@@ -6,8 +6,8 @@ use Rattle.ec_terms.specs.Spelling.{is_lower, is_name_byte, begins_with, is_name
 use Rattle.ec_theory.specs.declared.token.TokenKind.{TokenKind}
 use Rattle.ec_theory.specs.declared.token.TokenKind.TheVariants as kind
 use Rattle.ec_theory.specs.Lexeme.{Lexeme, is_spelt, is_spelling}
-use Rattle.ec_theory.specs.Sign.{sign_of, name_sign, mark_sign}
-use Rattle.ec_theory.specs.Walk.{Part, Event, Head, Left, Right, Condition, Initial, Spot, Beginning, PatternAt, AfterName, ArgumentAt, AfterArgument, AfterPattern, ConditionAt, AfterConditionName, CompareAt, RightSideAt, StrongNameAt, SlashAt, ArityAt, AfterArity, LeadsBack, walk, moves, moves_behind, first_move}
+use Rattle.ec_theory.specs.Sign.{sign_of, name_sign, mark_sign, time_kind_of}
+use Rattle.ec_theory.specs.Walk.{Part, Event, Head, Left, Right, Condition, Initial, Spot, Beginning, PatternAt, AfterName, ArgumentAt, AfterArgument, AfterPattern, ConditionAt, AfterConditionName, CompareAt, RightSideAt, StrongNameAt, SlashAt, ArityAt, AfterArity, TimeKindAt, AfterTimeKind, LeadsBack, walk, moves, moves_behind, first_move}
 
 -- a token, wherever it stands
 abbrev token : TokenKind → List ℕ → Lexeme
@@ -18,6 +18,9 @@ name = token kind.Name (codes "a")
 
 abbrev zero_number : Lexeme
 zero_number = token kind.Number (codes "0")
+
+abbrev time_kind : Lexeme
+time_kind = token kind.Name (codes "civil")
 
 abbrev mark : List ℕ → Lexeme
 mark text = token kind.Mark text
@@ -42,7 +45,7 @@ name_back Condition = record { tokens = mark (codes ".") ∷ []; spelt = refl; b
 name_back Initial = record { tokens = mark (codes ".") ∷ []; spelt = refl; back = refl }
 
 pub way_back : (spot : Spot) → LeadsBack spot
-unfolding walk moves moves_behind first_move sign_of name_sign mark_sign is_spelt is_spelling is_name begins_with is_lower is_name_byte number_value
+unfolding walk moves moves_behind first_move sign_of name_sign mark_sign is_spelt is_spelling is_name begins_with is_lower is_name_byte number_value time_kind_of
 way_back Beginning = record { tokens = []; spelt = refl; back = refl }
 way_back (PatternAt part) = let b = name_back part in record { tokens = name ∷ b.tokens; spelt = b.spelt; back = b.back }
 way_back (AfterName part) = name_back part
@@ -57,3 +60,5 @@ way_back StrongNameAt = record { tokens = name ∷ mark (codes "/") ∷ zero_num
 way_back SlashAt = record { tokens = mark (codes "/") ∷ zero_number ∷ mark (codes ".") ∷ []; spelt = refl; back = refl }
 way_back ArityAt = record { tokens = zero_number ∷ mark (codes ".") ∷ []; spelt = refl; back = refl }
 way_back AfterArity = record { tokens = mark (codes ".") ∷ []; spelt = refl; back = refl }
+way_back TimeKindAt = record { tokens = time_kind ∷ mark (codes ".") ∷ []; spelt = refl; back = refl }
+way_back AfterTimeKind = record { tokens = mark (codes ".") ∷ []; spelt = refl; back = refl }

@@ -7,14 +7,15 @@ use Rattle.ec_terms.specs.declared.theory.TestOp.{TestOp}
 use Rattle.ec_terms.specs.declared.theory.Test.{Test}
 use Rattle.ec_terms.specs.declared.theory.Literal.{Literal}
 use Rattle.ec_terms.specs.declared.theory.Kind.{Kind}
+use Rattle.ec_terms.specs.declared.theory.TimeKind.{TimeKind}
 use Rattle.ec_terms.specs.declared.theory.Theory.{Theory}
 use Rattle.ec_theory.specs.declared.sign.Symbol.TheVariants.{If, Not, Open, Close, Comma, Dot, Slash}
-use Rattle.ec_theory.specs.declared.sign.Keyword.TheVariants.{Rule, Exclusive, Strong, Initially}
+use Rattle.ec_theory.specs.declared.sign.Keyword.TheVariants.{Rule, Exclusive, Strong, Initially, Time}
 use Rattle.ec_theory.specs.declared.condition.Condition.{Condition}
 use Rattle.ec_theory.specs.declared.condition.Condition.TheVariants as condition
 use Rattle.ec_theory.specs.declared.clause.Clause.{Clause}
 use Rattle.ec_theory.specs.declared.clause.Clause.TheVariants as clause
-use Rattle.ec_theory.specs.Sign.{Sign, Word, Number, Given, Compare, keyword_of, argument_of, variables_of}
+use Rattle.ec_theory.specs.Sign.{Sign, Word, Number, Given, Compare, keyword_of, time_kind_of, argument_of, variables_of}
 
 -- argument { "," argument } ")"
 pub data TakesArguments (names : List (List ℕ)) : List Sign → List PatArg → List Sign → Type 0 where
@@ -54,7 +55,7 @@ literals_of [] = []
 literals_of (condition.Test t ∷ cs) = literals_of cs
 literals_of (condition.Literal l ∷ cs) = l ∷ literals_of cs
 
--- ( rule | exclusive | strong | initially ) ".", as the clause with a number
+-- ( rule | exclusive | strong | initially | time ) ".", as the clause with a number
 pub data TakesClause (names : List (List ℕ)) (number : ℕ) : List Sign → Clause → List Sign → Type 0 where
   rule : {w : List ℕ} {kind : Kind} {signs middle tail : List Sign} {event head : Pattern} {cs : List Condition} {rest : List Sign} →
       keyword_of w ≡ Some (Rule kind) → TakesPattern names signs event middle → TakesPattern names middle head tail → TakesBody names tail cs rest →
@@ -68,17 +69,21 @@ pub data TakesClause (names : List (List ℕ)) (number : ℕ) : List Sign → Cl
   initially : {w : List ℕ} {signs : List Sign} {prop : Pattern} {rest : List Sign} →
       keyword_of w ≡ Some Initially → TakesPattern names signs prop (Given Dot ∷ rest) →
       TakesClause names number (Word w ∷ signs) (clause.Initial (record { clause = number; prop = prop })) rest
+  time : {w name : List ℕ} {kind : TimeKind} {rest : List Sign} →
+      keyword_of w ≡ Some Time → time_kind_of name ≡ Some kind →
+      TakesClause names number (Word w ∷ Word name ∷ Given Dot ∷ rest) (clause.Time (record { clause = number; kind = kind })) rest
 
 -- a theory without clauses
 abbrev pub no_clauses : Theory
-no_clauses = record { rules = []; exclusives = []; strongs = []; initials = [] }
+no_clauses = record { rules = []; exclusives = []; strongs = []; initials = []; times = [] }
 
 -- a clause before the clauses of a theory
 unfoldable pub with_clause : Clause → Theory → Theory
-with_clause (clause.Rule r) theory = record { rules = r ∷ theory.rules; exclusives = theory.exclusives; strongs = theory.strongs; initials = theory.initials }
-with_clause (clause.Exclusive e) theory = record { rules = theory.rules; exclusives = e ∷ theory.exclusives; strongs = theory.strongs; initials = theory.initials }
-with_clause (clause.Strong s) theory = record { rules = theory.rules; exclusives = theory.exclusives; strongs = s ∷ theory.strongs; initials = theory.initials }
-with_clause (clause.Initial i) theory = record { rules = theory.rules; exclusives = theory.exclusives; strongs = theory.strongs; initials = i ∷ theory.initials }
+with_clause (clause.Rule r) theory = record theory { rules = r ∷ theory.rules }
+with_clause (clause.Exclusive e) theory = record theory { exclusives = e ∷ theory.exclusives }
+with_clause (clause.Strong s) theory = record theory { strongs = s ∷ theory.strongs }
+with_clause (clause.Initial i) theory = record theory { initials = i ∷ theory.initials }
+with_clause (clause.Time t) theory = record theory { times = t ∷ theory.times }
 
 -- { clause }: all tokens are clauses, numbered from a number on, and make a theory
 pub data ReadsFrom : ℕ → List Sign → Theory → Type 0 where

@@ -7,13 +7,14 @@ use Rattle.ec_terms.specs.declared.pattern.Pattern.{Pattern}
 use Rattle.ec_theory.specs.declared.condition.Condition.{Condition}
 use Rattle.ec_theory.specs.declared.condition.Condition.TheVariants as condition
 use Rattle.ec_theory.specs.Grammar.{TakesPattern}
+use Rattle.ec_terms.specs.declared.theory.TimeKind.{TimeKind}
 use Rattle.ec_terms.specs.declared.theory.Theory.{Theory}
 use Rattle.ec_theory.specs.declared.clause.Clause.{Clause}
 use Rattle.ec_theory.specs.declared.clause.Clause.TheVariants as clause
 use Rattle.ec_theory.specs.declared.sign.Keyword.{Keyword}
 use Rattle.ec_theory.specs.declared.cursor.Cursor.{Cursor}
 use Rattle.ec_theory.specs.declared.syntax_fault.SyntaxFault.{SyntaxFault}
-use Rattle.ec_theory.specs.Sign.{Sign, Word, Variable, Number, Given, Compare, sign_of, signs_of, keyword_of, argument_of, is_word, is_compare}
+use Rattle.ec_theory.specs.Sign.{Sign, Word, Variable, Number, Given, Compare, sign_of, signs_of, keyword_of, time_kind_of, argument_of, is_word, is_compare}
 use Rattle.ec_theory.specs.declared.sign.Sign.{Sign as SignAt}
 use Rattle.ec_theory.specs.declared.sign.Sign.TheVariants as at
 use Rattle.ec_theory.specs.declared.syntax_fault.SyntaxFault.TheVariants.{Syntax, Memory}
@@ -110,9 +111,16 @@ clause_added theory (clause.Rule r) = record theory { rules = theory.rules ++ r 
 clause_added theory (clause.Exclusive e) = record theory { exclusives = theory.exclusives ++ e ∷ [] }
 clause_added theory (clause.Strong s) = record theory { strongs = theory.strongs ++ s ∷ [] }
 clause_added theory (clause.Initial i) = record theory { initials = theory.initials ++ i ∷ [] }
+clause_added theory (clause.Time t) = record theory { times = theory.times ++ t ∷ [] }
 
 -- a word that begins a kind of clause is taken
 pub record HasKeyword (before : Lexemes) (keyword : Keyword) (after : Lexemes) : Type 0 where
   pub word : List ℕ
   pub steps : Steps before (Word word) after
   pub begins : keyword_of word ≡ Some keyword
+
+-- a word that names a kind of time is taken
+pub record HasTimeKind (before : Lexemes) (kind : TimeKind) (after : Lexemes) : Type 0 where
+  pub word : List ℕ
+  pub steps : Steps before (Word word) after
+  pub names : time_kind_of word ≡ Some kind

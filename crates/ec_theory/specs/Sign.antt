@@ -1,5 +1,5 @@
 -- What a token is to the grammar of clauses.
-use Rattle.std.specs.Prelude.{Bool, true, false, ℕ, ◌==◌, if◌then◌else◌, List, [], ◌∷◌, ◌++◌, length, map, ℤ, pos, Option, Some, None, unwrap_or, bytes_eq, codes, slice_index}
+use Rattle.std.specs.Prelude.{Bool, true, false, ℕ, ◌==◌, if◌then◌else◌, List, [], ◌∷◌, ◌++◌, length, map, ℤ, pos, Option, Some, None, is_some, unwrap_or, bytes_eq, codes, slice_index}
 use Rattle.std.specs.Option.{option_map_or}
 use Rattle.std.specs.List.{list_any, position_or_len}
 use Rattle.ec_moment.specs.Number.{number_value}
@@ -9,12 +9,14 @@ use Rattle.ec_terms.specs.declared.pattern.PatArg.TheVariants.{Var, Any, Fixed}
 use Rattle.ec_terms.specs.declared.theory.TestOp.{TestOp}
 use Rattle.ec_terms.specs.declared.theory.TestOp.TheVariants.{Same, Differ, Less, AtMost}
 use Rattle.ec_terms.specs.declared.theory.Kind.TheVariants.{Initiates, Terminates}
+use Rattle.ec_terms.specs.declared.theory.TimeKind.{TimeKind}
+use Rattle.ec_terms.specs.declared.theory.TimeKind.TheVariants.{Tick, Civil}
 use Rattle.ec_theory.specs.Lexeme.{Lexeme, Lexemes}
 use Rattle.ec_theory.specs.declared.token.TokenKind.TheVariants as kind
 use Rattle.ec_theory.specs.declared.sign.Symbol.{Symbol}
 use Rattle.ec_theory.specs.declared.sign.Symbol.TheVariants.{If, Not, Anything, Open, Close, Comma, Dot, Slash}
 use Rattle.ec_theory.specs.declared.sign.Keyword.{Keyword}
-use Rattle.ec_theory.specs.declared.sign.Keyword.TheVariants.{Rule, Exclusive, Strong, Initially}
+use Rattle.ec_theory.specs.declared.sign.Keyword.TheVariants.{Rule, Exclusive, Strong, Initially, Time}
 
 -- a name other than `if` and `not`, a variable, a number, a symbol that is always the same, or a comparison
 pub data Sign : Type 0 where
@@ -68,7 +70,15 @@ keyword_of word =
     else (if bytes_eq word (codes "exclusive") then Some Exclusive
     else (if bytes_eq word (codes "strong") then Some Strong
     else (if bytes_eq word (codes "initially") then Some Initially
-    else None))))
+    else (if bytes_eq word (codes "time") then Some Time
+    else None)))))
+
+-- the kind of time that a word names, if it names one
+unfoldable pub time_kind_of : List ℕ → Option TimeKind
+time_kind_of word =
+    if bytes_eq word (codes "tick") then Some Tick
+    else (if bytes_eq word (codes "civil") then Some Civil
+    else None)
 
 -- ---- tests of one token
 
@@ -123,6 +133,14 @@ is_argument (Number z) = true
 is_argument (Given symbol) = is_given Anything (Given symbol)
 is_argument (Compare op) = false
 
+-- the name of a kind of time
+abbrev pub is_time_kind : Sign → Bool
+is_time_kind (Word w) = is_some (time_kind_of w)
+is_time_kind (Variable v) = false
+is_time_kind (Number z) = false
+is_time_kind (Given symbol) = false
+is_time_kind (Compare op) = false
+
 -- a kind of clause
 abbrev pub is_keyword : (Keyword → Bool) → Sign → Bool
 is_keyword test (Word w) = option_map_or test (keyword_of w) false
@@ -136,24 +154,35 @@ is_rule (Rule kind) = true
 is_rule Exclusive = false
 is_rule Strong = false
 is_rule Initially = false
+is_rule Time = false
 
 abbrev pub is_exclusive : Keyword → Bool
 is_exclusive (Rule kind) = false
 is_exclusive Exclusive = true
 is_exclusive Strong = false
 is_exclusive Initially = false
+is_exclusive Time = false
 
 abbrev pub is_strong : Keyword → Bool
 is_strong (Rule kind) = false
 is_strong Exclusive = false
 is_strong Strong = true
 is_strong Initially = false
+is_strong Time = false
 
 abbrev pub is_initially : Keyword → Bool
 is_initially (Rule kind) = false
 is_initially Exclusive = false
 is_initially Strong = false
 is_initially Initially = true
+is_initially Time = false
+
+abbrev pub is_time : Keyword → Bool
+is_time (Rule kind) = false
+is_time Exclusive = false
+is_time Strong = false
+is_time Initially = false
+is_time Time = true
 
 -- ---- variables
 

@@ -5,7 +5,7 @@ use Rattle.std.specs.Option.{option_map_or}
 use Rattle.ec_theory.specs.declared.place.Place.{Place}
 use Rattle.ec_theory.specs.Lexeme.{Lexeme, Lexemes, is_spelt}
 use Rattle.ec_theory.specs.declared.sign.Symbol.TheVariants.{If, Not, Open, Close, Comma, Dot, Slash}
-use Rattle.ec_theory.specs.Sign.{Sign, sign_of, is_given, is_word, is_number, is_compare, is_argument, is_keyword, is_rule, is_exclusive, is_strong, is_initially}
+use Rattle.ec_theory.specs.Sign.{Sign, sign_of, is_given, is_word, is_number, is_compare, is_argument, is_time_kind, is_keyword, is_rule, is_exclusive, is_strong, is_initially, is_time}
 
 -- what a pattern is in its clause
 pub data Part : Type 0 where
@@ -17,6 +17,7 @@ pub data Spot : Type 0 where
   PatternAt AfterName ArgumentAt AfterArgument AfterPattern : Part → Spot
   ConditionAt AfterConditionName CompareAt RightSideAt : Spot
   StrongNameAt SlashAt ArityAt AfterArity : Spot
+  TimeKindAt AfterTimeKind : Spot
 
 -- ---- the table
 
@@ -39,7 +40,9 @@ moves_behind Initial = on (is_given Dot) Beginning ∷ []
 
 -- where the tokens at a place lead; of several the first counts
 unfoldable pub moves : Spot → List Move
-moves Beginning = on (is_keyword is_rule) (PatternAt Event) ∷ on (is_keyword is_exclusive) (PatternAt Left) ∷ on (is_keyword is_strong) StrongNameAt ∷ on (is_keyword is_initially) (PatternAt Initial) ∷ []
+moves Beginning =
+    on (is_keyword is_rule) (PatternAt Event) ∷ on (is_keyword is_exclusive) (PatternAt Left) ∷ on (is_keyword is_strong) StrongNameAt
+    ∷ on (is_keyword is_initially) (PatternAt Initial) ∷ on (is_keyword is_time) TimeKindAt ∷ []
 moves (PatternAt part) = on is_word (AfterName part) ∷ []
 moves (AfterName part) = on (is_given Open) (ArgumentAt part) ∷ moves_behind part
 moves (ArgumentAt part) = on is_argument (AfterArgument part) ∷ []
@@ -53,6 +56,8 @@ moves StrongNameAt = on is_word SlashAt ∷ []
 moves SlashAt = on (is_given Slash) ArityAt ∷ []
 moves ArityAt = on is_number AfterArity ∷ []
 moves AfterArity = on (is_given Dot) Beginning ∷ []
+moves TimeKindAt = on is_time_kind AfterTimeKind ∷ []
+moves AfterTimeKind = on (is_given Dot) Beginning ∷ []
 
 -- the first of the moves that a token passes
 unfoldable pub first_move : List Move → Sign → Option Spot
@@ -92,6 +97,8 @@ is_beginning StrongNameAt = false
 is_beginning SlashAt = false
 is_beginning ArityAt = false
 is_beginning AfterArity = false
+is_beginning TimeKindAt = false
+is_beginning AfterTimeKind = false
 
 -- The place of the first token that leads nowhere; where all lead on, but not to a clause's beginning, the end; none otherwise.
 unfoldable pub first_stop : Spot → List Lexeme → Place → Option Place

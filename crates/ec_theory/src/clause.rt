@@ -1,9 +1,9 @@
 //! The reader of clauses.
 ghost use Rattle.std.specs.Prelude.{◌≡◌, ◌<◌, ◌∷◌, ℕ, List, Some, IfOk, OnOk, length};
-ghost use Rattle.ec_theory.specs.declared.sign.Keyword.TheVariants.{Rule as RuleWord, Exclusive as ExclusiveWord, Strong as StrongWord, Initially as InitiallyWord};
+ghost use Rattle.ec_theory.specs.declared.sign.Keyword.TheVariants.{Rule as RuleWord, Exclusive as ExclusiveWord, Strong as StrongWord, Initially as InitiallyWord, Time as TimeWord};
 ghost use Rattle.ec_theory.specs.Sign.{Word, signs_of, keyword_of, variables_of};
 ghost use Rattle.ec_theory.specs.Grammar.{TakesClause};
-ghost use Rattle.ec_theory.specs.Walk.{Beginning, PatternAt, StrongNameAt, Event, Left, Initial as PartInitial};
+ghost use Rattle.ec_theory.specs.Walk.{Beginning, PatternAt, StrongNameAt, TimeKindAt, Event, Left, Initial as PartInitial};
 ghost use Rattle.ec_theory.specs.Reader.{left_of, Goes, clause_added};
 
 use crate::condition::read_body;
@@ -13,7 +13,7 @@ use crate::sign::{Keyword, Symbol, name_of};
 use crate::syntax_fault::SyntaxFault;
 use crate::variables::Variables;
 use ec_lists::NoMemory;
-use ec_terms::{Exclusive, Initial, Kind, Rule, Strong, Theory};
+use ec_terms::{Exclusive, Initial, Kind, Rule, Strong, Theory, TimeDecl};
 use std::alloc::Global;
 
 /// One clause of a theory.
@@ -23,6 +23,7 @@ pub enum Clause {
     Exclusive(Exclusive),
     Strong(Strong),
     Initial(Initial),
+    Time(TimeDecl),
 }
 
 /// Reads a rule behind its first word.
@@ -114,6 +115,25 @@ fn read_initial<'t, 'a>(
     Ok((Clause::Initial(declaration), rest))
 }
 
+/// Reads a time declaration behind its first word.
+fn read_time<'t, 'a>(
+    number: u32,
+    cursor: Cursor<'t, 'a>,
+) -> Result<(Clause, Cursor<'t, 'a>), SyntaxFault>
+    ensures takes { IfOk result (λ x. (names : List (List ℕ)) (w : List ℕ) → keyword_of w ≡ Some TimeWord → TakesClause names number (Word w ∷ signs_of (left_of cursor.entry)) x.0 (signs_of (left_of x.1))) }
+    ensures goes { Goes TimeKindAt Beginning (left_of cursor.entry) result }
+{
+    let Some((kind, behind_kind)) = cursor.time_kind() else {
+        return Err(cursor.fault());
+    };
+    let rest = behind_kind.expect(Symbol::Dot)?;
+    let declaration = TimeDecl {
+        clause: number,
+        kind,
+    };
+    Ok((Clause::Time(declaration), rest))
+}
+
 /// Reads one clause, which gets this number and has these variables.
 fn read_with_names<'t, 'a>(
     alloc: Global,
@@ -130,6 +150,7 @@ fn read_with_names<'t, 'a>(
         Some((Keyword::Exclusive, behind)) => read_exclusive(alloc, names, number, behind),
         Some((Keyword::Strong, behind)) => read_strong(number, behind),
         Some((Keyword::Initially, behind)) => read_initial(alloc, names, number, behind),
+        Some((Keyword::Time, behind)) => read_time(number, behind),
         None => Err(cursor.fault()),
     }
 }
@@ -158,5 +179,6 @@ pub fn push_clause(theory: &mut Theory, clause: Clause) -> Result<(), NoMemory>
         Clause::Exclusive(declaration) => theory.exclusives.push(declaration),
         Clause::Strong(declaration) => theory.strongs.push(declaration),
         Clause::Initial(declaration) => theory.initials.push(declaration),
+        Clause::Time(declaration) => theory.times.push(declaration),
     }
 }

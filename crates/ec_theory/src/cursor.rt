@@ -5,11 +5,11 @@ ghost use Rattle.ec_theory.specs.Lexeme.{lexeme_of, is_spelt};
 ghost use Rattle.ec_theory.specs.declared.token_list.TheConstants.{MOST_BYTES};
 
 use crate::place::Place;
-use crate::sign::{Keyword, Sign, Symbol, keyword_of, sign_of};
+use crate::sign::{Keyword, Sign, Symbol, keyword_of, sign_of, time_kind_of};
 use crate::syntax_fault::SyntaxFault;
 use crate::token::Token;
 use crate::token_list::TokenList;
-use ec_terms::TestOp;
+use ec_terms::{TestOp, TimeKind};
 
 /// The tokens that are left, and the place behind the last.
 #[derive(Clone, Copy)]
@@ -23,8 +23,8 @@ pub struct Cursor<'t, 'a> {
 impl<'t, 'a> Cursor<'t, 'a> {
     ghost use Rattle.std.specs.Prelude.{◌≡◌, ◌↔◌, Bool, false, [], IfSome, IfNone, IfOk, IfErr, IsTrue};
     ghost use Rattle.ec_terms.specs.Spelling.{is_name};
-    ghost use Rattle.ec_theory.specs.Sign.{Word, Number, Given, Compare, is_word, is_number, is_compare, is_given, is_keyword};
-    ghost use Rattle.ec_theory.specs.Reader.{shown, left_of, next_place, next_passes, Refuses, Steps, HasKeyword, IsNamed};
+    ghost use Rattle.ec_theory.specs.Sign.{Word, Number, Given, Compare, is_word, is_number, is_compare, is_given, is_keyword, is_time_kind};
+    ghost use Rattle.ec_theory.specs.Reader.{shown, left_of, next_place, next_passes, Refuses, Steps, HasKeyword, HasTimeKind, IsNamed};
     ghost use Rattle.ec_theory.specs.declared.sign.Keyword.{Keyword};
     ghost use Rattle.ec_theory.specs.declared.syntax_fault.SyntaxFault.TheVariants.{Syntax};
 
@@ -138,5 +138,15 @@ impl<'t, 'a> Cursor<'t, 'a> {
     {
         let (text, behind) = self.word()?;
         Some((keyword_of(text)?, behind))
+    }
+
+    /// The next token as the name of a kind of time.
+    #[tactic(auto, using(crate::proofs::NextTokens::no_time_kind, crate::proofs::NextTokens::word_no_time_kind))]
+    pub fn time_kind(self) -> Option<(TimeKind, Cursor<'t, 'a>)>
+        ensures some { IfSome result (λ x. HasTimeKind (left_of self.entry) x.0 (left_of x.1)) }
+        ensures none { IfNone result (next_passes is_time_kind (left_of self.entry) ≡ false) }
+    {
+        let (text, behind) = self.word()?;
+        Some((time_kind_of(text)?, behind))
     }
 }

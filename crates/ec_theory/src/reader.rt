@@ -40,6 +40,7 @@ fn read_clauses(alloc: Global, tokens: &TokenList<'_>) -> Result<Theory, SyntaxF
         exclusives: Sequence::new(alloc),
         strongs: Sequence::new(alloc),
         initials: Sequence::new(alloc),
+        times: Sequence::new(alloc),
     };
     let mut number = 1;
     let mut next = Cursor::new(tokens);

@@ -1,6 +1,6 @@
 //! What a token is to the grammar of clauses.
 ghost use Rattle.std.specs.Prelude.{◌≡◌, IsTrue, bytes_eq};
-ghost use Rattle.ec_theory.specs.Sign.{name_sign, mark_sign, sign_of, keyword_of};
+ghost use Rattle.ec_theory.specs.Sign.{name_sign, mark_sign, sign_of, keyword_of, time_kind_of};
 ghost use Rattle.ec_theory.specs.Reader.{shown};
 ghost use Rattle.ec_theory.specs.Lexeme.{lexeme_of};
 ghost use Rattle.ec_terms.specs.Spelling.{is_name};
@@ -8,7 +8,7 @@ ghost use Rattle.ec_terms.specs.Spelling.{is_name};
 use crate::token::{Token, TokenKind};
 use crate::variables::Variables;
 use ec_moment::read_number;
-use ec_terms::{Arg, Kind, Name, PatArg, TestOp};
+use ec_terms::{Arg, Kind, Name, PatArg, TestOp, TimeKind};
 
 /// A word or mark that is always the same.
 #[derive(Clone, Copy)]
@@ -30,6 +30,7 @@ pub enum Keyword {
     Exclusive,
     Strong,
     Initially,
+    Time,
 }
 
 /// What a token is to the grammar.
@@ -225,6 +226,22 @@ pub fn keyword_of(word: &[u8]) -> Option<Keyword>
         Some(Keyword::Strong)
     } else if is_text(word, b"initially") {
         Some(Keyword::Initially)
+    } else if is_text(word, b"time") {
+        Some(Keyword::Time)
+    } else {
+        None
+    }
+}
+
+/// The kind of time that a word names.
+#[tactic(auto, unfolding(crate::specs::Sign::time_kind_of))]
+pub fn time_kind_of(word: &[u8]) -> Option<TimeKind>
+    ensures { result ≡ time_kind_of word.now }
+{
+    if is_text(word, b"tick") {
+        Some(TimeKind::Tick)
+    } else if is_text(word, b"civil") {
+        Some(TimeKind::Civil)
     } else {
         None
     }
