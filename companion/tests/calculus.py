@@ -9,19 +9,20 @@ from __future__ import annotations
 from collections import defaultdict
 from typing import Dict, Iterable, List, NamedTuple, Optional, Set, Tuple
 
+from ec_history.moments import Moment
 from ec_history.replies import Event
 from ec_history.terms import Term
 from ec_history.theory import Theory
 
 
-Span = Tuple[Optional[int], Optional[int]]
+Span = Tuple[Optional[Moment], Optional[Moment]]
 """A start and an end, of which either may be missing."""
 
 
 class Mark(NamedTuple):
     """What happened to a property at an instant."""
 
-    time: int
+    time: Moment
     starts: bool
     is_terminated: bool
     has_break: bool
@@ -34,16 +35,15 @@ class Calculus:
         self.theory = theory
         self.initial = set(theory.initial_properties())
         self.marks: Dict[Term, List[Mark]] = defaultdict(list)
-        self.current_before: Dict[int, Set[Term]] = {}
-        by_time: Dict[int, List[Event]] = defaultdict(list)
+        self.current_before: Dict[Moment, Set[Term]] = {}
+        by_time: Dict[Moment, List[Event]] = defaultdict(list)
         for event in events:
-            assert isinstance(event.time, int)
             by_time[event.time].append(event)
         self.current = set(self.initial)
         for time in sorted(by_time):
             self._step(time, by_time[time])
 
-    def _step(self, time: int, events: List[Event]) -> None:
+    def _step(self, time: Moment, events: List[Event]) -> None:
         before = set(self.current)
         self.current_before[time] = before
         effects: Dict[bool, Set[Term]] = {True: set(), False: set()}
@@ -70,7 +70,7 @@ class Calculus:
             return True
         return any(self.theory.are_exclusive(term, other) for other in started)
 
-    def is_current(self, term: Term, time: int) -> bool:
+    def is_current(self, term: Term, time: Moment) -> bool:
         """Whether a property is current at a time, by the strict past."""
         current = term in self.initial
         for mark in self.marks[term]:
@@ -97,14 +97,14 @@ class Calculus:
             intervals.append((begin, None))
         return intervals, broken
 
-    def holds(self, term: Term, time: int) -> bool:
+    def holds(self, term: Term, time: Moment) -> bool:
         """Whether a property holds at a time."""
         return any(
             (start is None or start < time) and (end is None or time <= end)
             for start, end in self.spans(term)[0]
         )
 
-    def at(self, time: int) -> List[Term]:
+    def at(self, time: Moment) -> List[Term]:
         """All that holds at a time."""
         known = set(self.marks) | self.initial
         return sorted(term for term in known if self.holds(term, time))

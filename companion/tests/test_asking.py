@@ -3,10 +3,11 @@
 import json
 import unittest
 from collections import Counter
-from typing import Dict, List
+from typing import Dict, List, Optional, Tuple
 
 from ec_history.asking import QUESTIONS, answer
 from ec_history.history import History
+from ec_history.moments import Moment
 from ec_history.terms import Pattern, Term
 from ec_history.wording import Wording
 
@@ -22,9 +23,22 @@ def rows(history: History, question: str) -> List[Dict]:
     return [dict(zip(table.columns, row)) for row in table.rows]
 
 
-def some_instants(history: History) -> List[int]:
-    times = sorted({e.time for e in history.events if isinstance(e.time, int)})
-    return [times[0], times[len(times) // 2], times[-1], times[-1] + 1]
+def some_instants(history: History) -> List[Moment]:
+    times = sorted({event.time for event in history.events})
+    last = times[-1]
+    return [times[0], times[len(times) // 2], last, later(history, last, 1)]
+
+
+def later(history: History, moment: Moment, count: int) -> Moment:
+    """The time that lies so many units behind another."""
+    clock = history.clock
+    return clock.moment(clock.rank(moment) + count)
+
+
+def cells(history: History, *moments: Optional[Moment]) -> Tuple:
+    """Times as they stand in tables."""
+    wording = Wording(history.theory)
+    return tuple(wording.cell(moment) for moment in moments)
 
 
 class Answers(unittest.TestCase):
@@ -41,7 +55,8 @@ class Answers(unittest.TestCase):
     def test_at_and_holds_and_count(self) -> None:
         for history, calculus in self.each():
             for at in some_instants(history):
-                told = [row["property"] for row in rows(history, f"at {at}")]
+                time = history.clock.write(at)
+                told = [row["property"] for row in rows(history, f"at {time}")]
                 self.assertEqual(told, [str(term) for term in calculus.at(at)])
                 for shape in {(t.name, t.arity) for t in history.candidates()}:
                     if not shape[1]:
@@ -49,17 +64,20 @@ class Answers(unittest.TestCase):
                     pattern = f"{shape[0]}({','.join('_' * shape[1])})"
                     told = {
                         r["property"]: r["holds"]
-                        for r in rows(history, f"holds {pattern} {at}")
+                        for r in rows(history, f"holds {pattern} {time}")
                     }
                     self.assertTrue(told)
                     for text, holds in told.items():
                         self.assertEqual(holds, calculus.holds(Term.parse(text), at))
                     self.check_count(history, calculus, shape, at)
 
-    def check_count(self, history: History, calculus: Calculus, shape, at: int) -> None:
+    def check_count(
+        self, history: History, calculus: Calculus, shape, at: Moment
+    ) -> None:
         name, arity = shape
         pattern = f"{name}({','.join(['By'] + ['_'] * (arity - 1))})"
-        told = {r["By"]: r["count"] for r in rows(history, f"count {pattern} {at}")}
+        time = history.clock.write(at)
+        told = {r["By"]: r["count"] for r in rows(history, f"count {pattern} {time}")}
         fitting = (t for t in calculus.at(at) if (t.name, t.arity) == shape)
         self.assertEqual(told, Counter(str(t.arguments[0]) for t in fitting))
 
@@ -70,9 +88,11 @@ class Answers(unittest.TestCase):
             for term in history.candidates():
                 held, broke = calculus.spans(term)
                 told = [r for r in intervals if r["property"] == str(term)]
-                self.assertEqual([(r["start"], r["end"]) for r in told], held)
+                wanted = [cells(history, *span) for span in held]
+                self.assertEqual([(r["start"], r["end"]) for r in told], wanted)
                 told = [r for r in broken if r["property"] == str(term)]
-                self.assertEqual([(r["start"], r["broken"]) for r in told], broke)
+                wanted = [cells(history, *span) for span in broke]
+                self.assertEqual([(r["start"], r["broken"]) for r in told], wanted)
                 if held or broke:
                     counts.append((str(term), len(held), len(broke)))
             told = [
@@ -87,23 +107,30 @@ class Answers(unittest.TestCase):
     def test_why_and_through(self) -> None:
         for history, calculus in self.each():
             for at in some_instants(history):
-                for row in rows(history, f"why _ {at}"):
+                time = history.clock.write(at)
+                for row in rows(history, f"why _ {time}"):
                     reason = history.session.why(row["property"], at)
                     self.assertEqual(row["reason"], reason.kind)
                     self.assertEqual(
-                        (row["start"], row["end"]), (reason.start, reason.end)
+                        (row["start"], row["end"]),
+                        cells(history, reason.start, reason.end),
                     )
                     by = reason.by.event if reason.by else None
                     until = reason.until.rule if reason.until else None
                     self.assertEqual((row["by"], row["until_rule"]), (by, until))
-                for row in rows(history, f"through _ {at} {at + 2}"):
+                stretch = [later(history, at, count) for count in range(3)]
+                end = history.clock.write(stretch[-1])
+                for row in rows(history, f"through _ {time} {end}"):
                     term = Term.parse(row["property"])
-                    wanted = all(calculus.holds(term, t) for t in range(at, at + 3))
+                    wanted = all(calculus.holds(term, t) for t in stretch)
                     self.assertEqual(row["holds"], wanted)
 
     def test_events_mentions_and_clashes(self) -> None:
         for history, _ in self.each():
-            events = [(e.identity, e.time, str(e.term)) for e in history.events]
+            events = [
+                (e.identity, *cells(history, e.time), str(e.term))
+                for e in history.events
+            ]
             told = [(r["event"], r["time"], r["what"]) for r in rows(history, "events")]
             self.assertEqual(told, events)
             word = history.events[0].term.arguments[0]
@@ -111,7 +138,7 @@ class Answers(unittest.TestCase):
             wanted = [e.identity for e in history.events if word in e.term.arguments]
             self.assertEqual(told, wanted)
             told = [r["time"] for r in rows(history, "clashes")]
-            self.assertEqual(told, history.session.clashes())
+            self.assertEqual(told, list(cells(history, *history.session.clashes())))
 
 
 class Questions(unittest.TestCase):

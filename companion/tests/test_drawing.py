@@ -56,8 +56,10 @@ class OfTimelines(unittest.TestCase):
             self.assertEqual(spans, [tuple(i) for i in session.broken(line.property)])
             for stretch in line.stretches:
                 self.assertTrue(line.words_of(stretch))
-            times = {moment for moment in line.moments()} | {0}
-            for at in sorted({t + d for t in times for d in (-1, 0, 1)}):
+            clock = history.clock
+            ranks = {clock.rank(moment) for moment in line.moments()} | {0}
+            for rank in sorted({r + d for r in ranks for d in (-1, 0, 1)}):
+                at = clock.moment(rank)
                 spells = [
                     spell
                     for spell in line.spells

@@ -8,6 +8,7 @@ from typing import Dict, List
 
 from ec_history.client import Server
 from ec_history.history import History, tell
+from ec_history.moments import Moment
 from ec_history.reasons import COULD, Explainer, Key, Node, Reading
 from ec_history.telling import Teller, json_of
 from ec_history.terms import Term
@@ -26,13 +27,15 @@ initiates  call(Person)         reached(Person) if at(Person, home).
 """
 
 
-def instants(history: History) -> List[int]:
+def instants(history: History) -> List[Moment]:
     """Each time of an event, and those beside it."""
-    times = {event.time for event in history.events if isinstance(event.time, int)}
-    return sorted({at for time in times for at in (time - 1, time, time + 1)})
+    clock = history.clock
+    ranks = {clock.rank(event.time) for event in history.events}
+    beside = sorted({rank + step for rank in ranks for step in (-1, 0, 1)})
+    return [clock.moment(rank) for rank in beside]
 
 
-def told(history: History, text: str, instant: int) -> str:
+def told(history: History, text: str, instant: Moment) -> str:
     """The tree as text."""
     nodes = Explainer(history).explain(Term.parse(text), instant)
     output = io.StringIO()
@@ -201,7 +204,7 @@ class Command(unittest.TestCase):
         for name in example_names():
             with example(name) as history:
                 terms = list(itertools.islice(history.candidates(), 3))
-                instant = str(instants(history)[-1])
+                instant = history.clock.write(instants(history)[-1])
             for term in terms:
                 words = ["why", theory_of(name), lines_of(name), str(term), instant]
                 status, text, _ = run(*words)

@@ -2,6 +2,7 @@
 use crate::history::History;
 use crate::terms::{Binding, Term};
 use crate::theory::{Literal, Rule};
+use crate::times::Instant;
 use std::collections::BTreeSet;
 use std::fmt;
 
@@ -16,7 +17,7 @@ pub struct Counts {
 }
 
 /// Whether some literal of a rule reads a property that is current in one history and not in the other.
-fn sees(old: &History<'_>, new: &History<'_>, rule: &Rule, binding: Binding, at: i64) -> bool {
+fn sees(old: &History<'_>, new: &History<'_>, rule: &Rule, binding: Binding, at: Instant) -> bool {
     let differs = |literal: &Literal| {
         let prop = binding.filled(&literal.prop);
         old.is_current(&prop, at) != new.is_current(&prop, at)
@@ -50,7 +51,7 @@ impl Counts {
         new: &History<'_>,
         rule: &Rule,
         binding: Binding,
-        at: i64,
+        at: Instant,
     ) {
         let was_active = old.is_active(rule, binding, at);
         let is_active = new.is_active(rule, binding, at);

@@ -5,6 +5,7 @@ use crate::drawn_theories::{all_props, stretch, theory, TIMES};
 use crate::draws::Draws;
 use crate::queries::Query;
 use crate::server::Server;
+use crate::times::Instant;
 
 /// How many commands a history has.
 const COMMANDS: usize = 25;
@@ -34,9 +35,11 @@ impl Dialogue {
         let mut server = Server::new(&theory);
         for _ in 0..COMMANDS {
             dialogue.add_command(&mut draws, &mut server);
-            dialogue.ask_all(&server, &[stretch(&mut draws)]);
+            dialogue.ask_all(&server, &[stretch(&mut draws, theory.time)]);
         }
-        dialogue.ask_all(&server, &TIMES.map(|at| (at, stretch(&mut draws).1)));
+        let from = |number| theory.time.instant(number);
+        let stretches = TIMES.map(|number| (from(number), stretch(&mut draws, theory.time).1));
+        dialogue.ask_all(&server, &stretches);
         dialogue
     }
 
@@ -61,9 +64,9 @@ impl Dialogue {
 
     /// Asks all that can be asked: each property for its intervals and broken begins and by some stretches, which properties hold at
     /// each time, the clashes, the events, and what the last update changed.
-    fn ask_all(&mut self, server: &Server<'_>, stretches: &[(i64, i64)]) {
+    fn ask_all(&mut self, server: &Server<'_>, stretches: &[(Instant, Instant)]) {
         let history = server.history();
-        for query in queries(stretches) {
+        for query in queries(server, stretches) {
             self.add(query.to_string(), query.reply(&history));
         }
         self.add("last".to_string(), server.last.to_string());
@@ -71,7 +74,7 @@ impl Dialogue {
 }
 
 /// All questions about a history by some stretches.
-fn queries(stretches: &[(i64, i64)]) -> Vec<Query> {
+fn queries(server: &Server<'_>, stretches: &[(Instant, Instant)]) -> Vec<Query> {
     let mut queries = Vec::new();
     for prop in all_props() {
         queries.push(Query::Intervals(prop.clone()));
@@ -82,7 +85,7 @@ fn queries(stretches: &[(i64, i64)]) -> Vec<Query> {
             queries.push(Query::Through(prop.clone(), *from, *until));
         }
     }
-    queries.extend(TIMES.map(Query::At));
+    queries.extend(TIMES.map(|number| Query::At(server.time().instant(number))));
     queries.push(Query::Clashes);
     queries.push(Query::Events);
     queries

@@ -5,9 +5,9 @@ use crate::events::{present, Event, Update};
 use crate::server::{Command, Sender, Server};
 
 /// A random update. An event that is present is mostly retracted.
-fn update(draws: &mut Draws, events: &[Event]) -> Update {
-    let event = event(draws);
-    let is_present = present(events, event.id).is_some();
+fn update(draws: &mut Draws, server: &Server<'_>) -> Update {
+    let event = event(draws, server.time());
+    let is_present = present(&server.events, event.id).is_some();
     if is_present != draws.one_in(8) {
         Update::Retract(event.id)
     } else {
@@ -21,15 +21,15 @@ fn update_in_draft(draws: &mut Draws, server: &Server<'_>) -> Update {
         (Some(same), 0) => Update::Assert(same.clone()),
         (Some(same), 1 | 2) => Update::Assert(Event {
             id: same.id,
-            ..event(draws)
+            ..event(draws, server.time())
         }),
-        _ => update(draws, &server.events),
+        _ => update(draws, server),
     }
 }
 
 /// A random update of one who has no draft.
 fn plain_update(draws: &mut Draws, server: &Server<'_>) -> (Sender, Command) {
-    let update = update(draws, &server.events);
+    let update = update(draws, server);
     (Sender::Plain, Command::Update(update))
 }
 
@@ -49,7 +49,7 @@ fn command_in_draft(draws: &mut Draws, server: &Server<'_>, count: usize) -> (Se
 fn command_without_draft(draws: &mut Draws, server: &Server<'_>) -> (Sender, Command) {
     let command = match draws.below(10) {
         0..=3 => Command::Begin,
-        4 => Command::Update(update(draws, &server.events)),
+        4 => Command::Update(update(draws, server)),
         9 => draws.pick(&[Command::Begin, Command::Commit, Command::Abort]),
         _ => return plain_update(draws, server),
     };
@@ -59,7 +59,8 @@ fn command_without_draft(draws: &mut Draws, server: &Server<'_>) -> (Sender, Com
 /// A random command and who sends it. The first events are mostly asserted one by one; only session 1 has drafts.
 pub fn command(draws: &mut Draws, server: &Server<'_>) -> (Sender, Command) {
     if server.events.len() < 4 && !draws.one_in(3) {
-        return (Sender::Plain, Command::Update(Update::Assert(event(draws))));
+        let event = event(draws, server.time());
+        return (Sender::Plain, Command::Update(Update::Assert(event)));
     }
     match &server.draft {
         Some(draft) => command_in_draft(draws, server, draft.len()),

@@ -3,6 +3,7 @@ use crate::draws::Draws;
 use crate::events::{Event, Identity};
 use crate::terms::{Named, Pattern, Place, Shape, Term, Value};
 use crate::theory::{Kind, Literal, Op, Rule, Test, Theory};
+use crate::times::{Instant, Time, DAY};
 
 /// The names of events and how many arguments each has.
 const EVENTS: [Shape; 4] = [("e", 1), ("e", 2), ("e", 2), ("f", 0)];
@@ -38,6 +39,24 @@ const INSTANTS: [i64; 6] = [-1, 0, 1, 2, 3, 4];
 
 /// Each instant, and what lies one before and one after it.
 pub const TIMES: [i64; 8] = [-2, -1, 0, 1, 2, 3, 4, 5];
+
+/// Civil times one second apart: the first and the last of all, and around the ends of two Februaries and of a year; and one day, one
+/// month and one leap year apart.
+const CIVILS: [Time; 8] = [
+    civil(2, 1),
+    civil(315_569_519_994, 1),
+    civil(58 * DAY + 86_398, 1),
+    civil(694_019 * DAY + 86_398, 1),
+    civil(739_250 * DAY + 86_398, 1),
+    civil(739_308 * DAY + 43_200, DAY),
+    civil(739_250 * DAY + 3_599, 31 * DAY),
+    civil(730_543 * DAY + 59, 366 * DAY),
+];
+
+/// Civil times that begin so many seconds behind the beginning of the year 0.
+const fn civil(first: i64, step: i64) -> Time {
+    Time::Civil { first, step }
+}
 
 /// A property of a name and its arguments.
 fn prop(name: &'static str, args: &[Value]) -> Term {
@@ -128,29 +147,39 @@ fn exclusive(draws: &mut Draws) -> (Pattern, Pattern) {
     (named(draws, &PROPS, &PLACES), named(draws, &PROPS, &PLACES))
 }
 
-/// A theory: some rules, up to three exclusive declarations, at most one strong one, and up to two initial properties.
+/// The time of a theory: civil in one of three.
+fn time(draws: &mut Draws) -> Time {
+    if draws.one_in(3) {
+        draws.pick(&CIVILS)
+    } else {
+        Time::Tick
+    }
+}
+
+/// A theory: some rules, up to three exclusive declarations, at most one strong one, up to two initial properties, and a time.
 pub fn theory(draws: &mut Draws) -> Theory {
     Theory {
         rules: some(draws, &[8, 10, 12, 14], rule),
         exclusives: some(draws, &[0, 1, 2, 3], exclusive),
         strongs: some(draws, &[0, 1], |draws| draws.pick(&PROPS)),
         initials: some(draws, &[0, 0, 1, 2], |draws| named(draws, &PROPS, &VALUES)),
+        time: time(draws),
     }
 }
 
 /// An event, be there one of its identity or not.
-pub fn event(draws: &mut Draws) -> Event {
+pub fn event(draws: &mut Draws, time: Time) -> Event {
     Event {
-        at: draws.pick(&INSTANTS),
+        at: time.instant(draws.pick(&INSTANTS)),
         id: draws.pick(&IDENTITIES),
         term: named(draws, &EVENTS, &VALUES),
     }
 }
 
 /// The beginning and the end of a stretch, mostly in this order.
-pub fn stretch(draws: &mut Draws) -> (i64, i64) {
-    let from = draws.pick(&TIMES);
-    let until = draws.pick(&TIMES);
+pub fn stretch(draws: &mut Draws, time: Time) -> (Instant, Instant) {
+    let from = time.instant(draws.pick(&TIMES));
+    let until = time.instant(draws.pick(&TIMES));
     if until < from && !draws.one_in(4) {
         (until, from)
     } else {

@@ -1,5 +1,6 @@
 //! Lists of events, and the updates that change them.
 use crate::terms::Term;
+use crate::times::Instant;
 use std::fmt;
 
 /// The identity of an event.
@@ -8,7 +9,7 @@ pub type Identity = &'static str;
 /// Something that happened.
 #[derive(Clone, PartialEq, Eq)]
 pub struct Event {
-    pub at: i64,
+    pub at: Instant,
     pub id: Identity,
     pub term: Term,
 }

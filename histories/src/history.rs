@@ -2,14 +2,15 @@
 use crate::events::{Event, Identity};
 use crate::terms::{Binding, Term};
 use crate::theory::{Kind, Literal, Rule, Theory};
+use crate::times::Instant;
 use std::collections::BTreeSet;
 
 /// Where something begins: at an instant, or, for `None`, before all events. `None` comes before each instant.
-pub type Begin = Option<i64>;
+pub type Begin = Option<Instant>;
 
 /// What an event does by a rule whose conditions are met. Rules are numbered from 1.
 pub struct Entry {
-    pub at: i64,
+    pub at: Instant,
     pub id: Identity,
     pub rule: usize,
     pub kind: Kind,
@@ -20,7 +21,7 @@ pub struct Entry {
 #[derive(PartialEq, Eq)]
 pub struct Span {
     pub begin: Begin,
-    pub end: Option<i64>,
+    pub end: Option<Instant>,
     pub is_broken: bool,
 }
 
@@ -40,13 +41,13 @@ impl Entry {
 
 impl Span {
     /// Whether the property holds at a time by this span: after its begin, up to and with its end.
-    pub fn covers(&self, at: i64) -> bool {
+    pub fn covers(&self, at: Instant) -> bool {
         !self.is_broken && self.begin < Some(at) && reaches(self.end, at)
     }
 }
 
 /// Whether what has this end, or none, lasts to a time.
-fn reaches(end: Option<i64>, at: i64) -> bool {
+fn reaches(end: Option<Instant>, at: Instant) -> bool {
     match end {
         Some(end) => at <= end,
         None => true,
@@ -88,7 +89,7 @@ impl<'a> History<'a> {
     }
 
     /// Whether each literal of a rule agrees with the currency of its property.
-    pub fn is_active(&self, rule: &Rule, binding: Binding, at: i64) -> bool {
+    pub fn is_active(&self, rule: &Rule, binding: Binding, at: Instant) -> bool {
         let agrees = |literal: &Literal| {
             self.is_current(&binding.filled(&literal.prop), at) == literal.positive
         };
@@ -97,7 +98,7 @@ impl<'a> History<'a> {
 
     /// Whether a property is current at a time: something before it started the property, and nothing since then broke it. What
     /// happens at the time itself says nothing.
-    pub fn is_current(&self, prop: &Term, at: i64) -> bool {
+    pub fn is_current(&self, prop: &Term, at: Instant) -> bool {
         let lasts = |begin: Begin| reaches(self.next_break(prop, begin), at);
         let starts = |entry: &Entry| entry.at < at && entry.does(Kind::Initiates, prop);
         let mut entries = self.active.iter();
@@ -106,7 +107,7 @@ impl<'a> History<'a> {
     }
 
     /// The least instant behind a begin at which a property has a break.
-    fn next_break(&self, prop: &Term, begin: Begin) -> Option<i64> {
+    fn next_break(&self, prop: &Term, begin: Begin) -> Option<Instant> {
         let is_next = |entry: &&Entry| begin < Some(entry.at) && self.breaks(entry, prop);
         self.active.iter().find(is_next).map(|entry| entry.at)
     }
@@ -122,17 +123,17 @@ impl<'a> History<'a> {
     }
 
     /// The active entries at a time, in order of identity and rule.
-    fn active_at(&self, at: i64) -> impl Iterator<Item = &Entry> {
+    fn active_at(&self, at: Instant) -> impl Iterator<Item = &Entry> {
         self.active.iter().filter(move |entry| entry.at == at)
     }
 
     /// The first entry at a time that does this to a property.
-    pub fn first_of(&self, kind: Kind, prop: &Term, at: i64) -> Option<&Entry> {
+    pub fn first_of(&self, kind: Kind, prop: &Term, at: Instant) -> Option<&Entry> {
         self.active_at(at).find(|entry| entry.does(kind, prop))
     }
 
     /// The first entry at a time that breaks a property.
-    pub fn first_break(&self, prop: &Term, at: i64) -> Option<&Entry> {
+    pub fn first_break(&self, prop: &Term, at: Instant) -> Option<&Entry> {
         self.active_at(at).find(|entry| self.breaks(entry, prop))
     }
 
@@ -180,7 +181,7 @@ impl<'a> History<'a> {
     }
 
     /// Whether a property holds at a time.
-    pub fn holds(&self, prop: &Term, at: i64) -> bool {
+    pub fn holds(&self, prop: &Term, at: Instant) -> bool {
         self.spans(prop).iter().any(|span| span.covers(at))
     }
 
@@ -193,7 +194,7 @@ impl<'a> History<'a> {
     }
 
     /// The instants at which two properties that exclude each other are initiated, in order.
-    pub fn clashes(&self) -> BTreeSet<i64> {
+    pub fn clashes(&self) -> BTreeSet<Instant> {
         let clashing = self.active.iter().filter(|entry| self.is_opposed(entry));
         clashing.map(|entry| entry.at).collect()
     }

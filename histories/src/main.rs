@@ -16,6 +16,7 @@ mod served;
 mod server;
 mod terms;
 mod theory;
+mod times;
 
 use dialogue::Dialogue;
 use served::Folder;

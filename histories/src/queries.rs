@@ -2,16 +2,17 @@
 use crate::history::{Entry, History, Span};
 use crate::terms::Term;
 use crate::theory::Kind;
+use crate::times::Instant;
 use std::fmt;
 
 /// A line that asks something of a history.
 pub enum Query {
-    Holds(Term, i64),
-    Through(Term, i64, i64),
+    Holds(Term, Instant),
+    Through(Term, Instant, Instant),
     Intervals(Term),
     Broken(Term),
-    At(i64),
-    Why(Term, i64),
+    At(Instant),
+    Why(Term, Instant),
     Clashes,
     Events,
 }
@@ -38,7 +39,7 @@ impl Query {
             Query::Holds(prop, at) => yes_or_no(history.holds(prop, *at)),
             Query::Through(_, from, until) if until < from => "refused order".to_string(),
             Query::Through(prop, from, until) => {
-                yes_or_no((*from..=*until).all(|at| history.holds(prop, at)))
+                yes_or_no(from.up_to(*until).all(|at| history.holds(prop, at)))
             }
             Query::Intervals(prop) => list(history.intervals(prop).iter().map(interval)),
             Query::Broken(prop) => list(history.broken(prop).iter().map(broken)),
@@ -66,7 +67,7 @@ fn list<T: fmt::Display>(things: impl IntoIterator<Item = T>) -> String {
 }
 
 /// An instant, or the word for there being none.
-fn instant(at: Option<i64>, none: &str) -> String {
+fn instant(at: Option<Instant>, none: &str) -> String {
     at.map_or(none.to_string(), |at| at.to_string())
 }
 
@@ -96,7 +97,7 @@ fn cause(word: &str, entry: Option<&Entry>) -> String {
 }
 
 /// The reason why a property holds at a time, or why it does not, by its last begin before that.
-fn reason(history: &History<'_>, prop: &Term, at: i64) -> String {
+fn reason(history: &History<'_>, prop: &Term, at: Instant) -> String {
     let spans = history.spans(prop);
     let Some(span) = spans.iter().rfind(|span| span.begin < Some(at)) else {
         return "no never".to_string();

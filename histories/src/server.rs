@@ -3,6 +3,7 @@ use crate::changes::Counts;
 use crate::events::{present, updated, Cut, Event, Update};
 use crate::history::History;
 use crate::theory::Theory;
+use crate::times::Time;
 use std::fmt;
 
 /// A line that may change something, but for its prefix.
@@ -38,6 +39,11 @@ impl<'a> Server<'a> {
             last: Counts::default(),
             draft: None,
         }
+    }
+
+    /// The time of the theory.
+    pub fn time(&self) -> Time {
+        self.theory.time
     }
 
     /// What follows from the present events, derived afresh.

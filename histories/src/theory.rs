@@ -1,6 +1,7 @@
 //! Theories: their text, the rules that an event meets, and what is declared of properties.
 use crate::events::Event;
 use crate::terms::{Binding, Pattern, Place, Shape, Term};
+use crate::times::Time;
 use std::fmt;
 
 /// What a rule does to its property.
@@ -47,6 +48,7 @@ pub struct Theory {
     pub exclusives: Vec<(Pattern, Pattern)>,
     pub strongs: Vec<Shape>,
     pub initials: Vec<Term>,
+    pub time: Time,
 }
 
 impl Test {
@@ -163,6 +165,9 @@ impl fmt::Display for Theory {
         for initial in &self.initials {
             writeln!(f, "initially {initial}.")?;
         }
-        Ok(())
+        match self.time {
+            Time::Tick => Ok(()),
+            Time::Civil { .. } => writeln!(f, "time civil."),
+        }
     }
 }
