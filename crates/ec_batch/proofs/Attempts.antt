@@ -36,10 +36,10 @@ module _ {T : Type 0} (A : Type 0) (rank : T → ℤ) (theory : Theory) (events 
   -- a refusal leaves the walk at some list
   pub walked_until : (refusal : Refusal) → GoesThrough {A = A} rank theory events (history_of rank events) updates view tally walk (Err refusal) → HasWalkedFrom rank theory events view tally walk
   walked_until (Update place cut) goes = goes.1
-  walked_until Memory goes = goes.1
+  walked_until (Memory none) goes = goes.1
 
   -- and once the walk is undone, the parts stand for the list of the store
   pub refused_after : (refusal : Refusal) (after : View T) (counted : Tally) → GoesThrough {A = A} rank theory events (history_of rank events) updates view tally walk (Err refusal)
       → StandFor rank theory (history_of rank events) after counted → IsAttempted rank theory events updates after counted (Err refusal)
   refused_after (Update place cut) after counted goes stand = (goes.0, stand)
-  refused_after Memory after counted goes stand = (goes.0, stand)
+  refused_after (Memory none) after counted goes stand = (goes.0, stand)

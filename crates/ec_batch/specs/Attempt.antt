@@ -19,5 +19,5 @@ IsAttempted rank theory events updates view tally (Ok walk) =
     MatchResult (updated_by theory (history_of rank events) updates) (λ after. HasWalkedTo rank theory events after view tally walk) (λ cut. ⊥)
 IsAttempted rank theory events updates view tally (Err (Update place cut)) =
     (updated_by theory (history_of rank events) updates ≡ Err (place, cut)) × StandFor rank theory (history_of rank events) view tally
-IsAttempted rank theory events updates view tally (Err Memory) =
+IsAttempted rank theory events updates view tally (Err (Memory none)) =
     IsTrue (batch_may_want_memory theory (history_of rank events) updates) × StandFor rank theory (history_of rank events) view tally

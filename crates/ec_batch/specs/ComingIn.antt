@@ -26,7 +26,7 @@ use Rattle.ec_batch.specs.Walk.{AreLiveOrListed}
 abbrev pub IsTurnedAway : {T : Type 0} → (T → ℤ) → Theory → List (Kept T) → PlainEvent → View T → Tally → Refusal → Type 0
 IsTurnedAway rank theory events event view tally (Update place cut) =
     (updated_by theory (history_of rank events) (asserting event ∷ []) ≡ Err (place, cut)) × StandFor rank theory (history_of rank events) view tally
-IsTurnedAway rank theory events event view tally Memory =
+IsTurnedAway rank theory events event view tally (Memory none) =
     IsTrue (batch_may_want_memory theory (history_of rank events) (asserting event ∷ [])) × StandFor rank theory (history_of rank events) view tally
 
 -- An event has come into the tables with its entries, within the limits on mentions and links; the new properties are listed.

@@ -23,4 +23,4 @@ pub record HasWalkedFrom {T : Type 0} (rank : T → ℤ) (theory : Theory) (even
 abbrev pub GoesThrough : {T A : Type 0} → (T → ℤ) → Theory → List (Kept T) → List PlainEvent → List PlainUpdate → View T → Tally → Walk T → Result A Refusal → Type 0
 GoesThrough rank theory events soon updates view tally walk (Ok done) = MatchResult (updated_by theory soon updates) (λ after. HasWalkedTo rank theory events after view tally walk) (λ cut. ⊥)
 GoesThrough rank theory events soon updates view tally walk (Err (Update place cut)) = (updated_by theory soon updates ≡ Err (place, cut)) × HasWalkedFrom rank theory events view tally walk
-GoesThrough rank theory events soon updates view tally walk (Err Memory) = IsTrue (batch_may_want_memory theory soon updates) × HasWalkedFrom rank theory events view tally walk
+GoesThrough rank theory events soon updates view tally walk (Err (Memory none)) = IsTrue (batch_may_want_memory theory soon updates) × HasWalkedFrom rank theory events view tally walk

@@ -38,9 +38,12 @@ pub fn let_in<T: Moment, M: MarkRow<T>, I: SpanRow<T>, X: TimeRow<T>>(
     ensures theory { parts.new.checked ≡ parts.old.checked }
     ensures store { IfOk result (λ list. parts.new.store ≡ parts.old.store) }
 {
-    let Ok(list) = enter(alloc, parts, event, fresh) else {
-        forget_idle(parts, fresh.as_slice());
-        return Err(Refusal::Memory);
+    let list = match enter(alloc, parts, event, fresh) {
+        Ok(list) => list,
+        Err(none) => {
+            forget_idle(parts, fresh.as_slice());
+            return Err(Refusal::Memory(none));
+        }
     };
     if let Err(cut) = take_in(parts, tally, &list) {
         forget_idle(parts, fresh.as_slice());

@@ -44,7 +44,7 @@ pub(crate) fn walk_through<T: Moment, M: MarkRow<T>, I: SpanRow<T>, X: TimeRow<T
         match update(alloc, parts, tally, walk, one, steps) {
             Ok(()) => {}
             Err(Stop::Refused(cut)) => return Err(Refusal::Update { place, cut }),
-            Err(Stop::Memory(_)) => return Err(Refusal::Memory),
+            Err(Stop::Memory(none)) => return Err(Refusal::Memory(none)),
         }
     }
     Ok(())

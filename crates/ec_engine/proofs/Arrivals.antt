@@ -141,13 +141,13 @@ module _ {T : Type 0} (rank : T → ℤ) (theory : Theory) (events : List (Kept 
   -- an event that is turned away leaves the parts at the list of the store
   pub stands_turned_away : (refusal : Refusal) → IsTurnedAway rank theory events e view tally refusal → StandFor rank theory (history_of rank events) view tally
   stands_turned_away (Update place cut) away = away.1
-  stands_turned_away Memory away = away.1
+  stands_turned_away (Memory none) away = away.1
 
   -- and the list as it was
   pub IsRevised-turned_away : (refusal : Refusal) → IsTurnedAway rank theory events e view tally refusal
       → IsRevised theory (history_of rank events) (asserting e ∷ []) (Err refusal) (history_of rank view.store.events)
   IsRevised-turned_away (Update place cut) away = (away.0, away.1.both.caches.events_of)
-  IsRevised-turned_away Memory away = (away.0, away.1.both.caches.events_of)
+  IsRevised-turned_away (Memory none) away = (away.0, away.1.both.caches.events_of)
 
 -- a change leads to the same list under the same theory, with the same properties listed
 pub LeadsTo-moved : {T : Type 0} (rank : T → ℤ) (theory later : Theory) (view : View T) (tally : Tally) (change : Change T) (fresh given dying : List PropId) (soon : List PlainEvent)

@@ -25,13 +25,13 @@ module _ {T : Type 0} (rank : T → ℤ) (theory : Theory) (events : List (Kept 
   -- a batch that is refused leaves the parts at the list of the store
   pub stands_refused : (refusal : Refusal) → IsAttempted rank theory events updates view tally (Err refusal) → StandFor rank theory (history_of rank events) view tally
   stands_refused (Update place cut) tried = tried.1
-  stands_refused Memory tried = tried.1
+  stands_refused (Memory none) tried = tried.1
 
   -- and the list as it was
   pub IsRevised-refused : (refusal : Refusal) → IsAttempted rank theory events updates view tally (Err refusal)
       → IsRevised theory (history_of rank events) updates (Err refusal) (history_of rank view.store.events)
   IsRevised-refused (Update place cut) tried = (tried.0, tried.1.both.caches.events_of)
-  IsRevised-refused Memory tried = (tried.0, tried.1.both.caches.events_of)
+  IsRevised-refused (Memory none) tried = (tried.0, tried.1.both.caches.events_of)
 
 -- an empty batch leaves the list as it was
 pub IsRevised-empty : (theory : Theory) (events : List PlainEvent) → IsRevised theory events [] (Ok no_change) events
@@ -78,7 +78,7 @@ module _ {T : Type 0} (rank : T → ℤ) (theory : Theory) (before soon : List P
 
   -- one for which memory ran out is not, and it was not empty
   pub IsRevised-no_memory : 0 < length updates → (none : NoMemory) → IsCarriedOut rank theory before soon view tally (Err none)
-      → IsRevised theory before updates (Err Memory) (history_of rank view.store.events)
+      → IsRevised theory before updates (Err (Memory none)) (history_of rank view.store.events)
   IsRevised-no_memory some none carried = (batch_may_want-accepted theory before soon updates some is, carried.both.caches.events_of)
 
   -- how many steps it may take

@@ -14,7 +14,7 @@ use Rattle.ec_batch.specs.declared.refusal.Refusal.TheVariants.{Update, Memory}
 abbrev pub IsRevised : Theory → List PlainEvent → List PlainUpdate → Result Seen Refusal → List PlainEvent → Type 0
 IsRevised theory before updates (Ok seen) after = (updated_by theory before updates ≡ Ok after) × (seen ≡ change_counts theory before after)
 IsRevised theory before updates (Err (Update place cut)) after = (updated_by theory before updates ≡ Err (place, cut)) × (after ≡ before)
-IsRevised theory before updates (Err Memory) after = IsTrue (batch_may_want_memory theory before updates) × (after ≡ before)
+IsRevised theory before updates (Err (Memory none)) after = IsTrue (batch_may_want_memory theory before updates) × (after ≡ before)
 
 -- how many steps updates may take that come to this
 abbrev pub steps_by : Theory → List PlainEvent → List PlainUpdate → Result (List PlainEvent) PlacedCut → ℕ

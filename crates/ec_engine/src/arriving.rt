@@ -69,6 +69,18 @@ fn addition<T: Moment>(
     }
 }
 
+/// Room for one event, and for its entries. `Err`: memory ran out.
+fn rooms<T: Moment>(alloc: Global) -> Result<(Vec<Event<T>>, Vec<EntryList>), NoMemory>
+    ensures add { IfOk result (λ rooms. rooms.0.items ≡ []) }
+    ensures entries { IfOk result (λ rooms. rooms.1.items ≡ []) }
+    ensures room { IfOk result (λ rooms. 1 ≤ vec_capacity rooms.0) }
+    ensures entries_room { IfOk result (λ rooms. 1 ≤ vec_capacity rooms.1) }
+{
+    let add = Vec::with_capacity(alloc, 1)?;
+    let entries = Vec::with_capacity(alloc, 1)?;
+    Ok((add, entries))
+}
+
 /// Lets an event whose identity is absent in, where there are not too many.
 fn arrive_new<T: Moment, M: MarkRow<T>, I: SpanRow<T>, X: TimeRow<T>>(
     alloc: Global,
@@ -84,11 +96,9 @@ fn arrive_new<T: Moment, M: MarkRow<T>, I: SpanRow<T>, X: TimeRow<T>>(
     ensures theory { parts.new.checked ≡ parts.old.checked }
     ensures store { IfOk result (λ arrival. parts.new.store ≡ parts.old.store) }
 {
-    let Ok(add) = Vec::with_capacity(alloc, 1) else {
-        return Err(Refusal::Memory);
-    };
-    let Ok(entries) = Vec::with_capacity(alloc, 1) else {
-        return Err(Refusal::Memory);
+    let (add, entries) = match rooms(alloc) {
+        Ok(rooms) => rooms,
+        Err(none) => return Err(Refusal::Memory(none)),
     };
     let mut fresh = Vec::new(alloc);
     match let_in(alloc, parts, tally, &event, &mut fresh) {
@@ -125,8 +135,9 @@ pub(crate) fn arrive<T: Moment, M: MarkRow<T>, I: SpanRow<T>, X: TimeRow<T>>(
         let cut = Cut::FullEvents;
         return Err(Refusal::Update { place: 1, cut });
     }
-    let Ok(event) = made(alloc, id, at, event) else {
-        return Err(Refusal::Memory);
+    let event = match made(alloc, id, at, event) {
+        Ok(event) => event,
+        Err(none) => return Err(Refusal::Memory(none)),
     };
     arrive_new(alloc, parts, tally, event)
 }

@@ -133,15 +133,16 @@ impl<T: Moment, M: MarkRow<T>, I: SpanRow<T>, X: TimeRow<T>> Engine<T, M, I, X> 
             Ok(walk) => walk,
             Err(refusal) => return Err(refusal),
         };
-        let Ok(seen) = carry_out(
+        let seen = match carry_out(
             self.alloc,
             &mut self.lists,
             parts,
             &mut self.tally,
             walk,
             steps,
-        ) else {
-            return Err(Refusal::Memory);
+        ) {
+            Ok(seen) => seen,
+            Err(none) => return Err(Refusal::Memory(none)),
         };
         Ok(seen)
     }
@@ -175,8 +176,9 @@ impl<T: Moment, M: MarkRow<T>, I: SpanRow<T>, X: TimeRow<T>> Engine<T, M, I, X> 
             &[],
             steps,
         );
-        let Ok(seen) = carried else {
-            return Err(Refusal::Memory);
+        let seen = match carried {
+            Ok(seen) => seen,
+            Err(none) => return Err(Refusal::Memory(none)),
         };
         Ok(seen)
     }
@@ -214,8 +216,9 @@ impl<T: Moment, M: MarkRow<T>, I: SpanRow<T>, X: TimeRow<T>> Engine<T, M, I, X> 
         ensures theory { self.new.theory ≡ self.old.theory }
         ensures steps { steps.new ≤ steps.old + most_steps self.old.theory self.old.events (retracting id ∷ []) }
     {
-        let Ok(mut batch) = Vec::with_capacity(self.alloc, 1) else {
-            return Err(Refusal::Memory);
+        let mut batch = match Vec::with_capacity(self.alloc, 1) {
+            Ok(batch) => batch,
+            Err(error) => return Err(Refusal::Memory(NoMemory::from(error))),
         };
         batch.push_reserved(Update::Retract(id));
         self.revise(batch.as_slice(), steps)

@@ -1,14 +1,21 @@
 //! Answers that no whole run of a test gets.
 use crate::steps::COUNTS;
 use ec_lines::{Answer, write_answer};
+use ec_lists::NoMemory;
 use ec_outside::{MemSink, Sink};
+use std::alloc::AllocError;
 
 /// Memory ran out, and a count is as large as it can be.
 const TEXTS: &[u8] = b"refused memory\nlast seen 12 on 18446744073709551615 off 0 props 13\n";
 
 /// Whether a sink takes both answers. All that names `Answer` stands in this function: it costs a proof some ten seconds.
 fn takes_both(sink: &mut impl Sink) -> bool {
-    write_answer(None, &Answer::Memory, &mut *sink).is_ok()
+    write_answer(
+        None,
+        &Answer::Memory(NoMemory::from(AllocError)),
+        &mut *sink,
+    )
+    .is_ok()
         && write_answer(None, &Answer::Last(COUNTS), &mut *sink).is_ok()
 }
 

@@ -18,6 +18,6 @@ plain_answer NoDraft = refused_no_draft
 plain_answer FullDraft = refused_full_draft
 plain_answer Order = refused_order
 plain_answer FullPairs = refused_full_pairs
-plain_answer Memory = refused_memory
+plain_answer (Memory none) = refused_memory
 plain_answer (Update cut) = refused_update cut
 plain_answer (Commit k cut) = refused_commit k cut

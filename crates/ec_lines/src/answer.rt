@@ -6,6 +6,7 @@ ghost use Rattle.ec_lines.specs.ShownAnswer.{plain_answer};
 
 use crate::reply_text::{ReplyText, front, push_answer};
 use ec_axioms::{Cut, Seen};
+use ec_lists::NoMemory;
 use ec_outside::{Failed, Sink, write_all};
 
 /// An answer to a line that is one of a few fixed forms.
@@ -27,7 +28,8 @@ pub enum Answer {
     Order,
     /// More pairs stand in a relation than a reply lists.
     FullPairs,
-    Memory,
+    /// Memory ran out: an allocation failed.
+    Memory(NoMemory),
     /// An update was refused.
     Update(Cut),
     /// The update at this place of a draft, from 1, was refused.

@@ -123,7 +123,7 @@ pub(crate) fn push_answer(text: &mut ReplyText, answer: &Answer)
             text.push(b"refused full-pairs ");
             text.push_number(MOST_PAIRS);
         }
-        Answer::Memory => text.push(b"refused memory"),
+        Answer::Memory(_) => text.push(b"refused memory"),
         Answer::Update(cut) => {
             text.push(b"refused ");
             push_cut(text, cut);

@@ -1,6 +1,7 @@
 -- What the engine says of a batch is the reply to an update or to a commit.
 use Rattle.std.proofs.Common.{◌≡◌, ℕ, List, [], ◌∷◌, Option, Some, None, Result, Ok, Err, IsTrue, sym, ap, ◌∙◌}
 use Rattle.std.specs.Prelude.{slice_set}
+use Rattle.ec_lists.specs.declared.no_memory.NoMemory.{NoMemory}
 use Rattle.ec_terms.specs.declared.theory.Theory.{Theory}
 use Rattle.ec_axioms.specs.declared.event.Cut.{Cut}
 use Rattle.ec_axioms.specs.declared.event.Seen.{Seen}
@@ -52,12 +53,12 @@ module _ (theory : Theory) (state : State) where
       ∙ ap (λ (events : List PlainEvent). answering prefix (refused_update cut) (state_of events state.last state)) (sym refused.1)
 
   -- memory may run out for it
-  pub may_want-one : (update : PlainUpdate) (after : List PlainEvent) → IsRevised theory state.events (update ∷ []) (Err Memory) after → IsTrue (may_want_by (updated theory state.events update))
+  pub may_want-one : (update : PlainUpdate) (after : List PlainEvent) (none : NoMemory) → IsRevised theory state.events (update ∷ []) (Err (Memory none)) after → IsTrue (may_want_by (updated theory state.events update))
   unfolding batch_may_want_memory
-  may_want-one update after wanting = wanting.0
+  may_want-one update after none wanting = wanting.0
 
-  pub state-kept : (updates : List PlainUpdate) (after : List PlainEvent) → IsRevised theory state.events updates (Err Memory) after → state_of after state.last state ≡ state
-  state-kept updates after wanting = ap (λ (events : List PlainEvent). state_of events state.last state) wanting.1
+  pub state-kept : (updates : List PlainUpdate) (after : List PlainEvent) (none : NoMemory) → IsRevised theory state.events updates (Err (Memory none)) after → state_of after state.last state ≡ state
+  state-kept updates after none wanting = ap (λ (events : List PlainEvent). state_of events state.last state) wanting.1
 
   -- ---- a commit
 

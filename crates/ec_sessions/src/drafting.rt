@@ -67,7 +67,7 @@ impl<T: Moment, M: MarkRow<T>, I: SpanRow<T>, X: TimeRow<T>> Sessions<T, M, I, X
                 Answer::Ok
             }
             Err(Refusal::Update { place, cut }) => Answer::Commit(place, cut),
-            Err(Refusal::Memory) => Answer::Memory,
+            Err(Refusal::Memory(none)) => Answer::Memory(none),
         }
     }
 }

@@ -51,7 +51,7 @@ impl<T: Moment, M: MarkRow<T>, I: SpanRow<T>, X: TimeRow<T>> Sessions<T, M, I, X
             Room::Closed => self.assert_at_once(id, at, event, steps),
             Room::Open => match made(self.alloc, id, at, event) {
                 Ok(event) => self.hold(session, Update::Assert(event)),
-                Err(_) => Answer::Memory,
+                Err(none) => Answer::Memory(none),
             },
             Room::Full => Answer::FullDraft,
         }
@@ -87,7 +87,7 @@ impl<T: Moment, M: MarkRow<T>, I: SpanRow<T>, X: TimeRow<T>> Sessions<T, M, I, X
     {
         match self.drafts.push(session, update) {
             Ok(count) => Answer::Drafted(count),
-            Err(_) => Answer::Memory,
+            Err(none) => Answer::Memory(none),
         }
     }
 
@@ -135,7 +135,7 @@ fn answer_revised(last: &mut Seen, revised: Result<Seen, Refusal>) -> Answer
             Answer::Ok
         }
         Err(Refusal::Update { place: _, cut }) => Answer::Update(cut),
-        Err(Refusal::Memory) => Answer::Memory,
+        Err(Refusal::Memory(none)) => Answer::Memory(none),
     }
 }
 

@@ -31,8 +31,8 @@ forget_idle-requires g c =
           (c.enter.ensures.both hist hist c.args.tally.now few c.requires.stand.both);
     }
 
-pub returns-in_default-clause-let_in : goal.returns-in_default-clause-let_in
-returns-in_default-clause-let_in g c =
+pub returns-in-Err-clause-let_in : goal.returns-in-Err-clause-let_in
+returns-in-Err-clause-let_in g c =
     let rank = g.T.Moment.rank in
     let theory = c.args.parts.now.checked in
     let hist = history_of rank c.args.parts.now.store.events in
@@ -72,8 +72,8 @@ take_in-requires g c =
       };
     }
 
-pub forget_idle-requires-in-Err : goal.forget_idle-requires-in-Err
-forget_idle-requires-in-Err g c =
+pub forget_idle-requires-in-Err-take_in : goal.forget_idle-requires-in-Err-take_in
+forget_idle-requires-in-Err-take_in g c =
     let rank = g.T.Moment.rank in
     let theory = c.args.parts.now.checked in
     let hist = history_of rank c.args.parts.now.store.events in
@@ -96,11 +96,11 @@ forget_idle-requires-in-Err g c =
     record {
       events = hist;
       tally = tally;
-      both = subst (λ t. StandForBoth rank t hist hist (view_of last) tally) (sym theories) (c.in-Err.ensures.limits hist hist e comes).1;
+      both = subst (λ t. StandForBoth rank t hist hist (view_of last) tally) (sym theories) (c.in-Err-take_in.ensures.limits hist hist e comes).1;
     }
 
-pub returns-in-Err-clause-let_in : goal.returns-in-Err-clause-let_in
-returns-in-Err-clause-let_in g c =
+pub returns-in-Err-take_in-clause-let_in : goal.returns-in-Err-take_in-clause-let_in
+returns-in-Err-take_in-clause-let_in g c =
     let rank = g.T.Moment.rank in
     let theory = c.args.parts.now.checked in
     let hist = history_of rank c.args.parts.now.store.events in
@@ -120,14 +120,14 @@ returns-in-Err-clause-let_in g c =
     let listed = listed_terms theory hist mid.props last.props (λ id. has_number id c.enter.new.fresh.items) c.take_in.ensures.terms
     (listed_entered theory hist c.args.parts.now.props mid.props (λ id. has_number id c.enter.new.fresh.items) c.requires.stand.only_live c.enter.ensures.before c.enter.ensures.fresh) in
     let theories : last.checked ≡ mid.checked = ap (λ (p : Parts _ _ _ _). p.checked) c.take_in.ensures.rest in
-    let refused = c.in-Err.ensures.limits hist hist e comes in
-    let listed_there : AreLiveOrListed last.checked hist last.props (λ id. has_number id c.as_slice-in-Err.result.now) =
-    subst (λ ids. AreLiveOrListed last.checked hist last.props (λ id. has_number id ids)) (sym c.as_slice-in-Err.ensures.value)
+    let refused = c.in-Err-take_in.ensures.limits hist hist e comes in
+    let listed_there : AreLiveOrListed last.checked hist last.props (λ id. has_number id c.as_slice-in-Err-take_in.result.now) =
+    subst (λ ids. AreLiveOrListed last.checked hist last.props (λ id. has_number id ids)) (sym c.as_slice-in-Err-take_in.ensures.value)
     (AreLiveOrListed-moved theory last.checked hist last.props last.props _ (theories ∙ c.enter.ensures.theory) refl listed) in (
-      refused_alone theory hist c.in-Err.cut e
-          (asked_limits theory hist e c.requires.absent c.requires.room ∙ subst (λ t. with_few_mentions t (with_event e hist) ≡ Err c.in-Err.cut) c.enter.ensures.theory refused.0),
-      subst (λ t. StandFor rank t hist (view_of c.forget_idle-in-Err.new.parts) tally) (theories ∙ c.enter.ensures.theory)
-          (c.forget_idle-in-Err.ensures.stands hist tally (subst (λ t. StandForBoth rank t hist hist (view_of last) tally) (sym theories) refused.1) listed_there),
+      refused_alone theory hist c.in-Err-take_in.cut e
+          (asked_limits theory hist e c.requires.absent c.requires.room ∙ subst (λ t. with_few_mentions t (with_event e hist) ≡ Err c.in-Err-take_in.cut) c.enter.ensures.theory refused.0),
+      subst (λ t. StandFor rank t hist (view_of c.forget_idle-in-Err-take_in.new.parts) tally) (theories ∙ c.enter.ensures.theory)
+          (c.forget_idle-in-Err-take_in.ensures.stands hist tally (subst (λ t. StandForBoth rank t hist hist (view_of last) tally) (sym theories) refused.1) listed_there),
     )
 
 pub returns-clause-let_in : goal.returns-clause-let_in
@@ -150,7 +150,7 @@ returns-clause-let_in g c =
     } in
     let listed = listed_terms theory hist mid.props last.props (λ id. has_number id c.enter.new.fresh.items) c.take_in.ensures.terms
     (listed_entered theory hist c.args.parts.now.props mid.props (λ id. has_number id c.enter.new.fresh.items) c.requires.stand.only_live c.enter.ensures.before c.enter.ensures.fresh) in
-    let taken = c.in_default-take_in.ensures.limits hist hist e comes in
+    let taken = c.in_default.ensures.limits hist hist e comes in
     record {
       both = subst (λ t. StandForBoth rank t hist (with_event e hist) (view_of last) tally) c.enter.ensures.theory taken.1;
       few = subst (λ t. with_few_mentions t (with_event e hist) ≡ Ok (with_event e hist)) c.enter.ensures.theory taken.0;
@@ -158,8 +158,8 @@ returns-clause-let_in g c =
       listed = listed;
     }
 
-pub returns-in-Err-clause-theory : goal.returns-in-Err-clause-theory
-returns-in-Err-clause-theory g c = c.forget_idle-in-Err.ensures.theory ∙ ap (λ (p : Parts _ _ _ _). p.checked) c.take_in.ensures.rest ∙ c.enter.ensures.theory
+pub returns-in-Err-take_in-clause-theory : goal.returns-in-Err-take_in-clause-theory
+returns-in-Err-take_in-clause-theory g c = c.forget_idle-in-Err-take_in.ensures.theory ∙ ap (λ (p : Parts _ _ _ _). p.checked) c.take_in.ensures.rest ∙ c.enter.ensures.theory
 
 pub returns-clause-theory : goal.returns-clause-theory
 returns-clause-theory g c = ap (λ (p : Parts _ _ _ _). p.checked) c.take_in.ensures.rest ∙ c.enter.ensures.theory
@@ -167,5 +167,5 @@ returns-clause-theory g c = ap (λ (p : Parts _ _ _ _). p.checked) c.take_in.ens
 pub returns-clause-store : goal.returns-clause-store
 returns-clause-store g c = ap (λ (p : Parts _ _ _ _). p.store) c.take_in.ensures.rest ∙ c.enter.ensures.events
 
-pub returns-in_default-clause-theory : goal.returns-in_default-clause-theory
-returns-in_default-clause-theory g c = c.forget_idle.ensures.theory ∙ c.enter.ensures.theory
+pub returns-in-Err-clause-theory : goal.returns-in-Err-clause-theory
+returns-in-Err-clause-theory g c = c.forget_idle.ensures.theory ∙ c.enter.ensures.theory

@@ -30,8 +30,8 @@ returns-then-len-ge-MOST_EVENTS-clause-arrived g c =
     let full : most_events ≤ length hist = subst (λ n. most_events ≤ n) count c.if-len-ge-MOST_EVENTS.true in
     (refused_alone c.args.parts.now.checked hist FullEvents e (refused_full c.args.parts.now.checked hist e absent full), c.requires.stand)
 
-pub returns-in_default-clause-arrived : goal.returns-in_default-clause-arrived
-returns-in_default-clause-arrived g c =
+pub returns-in-Err-clause-arrived : goal.returns-in-Err-clause-arrived
+returns-in-Err-clause-arrived g c =
     let rank = g.T.Moment.rank in
     let hist = history_of rank c.args.parts.now.store.events in
     let e : PlainEvent = record { id = c.args.id; rank = rank c.args.at; term = ground_of c.args.event.now } in

@@ -9,16 +9,8 @@ use Rattle.ec_batch.proofs.WalkSteps.{asked_limits, may_want-asserted}
 use Rattle.ec_engine.proofs.Arrivals.{LeadsTo-arrived}
 use Rattle.ec_engine.proofs.arriving.arrive_new.Goals as goal
 
-pub returns-in_default-clause-arrived : goal.returns-in_default-clause-arrived
-returns-in_default-clause-arrived g c =
-    let rank = g.T.Moment.rank in
-    let theory = c.args.parts.now.checked in
-    let hist = history_of rank c.args.parts.now.store.events in
-    let e = event_of rank c.args.event in
-    (may_want_alone theory hist e (may_want-asserted theory hist e c.requires.absent c.requires.room), c.requires.stand)
-
-pub returns-in_default-with_capacity-clause-arrived : goal.returns-in_default-with_capacity-clause-arrived
-returns-in_default-with_capacity-clause-arrived g c =
+pub returns-in-Err-clause-arrived : goal.returns-in-Err-clause-arrived
+returns-in-Err-clause-arrived g c =
     let rank = g.T.Moment.rank in
     let theory = c.args.parts.now.checked in
     let hist = history_of rank c.args.parts.now.store.events in

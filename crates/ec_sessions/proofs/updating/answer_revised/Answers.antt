@@ -27,4 +27,4 @@ pub returns-in-Err-Memory-clause-reply : goal.returns-in-Err-Memory-clause-reply
 returns-in-Err-Memory-clause-reply c theory state update after same revised =
     let wanting = subst (λ (r : Refusal). IsRevised theory state.events (update ∷ []) (Err r) after) c.in-Err-Memory.field-0-is
     (subst (λ (r : Result Seen Refusal). IsRevised theory state.events (update ∷ []) r after) c.in-Err-Memory.is revised) in
-    inr (may_want-one theory state update after wanting, refl, ap (λ (last : Seen). state_of after last state) (sym same) ∙ state-kept theory state (update ∷ []) after wanting)
+    inr (may_want-one theory state update after c.in-Err-Memory.none wanting, refl, ap (λ (last : Seen). state_of after last state) (sym same) ∙ state-kept theory state (update ∷ []) after c.in-Err-Memory.none wanting)

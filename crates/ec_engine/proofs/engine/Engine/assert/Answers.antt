@@ -51,8 +51,8 @@ carry_change-carried-requires-clause-leads g c =
     let leads = LeadsTo-moved rank inside.checked later.checked (view_of later) c.arrive-arrived.new.tally c.in-Ok.arrival.change c.in-Ok.arrival.fresh.items c.as_slice.result.now [] soon c.arrive-arrived.ensures.theory c.as_slice.ensures.value came.1 in
     record { soon = soon; to = leads }
 
-pub invariant_of-self-in_default : goal.invariant_of-self-in_default
-invariant_of-self-in_default g c =
+pub invariant_of-self-in-Err-carried : goal.invariant_of-self-in-Err-carried
+invariant_of-self-in-Err-carried g c =
     let rank = g.T.Moment.rank in
     let inside = c.deref_mut-parts.result.now in
     let later = c.arrive-arrived.new.parts in
@@ -64,14 +64,14 @@ invariant_of-self-in_default g c =
     let stored = ap (λ s. s.events) c.in-Ok.ensures.store in
     let came = c.in-Ok.ensures.arrived in
     let leads = LeadsTo-moved rank inside.checked later.checked (view_of later) c.arrive-arrived.new.tally c.in-Ok.arrival.change c.in-Ok.arrival.fresh.items c.as_slice.result.now [] soon c.arrive-arrived.ensures.theory c.as_slice.ensures.value came.1 in
-    let carried = IsCarriedOut-moved rank inside.checked later.checked inside.store.events later.store.events soon (view_of last) counted (Err c.in_default.field-0) c.arrive-arrived.ensures.theory stored
-    (c.in_default.ensures.carried soon leads) in
+    let carried = IsCarriedOut-moved rank inside.checked later.checked inside.store.events later.store.events soon (view_of last) counted (Err c.in-Err-carried.none) c.arrive-arrived.ensures.theory stored
+    (c.in-Err-carried.ensures.carried soon leads) in
     let theories = c.carry_change-carried.ensures.theory ∙ c.arrive-arrived.ensures.theory in
     IsEngine-standing rank last.checked hist (view_of last) counted (subst (λ t. StandFor rank t hist (view_of last) counted) (sym theories) carried)
     (subst (λ t. IsWithinLimits t hist) (sym theories) (within-same rank c.deref_mut-parts.result.now c.self.inside.parts.value c.deref_mut-parts.ensures.value c.self.invariant.within))
 
-pub returns-in_default-clause-revised : goal.returns-in_default-clause-revised
-returns-in_default-clause-revised g c =
+pub returns-in-Err-carried-clause-revised : goal.returns-in-Err-carried-clause-revised
+returns-in-Err-carried-clause-revised g c =
     let rank = g.T.Moment.rank in
     let inside = c.deref_mut-parts.result.now in
     let later = c.arrive-arrived.new.parts in
@@ -83,13 +83,13 @@ returns-in_default-clause-revised g c =
     let stored = ap (λ s. s.events) c.in-Ok.ensures.store in
     let came = c.in-Ok.ensures.arrived in
     let leads = LeadsTo-moved rank inside.checked later.checked (view_of later) c.arrive-arrived.new.tally c.in-Ok.arrival.change c.in-Ok.arrival.fresh.items c.as_slice.result.now [] soon c.arrive-arrived.ensures.theory c.as_slice.ensures.value came.1 in
-    let carried = IsCarriedOut-moved rank inside.checked later.checked inside.store.events later.store.events soon (view_of last) counted (Err c.in_default.field-0) c.arrive-arrived.ensures.theory stored
-    (c.in_default.ensures.carried soon leads) in
-    subst (λ (s : Standing). IsRevised s.theory s.events (asserting e ∷ []) (Err Memory) (history_of rank last.store.events)) (seen-same rank c.deref_mut-parts.result.now c.self.inside.parts.value c.args.self.now c.deref_mut-parts.ensures.value c.self.view_is)
-    (IsRevised-no_memory rank inside.checked hist soon (asserting e ∷ []) (view_of last) counted came.0 (omega arith) c.in_default.field-0 carried)
+    let carried = IsCarriedOut-moved rank inside.checked later.checked inside.store.events later.store.events soon (view_of last) counted (Err c.in-Err-carried.none) c.arrive-arrived.ensures.theory stored
+    (c.in-Err-carried.ensures.carried soon leads) in
+    subst (λ (s : Standing). IsRevised s.theory s.events (asserting e ∷ []) (Err (Memory c.in-Err-carried.none)) (history_of rank last.store.events)) (seen-same rank c.deref_mut-parts.result.now c.self.inside.parts.value c.args.self.now c.deref_mut-parts.ensures.value c.self.view_is)
+    (IsRevised-no_memory rank inside.checked hist soon (asserting e ∷ []) (view_of last) counted came.0 (omega arith) c.in-Err-carried.none carried)
 
-pub returns-in_default-clause-steps : goal.returns-in_default-clause-steps
-returns-in_default-clause-steps g c =
+pub returns-in-Err-carried-clause-steps : goal.returns-in-Err-carried-clause-steps
+returns-in-Err-carried-clause-steps g c =
     let rank = g.T.Moment.rank in
     let inside = c.deref_mut-parts.result.now in
     let later = c.arrive-arrived.new.parts in

@@ -6,5 +6,5 @@ use Rattle.ec_engine.specs.Revise.{IsRevised, most_steps}
 use Rattle.ec_engine.proofs.Retractions.{may_want-present}
 use Rattle.ec_engine.proofs.engine.Engine.retract_present.Goals as goal
 
-pub returns-in_default-clause-revised : goal.returns-in_default-clause-revised
-returns-in_default-clause-revised g c = (may_want-present c.args.self.now.theory c.args.self.now.events c.args.id c.requires.present, refl)
+pub returns-in-Err-clause-revised : goal.returns-in-Err-clause-revised
+returns-in-Err-clause-revised g c = (may_want-present c.args.self.now.theory c.args.self.now.events c.args.id c.requires.present, refl)

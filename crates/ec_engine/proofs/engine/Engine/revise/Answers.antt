@@ -60,8 +60,8 @@ carry_out-requires-clause-walked g c =
       to = HasWalkedTo-moved rank inside.checked later.checked inside.store.events later.store.events went.0 (view_of later) c.attempt.new.tally c.in-Ok.walk c.in-Ok.ensures.theory (ap (λ s. s.events) c.in-Ok.ensures.store) went.2;
     }
 
-pub invariant_of-self-in_default : goal.invariant_of-self-in_default
-invariant_of-self-in_default g c =
+pub invariant_of-self-in-Err-carry_out : goal.invariant_of-self-in-Err-carry_out
+invariant_of-self-in-Err-carry_out g c =
     let rank = g.T.Moment.rank in
     let inside = c.deref_mut-parts.result.now in
     let later = c.attempt.new.parts in
@@ -72,14 +72,14 @@ invariant_of-self-in_default g c =
     let stored = ap (λ s. s.events) c.in-Ok.ensures.store in
     let went = goes_ok (updated_by inside.checked hist updates) (λ after. HasWalkedTo rank inside.checked inside.store.events after (view_of later) c.attempt.new.tally c.in-Ok.walk) c.in-Ok.ensures.goes in
     let walked = HasWalkedTo-moved rank inside.checked later.checked inside.store.events later.store.events went.0 (view_of later) c.attempt.new.tally c.in-Ok.walk c.in-Ok.ensures.theory stored went.2 in
-    let carried = IsCarriedOut-moved rank inside.checked later.checked inside.store.events later.store.events went.0 (view_of last) counted (Err c.in_default.field-0) c.in-Ok.ensures.theory stored
-    (c.in_default.ensures.carried went.0 walked) in
+    let carried = IsCarriedOut-moved rank inside.checked later.checked inside.store.events later.store.events went.0 (view_of last) counted (Err c.in-Err-carry_out.none) c.in-Ok.ensures.theory stored
+    (c.in-Err-carry_out.ensures.carried went.0 walked) in
     let theories = c.carry_out.ensures.theory ∙ c.in-Ok.ensures.theory in
     IsEngine-standing rank last.checked hist (view_of last) counted (subst (λ t. StandFor rank t hist (view_of last) counted) (sym theories) carried)
     (subst (λ t. IsWithinLimits t hist) (sym theories) (within-same rank c.deref_mut-parts.result.now c.self.inside.parts.value c.deref_mut-parts.ensures.value c.self.invariant.within))
 
-pub returns-in_default-clause-revised : goal.returns-in_default-clause-revised
-returns-in_default-clause-revised g c =
+pub returns-in-Err-carry_out-clause-revised : goal.returns-in-Err-carry_out-clause-revised
+returns-in-Err-carry_out-clause-revised g c =
     let rank = g.T.Moment.rank in
     let inside = c.deref_mut-parts.result.now in
     let later = c.attempt.new.parts in
@@ -90,13 +90,13 @@ returns-in_default-clause-revised g c =
     let stored = ap (λ s. s.events) c.in-Ok.ensures.store in
     let went = goes_ok (updated_by inside.checked hist updates) (λ after. HasWalkedTo rank inside.checked inside.store.events after (view_of later) c.attempt.new.tally c.in-Ok.walk) c.in-Ok.ensures.goes in
     let walked = HasWalkedTo-moved rank inside.checked later.checked inside.store.events later.store.events went.0 (view_of later) c.attempt.new.tally c.in-Ok.walk c.in-Ok.ensures.theory stored went.2 in
-    let carried = IsCarriedOut-moved rank inside.checked later.checked inside.store.events later.store.events went.0 (view_of last) counted (Err c.in_default.field-0) c.in-Ok.ensures.theory stored
-    (c.in_default.ensures.carried went.0 walked) in
-    subst (λ (s : Standing). IsRevised s.theory s.events updates (Err Memory) (history_of rank last.store.events)) (seen-same rank c.deref_mut-parts.result.now c.self.inside.parts.value c.args.self.now c.deref_mut-parts.ensures.value c.self.view_is)
-    (IsRevised-no_memory rank inside.checked hist went.0 updates (view_of last) counted went.1 (updates-some (plain_update rank) c.args.batch.now c.is_empty.result c.is_empty.ensures c.if-is_empty.false) c.in_default.field-0 carried)
+    let carried = IsCarriedOut-moved rank inside.checked later.checked inside.store.events later.store.events went.0 (view_of last) counted (Err c.in-Err-carry_out.none) c.in-Ok.ensures.theory stored
+    (c.in-Err-carry_out.ensures.carried went.0 walked) in
+    subst (λ (s : Standing). IsRevised s.theory s.events updates (Err (Memory c.in-Err-carry_out.none)) (history_of rank last.store.events)) (seen-same rank c.deref_mut-parts.result.now c.self.inside.parts.value c.args.self.now c.deref_mut-parts.ensures.value c.self.view_is)
+    (IsRevised-no_memory rank inside.checked hist went.0 updates (view_of last) counted went.1 (updates-some (plain_update rank) c.args.batch.now c.is_empty.result c.is_empty.ensures c.if-is_empty.false) c.in-Err-carry_out.none carried)
 
-pub returns-in_default-clause-steps : goal.returns-in_default-clause-steps
-returns-in_default-clause-steps g c =
+pub returns-in-Err-carry_out-clause-steps : goal.returns-in-Err-carry_out-clause-steps
+returns-in-Err-carry_out-clause-steps g c =
     let rank = g.T.Moment.rank in
     let inside = c.deref_mut-parts.result.now in
     let later = c.attempt.new.parts in

@@ -48,7 +48,7 @@ returns-in-Err-Memory-clause-reply g c =
     let after : State = record { events = c.revise.new.self.events; last = c.self.inside.last; drafts = c.self.inside.drafts } in
     let wanting = subst (λ (r : Refusal). IsRevised theory inside.events held (Err r) after.events) c.in-Err-Memory.field-0-is c.in-Err-Memory.ensures.revised in
     subst (λ (d : SessionsState). IsAnswerBy (λ prefix. reply_to_commit d.theory prefix c.args.session d.state) (commit_may_want_memory d.theory c.args.session d.state) d.state refused_memory after) c.self.view_is
-    (inr (commit_may_want_memory-open c.args.session inside theory held c.in-Some.ensures.open ∙ wanting.0, refl, state-kept theory inside held c.revise.new.self.events wanting))
+    (inr (commit_may_want_memory-open c.args.session inside theory held c.in-Some.ensures.open ∙ wanting.0, refl, state-kept theory inside held c.revise.new.self.events c.in-Err-Memory.none wanting))
 
 pub returns-in-Ok-clause-steps : goal.returns-in-Ok-clause-steps
 returns-in-Ok-clause-steps g c =
