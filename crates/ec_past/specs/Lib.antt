@@ -1,0 +1,4 @@
+pub mod Records
+pub mod Logged
+pub mod Journals
+pub mod Chronicles
