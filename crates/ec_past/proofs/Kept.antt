@@ -78,7 +78,7 @@ module _ (theory : Theory) (before after : List PlainEvent) (updates : List Plai
       → IsRevised theory before updates made after → IsChronicle theory after (journal_after records made journal).kept
   IsChronicle-after (Ok seen) chronicle recorded revised = IsChronicle-accepted theory before after updates records journal.kept chronicle (recorded after revised.0) revised.0
   IsChronicle-after (Err (Update place cut)) chronicle recorded revised = subst (λ (es : List PlainEvent). IsChronicle theory es journal.kept) (sym revised.1) chronicle
-  IsChronicle-after (Err Memory) chronicle recorded revised = subst (λ (es : List PlainEvent). IsChronicle theory es journal.kept) (sym revised.1) chronicle
+  IsChronicle-after (Err (Memory none)) chronicle recorded revised = subst (λ (es : List PlainEvent). IsChronicle theory es journal.kept) (sym revised.1) chronicle
 
   -- and its past has the update, if it was accepted
   IsPastAfter-made : (made : Result Seen Refusal) → IsChronicle theory before journal.kept → ((later : List PlainEvent) → updated_by theory before updates ≡ Ok later → AreRecordsOf theory before updates records)
@@ -90,7 +90,7 @@ module _ (theory : Theory) (before after : List PlainEvent) (updates : List Plai
       latest : List Accepted → Past
       latest kept = record { count = journal.count + 1; kept = kept }
   IsPastAfter-made (Err (Update place cut)) chronicle recorded revised = ap (λ es. past_of es journal) revised.1
-  IsPastAfter-made (Err Memory) chronicle recorded revised = ap (λ es. past_of es journal) revised.1
+  IsPastAfter-made (Err (Memory none)) chronicle recorded revised = ap (λ es. past_of es journal) revised.1
 
 -- the same of the journal and the theory that are there then
 pub IsChronicle-settled : (theory later : Theory) (before after : List PlainEvent) (updates : List PlainUpdate) (records : List PlainRecord) (journal settled : PlainJournal) (made : Result Seen Refusal)
@@ -122,7 +122,7 @@ pub IsCommitted-revised : (theory : Theory) (before after : List PlainEvent) (up
     → IsCommitted theory before updates made after
 IsCommitted-revised theory before after updates (Ok seen) revised = revised
 IsCommitted-revised theory before after updates (Err (Update place cut)) revised = revised
-IsCommitted-revised theory before after updates (Err Memory) revised = (or_right (eqb (length updates) 0) (batch_may_want_memory theory before updates) revised.0, revised.1)
+IsCommitted-revised theory before after updates (Err (Memory none)) revised = (or_right (eqb (length updates) 0) (batch_may_want_memory theory before updates) revised.0, revised.1)
 
 -- a batch is refused as its first update is
 pub IsCommitted-first : {T : Type 0} (rank : T → ℤ) (theory : Theory) (events : List PlainEvent) (batch : List (Asked T)) (first : Asked T) (refusal : Refusal) → Some first ≡ slice_get batch 0

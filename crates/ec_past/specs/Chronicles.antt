@@ -39,4 +39,4 @@ IsPastAfter weight before past (Err refusal) after = after ≡ past
 abbrev pub IsCommitted : Theory → List PlainEvent → List PlainUpdate → Result Seen Refusal → List PlainEvent → Type 0
 IsCommitted theory before updates (Ok seen) after = IsRevised theory before updates (Ok seen) after
 IsCommitted theory before updates (Err (Update place cut)) after = IsRevised theory before updates (Err (Update place cut)) after
-IsCommitted theory before updates (Err Memory) after = IsTrue (length updates == 0 || batch_may_want_memory theory before updates) × (after ≡ before)
+IsCommitted theory before updates (Err (Memory none)) after = IsTrue (length updates == 0 || batch_may_want_memory theory before updates) × (after ≡ before)

@@ -104,8 +104,9 @@ impl<T: Moment, M: MarkRow<T>, I: SpanRow<T>, X: TimeRow<T>> Chronicle<T, M, I, 
         ensures past { IsPastAfter 1 self.old.events self.old.past result self.new.past }
         ensures steps { steps.new ≤ steps.old + most_steps self.old.theory self.old.events (asserting (record { id = id; rank = T.rank at; term = ground_of event.now }) ∷ []) }
     {
-        let Ok(records) = record_added(self.alloc, &self.journal, &id, at, event) else {
-            return Err(refused_arrival(&self.engine, id));
+        let records = match record_added(self.alloc, &self.journal, &id, at, event) {
+            Ok(records) => records,
+            Err(none) => return Err(refused_arrival(&self.engine, id, none)),
         };
         let made = self.engine.assert(id, at, event, steps);
         settle_made(&mut self.journal, records, &made);
@@ -120,8 +121,9 @@ impl<T: Moment, M: MarkRow<T>, I: SpanRow<T>, X: TimeRow<T>> Chronicle<T, M, I, 
         ensures past { IsPastAfter 1 self.old.events self.old.past result self.new.past }
         ensures steps { steps.new ≤ steps.old + most_steps self.old.theory self.old.events (retracting id ∷ []) + 1 }
     {
-        let Ok(mut batch) = Vec::with_capacity(self.alloc, 1) else {
-            return Err(refused_departure(self.engine(), id));
+        let mut batch = match Vec::with_capacity(self.alloc, 1) {
+            Ok(batch) => batch,
+            Err(error) => return Err(refused_departure(self.engine(), id, NoMemory::from(error))),
         };
         batch.push_reserved(Update::Retract(id));
         self.commit(batch.as_slice(), steps)
@@ -141,9 +143,9 @@ impl<T: Moment, M: MarkRow<T>, I: SpanRow<T>, X: TimeRow<T>> Chronicle<T, M, I, 
         ensures past { IsPastAfter (commit_weight (map (plain_update T.rank) batch.now)) self.old.events self.old.past result self.new.past }
         ensures steps { steps.new ≤ steps.old + most_steps self.old.theory self.old.events (map (plain_update T.rank) batch.now) + length batch.now }
     {
-        let Ok(records) = records_before(self.alloc, &self.journal, &self.engine, batch, steps)
-        else {
-            return Err(refused_batch(&self.engine, batch));
+        let records = match records_before(self.alloc, &self.journal, &self.engine, batch, steps) {
+            Ok(records) => records,
+            Err(none) => return Err(refused_batch(&self.engine, batch, none)),
         };
         let made = self.engine.revise(batch, steps);
         settle_made(&mut self.journal, records, &made);

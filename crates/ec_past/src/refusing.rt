@@ -10,6 +10,7 @@ ghost use Rattle.ec_past.specs.Chronicles.{IsCommitted};
 
 use ec_axioms::{Cut, MOST_EVENTS, Update};
 use ec_engine::{Engine, Refusal};
+use ec_lists::NoMemory;
 use ec_moment::Moment;
 use ec_rows::{MarkRow, SpanRow, TimeRow};
 use ec_store::EventStore;
@@ -31,6 +32,7 @@ pub(crate) fn store_of<T: Moment, M: MarkRow<T>, I: SpanRow<T>, X: TimeRow<T>>(
 pub(crate) fn refused_arrival<T: Moment, M: MarkRow<T>, I: SpanRow<T>, X: TimeRow<T>>(
     engine: &Engine<T, M, I, X>,
     id: Name,
+    none: NoMemory,
 ) -> Refusal
     ensures { (event : PlainEvent) (rest : List PlainUpdate) → event.id ≡ id → IsRevised engine.now.theory engine.now.events (asserting event ∷ rest) (Err result) engine.now.events }
 {
@@ -43,18 +45,19 @@ pub(crate) fn refused_arrival<T: Moment, M: MarkRow<T>, I: SpanRow<T>, X: TimeRo
         let cut = Cut::FullEvents;
         return Refusal::Update { place: 1, cut };
     }
-    Refusal::Memory
+    Refusal::Memory(none)
 }
 
 /// Why updates that begin by retracting an identity are refused where memory is wanting.
 pub(crate) fn refused_departure<T: Moment, M: MarkRow<T>, I: SpanRow<T>, X: TimeRow<T>>(
     engine: &Engine<T, M, I, X>,
     id: Name,
+    none: NoMemory,
 ) -> Refusal
     ensures { (rest : List PlainUpdate) → IsRevised engine.now.theory engine.now.events (retracting id ∷ rest) (Err result) engine.now.events }
 {
     if store_of(engine).find(&id).is_some() {
-        Refusal::Memory
+        Refusal::Memory(none)
     } else {
         let cut = Cut::Unknown(id);
         Refusal::Update { place: 1, cut }
@@ -65,12 +68,13 @@ pub(crate) fn refused_departure<T: Moment, M: MarkRow<T>, I: SpanRow<T>, X: Time
 pub(crate) fn refused_batch<T: Moment, M: MarkRow<T>, I: SpanRow<T>, X: TimeRow<T>>(
     engine: &Engine<T, M, I, X>,
     batch: &[Update<T>],
+    none: NoMemory,
 ) -> Refusal
     ensures { IsCommitted engine.now.theory engine.now.events (map (plain_update T.rank) batch.now) (Err result) engine.now.events }
 {
     match batch.first() {
-        Some(Update::Assert(event)) => refused_arrival(engine, event.id.copied()),
-        Some(Update::Retract(id)) => refused_departure(engine, id.copied()),
-        None => Refusal::Memory,
+        Some(Update::Assert(event)) => refused_arrival(engine, event.id.copied(), none),
+        Some(Update::Retract(id)) => refused_departure(engine, id.copied(), none),
+        None => Refusal::Memory(none),
     }
 }
