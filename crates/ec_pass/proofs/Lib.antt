@@ -5,3 +5,8 @@ mod EffectLemmas
 mod EntryNumbers
 mod SettledTerms
 mod TakenIn
+mod BeginningLemmas
+mod HoldingLemmas
+mod Knowing
+mod PassingLemmas
+mod Earlier

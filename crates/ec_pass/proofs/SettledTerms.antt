@@ -68,7 +68,7 @@ module _ (theory : Theory) (events done : List PlainEvent) (s : ℤ) (present : 
   joined c e x true b = grind arith
   joined c e x false b = grind arith
 
-  settled-term : (n : ℕ) (q : Ground) → term_at n table ≡ Some q → is_settled theory table present.now started present.ended.items (numbered n) ≡ current_behind q
+  settled-term : (n : ℕ) (q : Ground) → term_at n table ≡ Some q → is_settled theory table present.current started present.ended.items (numbered n) ≡ current_behind q
   unfolding has_break
   settled-term n q there =
       ap₂ (λ c e. ((c && not e) && not (excludes_any theory table started (numbered n))) || has_number n started)
@@ -77,7 +77,7 @@ module _ (theory : Theory) (events done : List PlainEvent) (s : ℤ) (present : 
       (clashes-number n q there ∙ sym (all (is_clashing theory q))) (at.started.same n q there ∙ sym (all (is_initiating q)))
       ∙ joined (current q s) (is_terminated theory events current q s) (has_effect theory events current (is_clashing theory q) s) (is_initiated theory events current q s) (is_strong theory q)
 
-  module _ (after : MemberForms) (settled : (q : PropId) → is_in q.0 after ≡ is_settled theory table present.now started present.ended.items q) where
+  module _ (after : MemberForms) (settled : (q : PropId) → is_in q.0 after ≡ is_settled theory table present.current started present.ended.items q) where
     settled-numbers : AreNumbersOf table (λ n. is_in n after) current_behind
     settled-numbers = record {
       same = λ n q there. settled (numbered n) ∙ settled-term n q there;
@@ -93,10 +93,10 @@ module _ (theory : Theory) (events done : List PlainEvent) (s : ℤ) (present : 
 
     -- the present at the next time
     pub IsAt-settled : (t : ℤ) (next : Present) → IsLastBefore events t s → list_any (λ (e : PlainEvent). int_eq e.rank t) done ≡ false → next.props ≡ table
-        → next.now ≡ after → HasForms theory next.props next.now → next.started.items ≡ [] → next.ended.items ≡ [] → IsAt theory events done t next
+        → next.current ≡ after → HasForms theory next.props next.current → next.started.items ≡ [] → next.ended.items ≡ [] → IsAt theory events done t next
     IsAt-settled t next last none props now forms no_start no_end = record {
       forms = forms;
-      current = subst (λ rows. AreNumbersOf rows (λ n. is_in n next.now) (λ q. current q t)) (sym props)
+      current = subst (λ rows. AreNumbersOf rows (λ n. is_in n next.current) (λ q. current q t)) (sym props)
           (AreNumbersOf-same (λ n. ap (is_in n) now) (λ q. is_current-last theory events q t s last) settled-numbers);
       started = AreNumbersOf-same (λ n. ap (has_number n) no_start) (λ q. has_effect-elsewhere theory done current (is_initiating q) t none) AreNumbersOf-none;
       ended = AreNumbersOf-same (λ n. ap (has_number n) no_end) (λ q. has_effect-elsewhere theory done current (is_terminating q) t none) AreNumbersOf-none;

@@ -31,7 +31,7 @@ use Rattle.ec_pass.proofs.NumberLemmas.{AreNumbersOf-or, AreNumbersOf-same, AreN
 
 module _ (theory : Theory) (events done : List PlainEvent) (e : PlainEvent) (before wider after : Present) (at : IsAt theory events done e.rank before)
     (entries : List Entry) (cone : List Bool) (bits_before bits : List ℕ)
-    (kept : KeepsAll before.props wider.props) (order : is_in_order wider.props ≡ true) (now : wider.now ≡ before.now)
+    (kept : KeepsAll before.props wider.props) (order : is_in_order wider.props ≡ true) (now : wider.current ≡ before.current)
     (started : wider.started.items ≡ before.started.items) (ended : wider.ended.items ≡ before.ended.items)
     (shown : shown_entries wider.props entries ≡ Some (entries_of theory e.term))
     (looked : HasLooked wider after cone e.rank entries bits_before bits) where
@@ -41,11 +41,11 @@ module _ (theory : Theory) (events done : List PlainEvent) (e : PlainEvent) (bef
   abbrev table : List KeptProp
   table = wider.props
 
-  current-wider : AreNumbersOf table (λ n. is_in n wider.now) (λ q. current q e.rank)
+  current-wider : AreNumbersOf table (λ n. is_in n wider.current) (λ q. current q e.rank)
   current-wider =
       AreNumbersOf-widened before.props table kept order (AreNumbersOf-same (λ n. ap (is_in n) now) (λ q. refl) at.current)
 
-  says : IsCurrencyOfTerms table (λ n _. is_in n wider.now) current e.rank
+  says : IsCurrencyOfTerms table (λ n _. is_in n wider.current) current e.rank
   says n q there = current-wider.same n q there
 
   -- one event more, by term
@@ -56,30 +56,30 @@ module _ (theory : Theory) (events done : List PlainEvent) (e : PlainEvent) (bef
 
   pub IsAt-taken : IsAt theory events (done ++ e ∷ []) e.rank after
   IsAt-taken = record {
-    forms = subst (λ rows. HasForms theory rows after.now) (sym looked.props)
-        (subst (HasForms theory table) (sym (looked.now ∙ now)) (HasForms-widened before.props table kept theory before.now at.forms));
-    current = subst (λ rows. AreNumbersOf rows (λ n. is_in n after.now) (λ q. current q e.rank)) (sym looked.props)
-        (AreNumbersOf-same (λ n. ap (is_in n) looked.now) (λ q. refl) current-wider);
+    forms = subst (λ rows. HasForms theory rows after.current) (sym looked.props)
+        (subst (HasForms theory table) (sym (looked.current ∙ now)) (HasForms-widened before.props table kept theory before.current at.forms));
+    current = subst (λ rows. AreNumbersOf rows (λ n. is_in n after.current) (λ q. current q e.rank)) (sym looked.props)
+        (AreNumbersOf-same (λ n. ap (is_in n) looked.current) (λ q. refl) current-wider);
     started = subst (λ rows. AreNumbersOf rows (λ n. has_number n after.started.items) (λ q. is_initiated theory (done ++ e ∷ []) current q e.rank)) (sym looked.props)
         (AreNumbersOf-same
-        (λ n. ap (has_number n) (looked.started ∙ ap (λ ps. ps ++ flat_map (started_by wider.now e.rank) entries) started)
-        ∙ list_any-append (λ (p : PropId). p.0 == n) before.started.items (flat_map (started_by wider.now e.rank) entries))
+        (λ n. ap (has_number n) (looked.started ∙ ap (λ ps. ps ++ flat_map (started_by wider.current e.rank) entries) started)
+        ∙ list_any-append (λ (p : PropId). p.0 == n) before.started.items (flat_map (started_by wider.current e.rank) entries))
         (λ q. more (is_initiating q))
         (AreNumbersOf-or (AreNumbersOf-widened before.props table kept order at.started)
-        (started-numbers table order wider.now current e says entries (entries_of theory e.term) shown)));
+        (started-numbers table order wider.current current e says entries (entries_of theory e.term) shown)));
     ended = subst (λ rows. AreNumbersOf rows (λ n. has_number n after.ended.items) (λ q. is_terminated theory (done ++ e ∷ []) current q e.rank)) (sym looked.props)
         (AreNumbersOf-same
-        (λ n. ap (has_number n) (looked.ended ∙ ap (λ ps. ps ++ flat_map (ended_by wider.now e.rank) entries) ended)
-        ∙ list_any-append (λ (p : PropId). p.0 == n) before.ended.items (flat_map (ended_by wider.now e.rank) entries))
+        (λ n. ap (has_number n) (looked.ended ∙ ap (λ ps. ps ++ flat_map (ended_by wider.current e.rank) entries) ended)
+        ∙ list_any-append (λ (p : PropId). p.0 == n) before.ended.items (flat_map (ended_by wider.current e.rank) entries))
         (λ q. more (is_terminating q))
         (AreNumbersOf-or (AreNumbersOf-widened before.props table kept order at.ended)
-        (ended-numbers table order wider.now current e says entries (entries_of theory e.term) shown)));
+        (ended-numbers table order wider.current current e says entries (entries_of theory e.term) shown)));
   }
 
   pub bits-taken : (p : Ground) → cone ≡ cone_rules theory p → IsMatchable theory → bits_before ≡ [] → bits ≡ map (bit_of current) (cone_effects theory p e)
   unfolding cone_effects effects_of
   bits-taken p is matchable none =
-      looked.bits ∙ ap (λ bs. bs ++ flat_map (bits_by cone wider.now e.rank) entries) none
-      ∙ bits-shown table order wider.now current e says cone (is_cone_entry theory p) entries (entries_of theory e.term) shown
+      looked.bits ∙ ap (λ bs. bs ++ flat_map (bits_by cone wider.current e.rank) entries) none
+      ∙ bits-shown table order wider.current current e says cone (is_cone_entry theory p) entries (entries_of theory e.term) shown
       (λ g member. ap (λ rules. has_rule rules g.rule) is
       ∙ ConeGoesByRules-law theory p e.term g matchable (Contains-from_member (entries_of theory e.term) g member))

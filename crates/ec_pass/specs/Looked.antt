@@ -40,7 +40,7 @@ bits_by cone now t entry = if has_number cone entry.rule then bit_for (is_active
 -- The entries were looked at: what they start and end is noted, and the bits of those in the cone are added; else all is as it was.
 pub record HasLooked (before after : Present) (cone : List Bool) (t : ℤ) (entries : List Entry) (bits_before bits_after : List ℕ) : Type 0 where
   pub props : after.props ≡ before.props
-  pub now : after.now ≡ before.now
-  pub started : after.started.items ≡ before.started.items ++ flat_map (started_by before.now t) entries
-  pub ended : after.ended.items ≡ before.ended.items ++ flat_map (ended_by before.now t) entries
-  pub bits : bits_after ≡ bits_before ++ flat_map (bits_by cone before.now t) entries
+  pub current : after.current ≡ before.current
+  pub started : after.started.items ≡ before.started.items ++ flat_map (started_by before.current t) entries
+  pub ended : after.ended.items ≡ before.ended.items ++ flat_map (ended_by before.current t) entries
+  pub bits : bits_after ≡ bits_before ++ flat_map (bits_by cone before.current t) entries

@@ -9,8 +9,12 @@
 //! it comes to the next.
 #![tactic(auto)]
 
+mod beginning;
+mod holding;
 mod label;
 mod looking;
+mod outcome;
+mod pass;
 mod present;
 mod settling;
 mod taking_in;

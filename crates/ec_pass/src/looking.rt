@@ -33,7 +33,7 @@ impl Present {
     /// Notes what an entry does, if it is active.
     fn note(&mut self, entry: &Entry, active: bool) -> Result<(), NoMemory>
         ensures props { self.new.props ≡ self.old.props }
-        ensures now { self.new.now ≡ self.old.now }
+        ensures current { self.new.current ≡ self.old.current }
         ensures started { OnOk result (self.new.started.items ≡ self.old.started.items ++ (if active then if_initiates entry.now.kind entry.now.head else [])) }
         ensures ended { OnOk result (self.new.ended.items ≡ self.old.ended.items ++ (if active then if_terminates entry.now.kind entry.now.head else [])) }
     {
@@ -59,7 +59,7 @@ impl Present {
         ensures looked { OnOk result (HasLooked self.old self.new cone.now (T.rank at) entries.now bits.old.items bits.new.items) }
     {
         for entry in entries {
-            let active = evaluate(entry, at, &self.now, steps);
+            let active = evaluate(entry, at, &self.current, steps);
             self.note(entry, active)?;
             add_bit(bits, cone, entry.rule, active)?;
         }

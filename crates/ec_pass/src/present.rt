@@ -10,7 +10,7 @@ use std::alloc::Global;
 #[derive(Drop)]
 pub(crate) struct Present {
     pub(crate) props: PropTable,
-    pub(crate) now: CurrentProps,
+    pub(crate) current: CurrentProps,
     pub(crate) started: Vec<PropId>,
     pub(crate) ended: Vec<PropId>,
     pub(crate) added: Vec<PropId>,

@@ -45,7 +45,7 @@ fn leave_exclusive(
 }
 
 /// Puts each of some properties in, unless it is there.
-fn enter_each(
+pub(crate) fn enter_each(
     now: &mut CurrentProps,
     theory: &Theory,
     props: &PropTable,
@@ -71,16 +71,26 @@ impl Present {
     pub(crate) fn settle(&mut self, theory: &Theory) -> Result<(), NoMemory>
         requires matchable { IsMatchable theory.now }
         requires kept { (n : ℕ) → IsTrue (has_number n self.old.started.items) → IsSome (prop_at n self.old.props) }
-        requires forms { HasForms theory.now self.old.props self.old.now }
-        ensures members { OnOk result ((q : PropId) → is_in q.0 self.new.now ≡ is_settled theory.now self.old.props self.old.now self.old.started.items self.old.ended.items q) }
-        ensures forms { OnOk result (HasForms theory.now self.new.props self.new.now) }
+        requires forms { HasForms theory.now self.old.props self.old.current }
+        ensures members { OnOk result ((q : PropId) → is_in q.0 self.new.current ≡ is_settled theory.now self.old.props self.old.current self.old.started.items self.old.ended.items q) }
+        ensures forms { OnOk result (HasForms theory.now self.new.props self.new.current) }
         ensures props { self.new.props ≡ self.old.props }
         ensures started { OnOk result (self.new.started.items ≡ []) }
         ensures ended { OnOk result (self.new.ended.items ≡ []) }
     {
-        leave_each(&mut self.now, self.ended.as_slice());
-        leave_exclusive(&mut self.now, theory, &self.props, self.started.as_slice())?;
-        enter_each(&mut self.now, theory, &self.props, self.started.as_slice())?;
+        leave_each(&mut self.current, self.ended.as_slice());
+        leave_exclusive(
+            &mut self.current,
+            theory,
+            &self.props,
+            self.started.as_slice(),
+        )?;
+        enter_each(
+            &mut self.current,
+            theory,
+            &self.props,
+            self.started.as_slice(),
+        )?;
         self.started.clear();
         self.ended.clear();
         Ok(())
