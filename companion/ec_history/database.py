@@ -14,7 +14,6 @@ from __future__ import annotations
 import hashlib
 import os
 import sqlite3
-import threading
 from datetime import datetime, timezone
 from typing import Iterable, Iterator, List, NamedTuple, Optional, Tuple
 
@@ -77,8 +76,6 @@ class Database:
     def __init__(self, path: str, connection: sqlite3.Connection) -> None:
         self.path = path
         self._connection = connection
-        self._using = threading.Lock()
-        self._writing = 0, ""
         self.count, self.last_told = 0, ""
         self._read_end()
 
@@ -147,44 +144,23 @@ class Database:
         Raises NotKept where the database took none of them, and DatabaseFault where it
         can't be told whether it did.
         """
-        self.write(updates, now)
-        self.sync()
-
-    def write(self, updates: Iterable[Tuple[int, str, str]], now: datetime) -> None:
-        """Writes updates; `sync` must follow, which may be in another thread.
-
-        Raises as `append` does; then no `sync` follows.
-        """
         told = max(instant_text(now), self.last_told)
         rows = [
             (number, told, session, lines, reply)
             for number, (session, lines, reply) in enumerate(updates, self.count + 1)
         ]
-        self._using.acquire()
-        self._writing = len(rows), told
+        written = 0
         try:
             self._connection.execute("BEGIN IMMEDIATE")
             self._connection.executemany(
                 "INSERT INTO updates VALUES (?, ?, ?, ?, ?)", rows
             )
+            written = len(rows)
+            self._connection.execute("COMMIT")
         except sqlite3.Error as fault:
-            try:
-                self._look_again(0, str(fault))
-            finally:
-                self._using.release()
-
-    def sync(self) -> None:
-        """Commits what was written, and syncs it to the disk; raises as `append`."""
-        added, told = self._writing
-        try:
-            try:
-                self._connection.execute("COMMIT")
-            except sqlite3.Error as fault:
-                self._look_again(added, str(fault))
-            self.count += added
-            self.last_told = told
-        finally:
-            self._using.release()
+            self._look_again(written, str(fault))
+        self.count += len(rows)
+        self.last_told = told
 
     def _look_again(self, added: int, cause: str) -> None:
         """Finds out, after a failure, whether the updates are there; if not, raises."""
@@ -233,18 +209,17 @@ class Database:
     def count_by(self, instant: datetime) -> int:
         """How many updates were accepted by an instant."""
         wanted = instant_text(instant)
-        with self._using:
-            least, most = 0, self.count
-            while least < most:  # the first `least` were told by then
-                middle = (least + most + 1) // 2
-                (told,) = self._connection.execute(
-                    "SELECT told FROM updates WHERE number = ?", (middle,)
-                ).fetchone()
-                if told <= wanted:
-                    least = middle
-                else:
-                    most = middle - 1
-            return least
+        least, most = 0, self.count
+        while least < most:  # the first `least` were told by then
+            middle = (least + most + 1) // 2
+            (told,) = self._connection.execute(
+                "SELECT told FROM updates WHERE number = ?", (middle,)
+            ).fetchone()
+            if told <= wanted:
+                least = middle
+            else:
+                most = middle - 1
+        return least
 
     def faults(self) -> List[str]:
         """What is wrong with the file, by SQLite's own check and by its numbers."""
@@ -302,7 +277,6 @@ def _connect(path: str, mode: str) -> sqlite3.Connection:
         uri=True,
         isolation_level=None,
         timeout=5,
-        check_same_thread=False,
     )
     for setting in _SETTINGS:
         connection.execute(f"PRAGMA {setting}")

@@ -1,6 +1,6 @@
 """A kept history at work: commands, each answered once its updates are kept.
 
-`ec` answers the commands of a group, which may be of several sessions; the updates that
+`ec` answers the commands of a round, which may be of several sessions; the updates that
 it accepted are written to the database in one transaction and synced; and only then are
 the answers handed on. So nobody reads what could still be lost. `ec` holds nothing that
 the database does not, but drafts and watches: where it ends, or the database refuses
@@ -12,7 +12,6 @@ from __future__ import annotations
 import os
 import re
 import tempfile
-from concurrent.futures import Future, ThreadPoolExecutor
 from datetime import datetime, timezone
 from typing import Callable, Dict, List, NamedTuple, Optional, Sequence, Set, Tuple
 from typing import Union
@@ -62,22 +61,19 @@ def _now() -> datetime:
     return datetime.now(timezone.utc)
 
 
-class Group:
-    """Commands whose updates are kept by one transaction, with their answers.
+class Round:
+    """The answers to some commands, and the updates that `ec` accepted among them.
 
-    `accepted` has the updates that `ec` accepted: session, lines and reply.
+    `accepted` has the session, the lines and the reply of each.
     """
 
-    def __init__(self, before: "Before") -> None:
-        self.before = before
-        self.requests: List[Request] = []
+    def __init__(self) -> None:
         self.answers: List[Answer] = []
         self.accepted: List[Tuple[int, str, str]] = []
-        self.committing: "Optional[Future[Optional[str]]]" = None
 
 
 class Before(NamedTuple):
-    """The drafts and watches of the sessions at some time.
+    """The drafts and watches of the sessions before a round.
 
     Held lines are only added to a draft, so how many there were is all that is noted.
     """
@@ -87,12 +83,7 @@ class Before(NamedTuple):
 
 
 class Keeper:
-    """A database and the `ec` that answers about it.
-
-    Commands are asked in groups. A group that has accepted updates is committed, in a
-    thread of its own, while the next one is asked already; `settle` then says whether
-    its answers may be handed on. `round` does all of it for one group.
-    """
+    """A database and the `ec` that answers about it."""
 
     def __init__(
         self,
@@ -113,8 +104,6 @@ class Keeper:
         self.drafts: Dict[int, List[bytes]] = {}
         self.watches: Dict[int, Set[bytes]] = {}
         self.failing = ""
-        self._groups: List[Group] = []
-        self._committer = ThreadPoolExecutor(1)
         self._folder = tempfile.TemporaryDirectory(prefix="ec-history-")
         self._theory = os.path.join(self._folder.name, "theory.ec")
         with open(self._theory, "wb") as file:
@@ -122,8 +111,7 @@ class Keeper:
         self._engine = self._started()
 
     def close(self) -> None:
-        """Ends `ec`; what is being committed is committed first."""
-        self._committer.shutdown()
+        """Ends `ec`."""
         self._engine.close()
         self._folder.cleanup()
 
@@ -155,71 +143,33 @@ class Keeper:
         return engine
 
     def round(self, requests: Sequence[Request]) -> List[Answer]:
-        """The answers to commands, in order, once their updates are kept."""
-        group = self.begin()
-        self.ask(group, requests)
-        if group.accepted:
-            self.commit(group)
-        self.settle(group)
-        return group.answers
+        """The answers to commands, in order, once their updates are kept.
 
-    def begin(self) -> Group:
-        """A new group, behind those that are not settled."""
+        Where the database does not take the updates, all of them are refused, and the
+        commands are answered as if these had not been told.
+        """
+        if self.failing:
+            self._try_again(requests)
+        before = self._before()
+        try:
+            asked = self._asked(requests)
+        except EngineEnded:
+            self._restart(before)
+            asked = self._asked(requests)
+        if asked.accepted:
+            try:
+                self.database.append(asked.accepted, self.now())
+            except NotKept as fault:
+                self.failing = fault.cause
+                self._restart(before)
+                asked = self._asked(requests)
+        return asked.answers
+
+    def _before(self) -> Before:
+        """The drafts and watches as they are now."""
         drafts = {s: (held, len(held)) for s, held in self.drafts.items()}
         watches = {s: set(terms) for s, terms in self.watches.items() if terms}
-        self._groups.append(Group(Before(drafts, watches)))
-        return self._groups[-1]
-
-    def ask(self, group: Group, requests: Sequence[Request]) -> None:
-        """Adds commands to the last group, with the answers of `ec`."""
-        if self.failing and len(self._groups) == 1:
-            self._try_again(requests)
-        group.requests += requests
-        try:
-            self._answer(group, requests)
-        except EngineEnded:
-            first = self._groups[0]
-            if first is not group and first.committing and first.committing.result():
-                return  # that group is not kept, and settling it answers this one too
-            self._restart(group.before)
-            group.answers, group.accepted = [], []
-            self._answer(group, group.requests)
-
-    def commit(self, group: Group) -> "Future[Optional[str]]":
-        """Begins to commit the first group; the result is the cause if it failed.
-
-        What is written is written here, and only the sync is another thread's: so the
-        threads seldom wait for each other.
-        """
-        group.committing = Future()
-        try:
-            self.database.write(group.accepted, self.now())
-            group.committing = self._committer.submit(self._sync)
-        except NotKept as fault:
-            group.committing.set_result(fault.cause)
-        return group.committing
-
-    def settle(self, group: Group) -> None:
-        """Ends the first group: its answers may be handed on.
-
-        Waits for its commit. Where that failed, the updates of all groups are refused,
-        and `ec` starts anew from the database.
-        """
-        cause = group.committing.result() if group.committing else None
-        if cause is not None:
-            self.failing = cause
-            self._restart(group.before)
-            for later in self._groups:
-                later.answers, later.accepted = [], []
-                self._answer(later, later.requests)
-        self._groups.remove(group)
-
-    def _sync(self) -> Optional[str]:
-        try:
-            self.database.sync()
-        except NotKept as fault:
-            return fault.cause
-        return None
+        return Before(drafts, watches)
 
     def _try_again(self, requests: Sequence[Request]) -> None:
         """Finds out whether the database takes updates again."""
@@ -246,8 +196,9 @@ class Keeper:
             lines += [b"@%d watch %s" % (session, term) for term in sorted(terms)]
         self._engine.ask(lines)
 
-    def _answer(self, group: Group, requests: Sequence[Request]) -> None:
-        """Adds the answers to commands to a group, and the updates accepted."""
+    def _asked(self, requests: Sequence[Request]) -> Round:
+        """The answers of `ec` to commands, and the updates that it accepted."""
+        asked = Round()
         refused = Answer(b"refused not-kept " + self.failing.encode("utf-8", "replace"))
         back = self._kept_back(requests) if self.failing else [False] * len(requests)
         lines: List[bytes] = []
@@ -266,15 +217,16 @@ class Keeper:
                     next(replies)
                 self.drafts.pop(request.session, None)
                 self.watches.pop(request.session, None)
-                group.answers.append(Answer(b""))
+                asked.answers.append(Answer(b""))
                 continue
             answer = _answer(next(replies)) if count else refused
-            group.answers.append(answer)
+            asked.answers.append(answer)
             told = self._follow(request, answer.reply)
             if told is not None:
                 text = b"\n".join(told).decode("ascii")
                 reply = answer.reply.decode("ascii")
-                group.accepted.append((request.session, text, reply))
+                asked.accepted.append((request.session, text, reply))
+        return asked
 
     def _follow(self, request: Request, reply: bytes) -> Optional[List[bytes]]:
         """Keeps up with a session; the lines of an update that was accepted."""

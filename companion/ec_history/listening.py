@@ -1,10 +1,12 @@
 """`ec-history keep FILE --listen ADDRESS`: several clients at once over one history.
 
 Each connection is one session of `ec`, without prefix. Lines that wait are answered in
-groups: a group takes some lines of each connection, and all its updates are one
-transaction, so a sync is shared by all who wait for it. No client can hold others up:
-lines are taken in turn, replies are written as fast as their reader takes them, and a
-connection that does not read, or sends more than is answered, is not read from.
+rounds: a round takes some lines of each connection, and all its updates are one
+transaction, so a sync is shared by all who wait for it. Who was answered often has the
+next line ready at once, so the next round waits for these a little. No client can hold
+others up: lines are taken in turn, replies are written as fast as their reader takes
+them, and a connection that does not read, or sends more than is answered, is not read
+from.
 """
 
 from __future__ import annotations
@@ -17,21 +19,23 @@ import socket
 import stat
 import sys
 from collections import deque
-from typing import Callable, Deque, Dict, List, Optional, Sequence, Tuple
+from typing import Callable, Deque, Dict, List, Optional, Sequence, Set, Tuple
 from typing import Union, cast
 
 from .cutting import Cutter, words_of
 from .errors import HistoryError
-from .keeper import LEAVE, REFUSED_LONG, REFUSED_SYNTAX, REFUSED_TORN, Answer, Group
-from .keeper import Keeper, Request
+from .keeper import LEAVE, REFUSED_LONG, REFUSED_SYNTAX, REFUSED_TORN, Answer, Keeper
+from .keeper import Request
 from .lines import LONGEST_LINE, MOST_SESSIONS
 
 MOST_WAITING = 1024
 """Lines of a connection that may wait; it is not read from while there are more."""
-MOST_A_GROUP = 64
-"""Lines of a connection that a group takes."""
-LONG_A_GROUP = 4
-"""Lines of all connections together whose reply may be long, that a group takes."""
+MOST_A_ROUND = 64
+"""Lines of a connection that a round takes."""
+LONG_A_ROUND = 4
+"""Lines of all connections together whose reply may be long, that a round takes."""
+LONGEST_WAIT = 0.005
+"""Seconds for which a round waits at most for those who were just answered."""
 MOST_UNREAD = 1 << 25
 """Bytes that a connection may leave unread before a note to it ends it."""
 _SHORT = {b"assert", b"retract", b"begin", b"commit", b"abort", b"holds", b"through"}
@@ -83,6 +87,7 @@ class Connection(asyncio.BufferedProtocol):
         if len(self.waiting) > MOST_WAITING and not self._paused:
             self._paused = True
             self.transport.pause_reading()
+        self.hub.awaited.discard(self.session)
         self.hub.wake()
 
     def eof_received(self) -> bool:
@@ -132,10 +137,9 @@ class Connection(asyncio.BufferedProtocol):
 
 
 class Taken:
-    """What a group has taken: of each connection so many lines, with what they ask."""
+    """What a round has taken: of each connection so many lines, with what they ask."""
 
-    def __init__(self, group: Group) -> None:
-        self.group = group
+    def __init__(self) -> None:
         self.lines: List[Tuple[Optional[Connection], Waiting]] = []
         self.counts: Dict[int, int] = {}
         self.leaving: List[int] = []
@@ -143,10 +147,10 @@ class Taken:
 
 
 class Hub:
-    """All connections, and the groups in which their lines are answered.
+    """All connections, and the rounds in which their lines are answered.
 
-    One group at a time is being committed; meanwhile lines are taken into the next, and
-    asked. Its answers wait until it is committed in its turn.
+    `awaited` has the sessions that were answered in the last round, and that may be
+    about to tell more.
     """
 
     def __init__(self, keeper: Keeper) -> None:
@@ -155,12 +159,13 @@ class Hub:
         self.buffer = memoryview(bytearray(1 << 16))  # what is read goes on at once
         self.loop = asyncio.get_running_loop()
         self.ended: "asyncio.Future[None]" = self.loop.create_future()
+        self.awaited: Set[int] = set()
+        self._awaited_until = 0.0
+        self._waking: Optional[asyncio.TimerHandle] = None
         self._free = list(range(MOST_SESSIONS - 1, -1, -1))
         self._leaving: List[int] = []
         self._turn = 0
         self._scheduled = False
-        self._committing: Optional[Taken] = None
-        self._next: Optional[Taken] = None
 
     def join(self, connection: Connection) -> bool:
         """Gives a connection its session, where one is free."""
@@ -173,6 +178,7 @@ class Hub:
     def leave(self, connection: Connection) -> None:
         """Ends a connection's session with the next round."""
         self.connections.pop(connection.session, None)
+        self.awaited.discard(connection.session)
         self._leaving.append(connection.session)
         self.wake()
 
@@ -192,60 +198,52 @@ class Hub:
                 self.ended.set_exception(fault)
 
     def _round(self) -> None:
-        """Asks what waits, and commits it if nothing is being committed."""
+        """Answers what waits, unless more of it may come in a moment."""
         self._scheduled = False
-        if self._next is None:
-            self._next = Taken(self.keeper.begin())
-        requests = self._take(self._next)
-        if requests:
-            self.keeper.ask(self._next.group, requests)
-        self._hand_on()
-
-    def _hand_on(self) -> None:
-        """Hands on what may be, and begins the next commit."""
-        if self._committing is not None or self._next is None:
+        if self.awaited and self.loop.time() < self._awaited_until:
+            if self._waking is None:
+                until = self._awaited_until
+                self._waking = self.loop.call_at(
+                    until, self._guarded, self._wait_no_more
+                )
             return
-        taken = self._next
-        if taken.group.accepted:
-            self._committing, self._next = taken, None
-            committing = self.keeper.commit(taken.group)
-            committing.add_done_callback(self._from_thread)
-            return
-        self._next = None
-        self._settle(taken)
+        self._wait_no_more()
 
-    def _from_thread(self, _done: object) -> None:
-        try:
-            self.loop.call_soon_threadsafe(self._guarded, self._committed)
-        except RuntimeError:
-            pass  # the loop has ended; `finish` has settled the group
-
-    def _committed(self) -> None:
-        self.finish()
-        self._hand_on()
-
-    def finish(self) -> None:
-        """Waits for what is being committed, and writes its replies."""
-        taken, self._committing = self._committing, None
-        if taken is not None:
-            self._settle(taken)
-
-    def _settle(self, taken: Taken) -> None:
-        """Writes the replies of a group that is kept."""
-        self.keeper.settle(taken.group)
-        self._write(taken)
+    def _wait_no_more(self) -> None:
+        """Answers what waits, and hands the replies on once all updates are kept."""
+        if self._waking is not None:
+            self._waking.cancel()
+            self._waking = None
+        self.awaited.clear()
+        begun, count = self.loop.time(), self.keeper.database.count
+        taken = Taken()
+        requests = self._take(taken)
+        self._write(taken, self.keeper.round(requests) if requests else [])
         self._free += taken.leaving  # no note to one of them is on its way any more
+        if self.keeper.database.count > count:
+            self._await(taken, self.loop.time() - begun)
         for connection in list(self.connections.values()):
             connection.read_on()
             if connection.waiting:
                 if not connection.blocked:
                     self.wake()
-            elif connection.at_end and not self._is_asked(connection):
+            elif connection.at_end:
                 connection.finish()
 
-    def _is_asked(self, connection: Connection) -> bool:
-        """Whether the next group has lines of a connection."""
-        return self._next is not None and connection.session in self._next.counts
+    def _await(self, taken: Taken, spent: float) -> None:
+        """Has the next round wait for who was answered, half as long as this one took.
+
+        So many share a sync. To begin at once would keep the lines of a few, while the
+        others wait for that and for another sync.
+        """
+        self.awaited = {
+            session
+            for session in taken.counts
+            if session in self.connections
+            and not self.connections[session].waiting
+            and not self.connections[session].at_end
+        }
+        self._awaited_until = self.loop.time() + min(spent / 2, LONGEST_WAIT)
 
     def _take(self, taken: Taken) -> List[Request]:
         """Takes lines of each connection whose replies are read, in turn."""
@@ -261,10 +259,10 @@ class Hub:
             while connection.waiting and not connection.blocked:
                 count = taken.counts.get(session, 0)
                 is_long = connection.waiting[0][0] not in _SHORT
-                if count >= MOST_A_GROUP or (is_long and taken.long >= LONG_A_GROUP):
+                if count >= MOST_A_ROUND or (is_long and taken.long >= LONG_A_ROUND):
                     break
                 taken.long += is_long
-                taken.counts[session] = MOST_A_GROUP if is_long else count + 1
+                taken.counts[session] = MOST_A_ROUND if is_long else count + 1
                 what = self._asked(connection)
                 taken.lines.append((connection, what))
                 if isinstance(what, Request):
@@ -284,9 +282,9 @@ class Hub:
             return Answer(b"bye")
         return self.keeper.request(connection.session, words)
 
-    def _write(self, taken: Taken) -> None:
+    def _write(self, taken: Taken, answered: Sequence[Answer]) -> None:
         """Writes each reply to its connection, and each note to who watches."""
-        answers = iter(taken.group.answers)
+        answers = iter(answered)
         pieces: Dict[Connection, List[bytes]] = {}
         for connection, what in taken.lines:
             answer = next(answers) if isinstance(what, Request) else what
@@ -315,7 +313,7 @@ def listen(keeper: Keeper, address: str, tell: Callable[[str], None]) -> None:
 
     Raises HistoryError where the address can't be used.
     """
-    # what a group is made of ends with it: to look for cycles there takes a tenth of
+    # what a round is made of ends with it: to look for cycles there takes a tenth of
     # the time, and finds none
     gc.freeze()
     gc.set_threshold(200_000)
@@ -332,7 +330,6 @@ async def _listen(keeper: Keeper, address: str, tell: Callable[[str], None]) -> 
         loop.add_signal_handler(number, _end, hub)
     try:
         await hub.ended
-        hub.finish()
     finally:
         server.close()
         for connection in list(hub.connections.values()):

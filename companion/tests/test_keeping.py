@@ -287,51 +287,37 @@ class EndingTest(Folder):
         self.assertEqual(replies, ["ok", "refused no-draft"])
         self.assertEqual(self.ask(keeper, "events")[0][:1], "2")
 
-    def test_a_group_that_was_asked_meanwhile_is_answered_anew(self) -> None:
+    def test_what_was_told_behind_a_refused_update_is_answered_anew(self) -> None:
         keeper = self.keeper()
         self.ask(keeper, "assert a 1 lend(b,c)", "begin", "assert d 2 lend(e,f)")
-
-        def fail() -> None:
-            keeper.database._connection.execute("ROLLBACK")
-            keeper.database._using.release()
-            raise NotKept("no room")
-
-        first, second = keeper.begin(), None
-        keeper.ask(first, [Request(2, [b"retract", b"a"]), Request(1, [b"commit"])])
-        with mock.patch.object(keeper.database, "sync", fail):
-            keeper.commit(first)
-            second = keeper.begin()
-            words = [b"assert x 3 lend(y,z)", b"events", b"begin", b"retract a"]
-            keeper.ask(second, [Request(3, word.split(b" ")) for word in words])
-            keeper.ask(second, [Request(1, LEAVE), Request(1, [b"commit"])])
-            self.assertEqual(second.answers[1].reply[:2], b"2 ")
-            keeper.settle(first)
-        keeper.settle(second)
+        asked = [Request(2, [b"retract", b"a"]), Request(1, [b"commit"])]
+        words = [b"assert x 3 lend(y,z)", b"events", b"begin", b"retract a"]
+        asked += [Request(3, word.split(b" ")) for word in words]
+        asked += [Request(1, LEAVE), Request(1, [b"commit"])]
+        fails = mock.patch.object(
+            keeper.database, "append", side_effect=NotKept("no room")
+        )
+        with fails as append:
+            answers = keeper.round(asked)
+        self.assertEqual([row[0] for row in append.call_args.args[0]], [2, 1, 3])
         refused = b"refused not-kept no room"
-        self.assertEqual([a.reply for a in first.answers], [refused] * 2)
-        wanted = [refused, b"1 a 1 lend(b,c)", b"ok", b"drafted 1", b"", refused]
-        self.assertEqual([a.reply for a in second.answers], wanted)
+        wanted = [refused] * 3 + [b"1 a 1 lend(b,c)", b"ok", b"drafted 1", b"", refused]
+        self.assertEqual([answer.reply for answer in answers], wanted)
         self.assertEqual(self.ask(keeper, "commit"), ["refused no-draft"])
         replies = keeper.round([Request(3, [b"commit"]), Request(3, [b"events"])])
         self.assertEqual([answer.reply for answer in replies], [b"ok", b"0"])
         kept = [update.lines for update in keeper.database.updates()]
         self.assertEqual(kept[1:], ["begin\nretract a\ncommit"])
 
-    def test_ec_ends_while_a_group_is_committed(self) -> None:
+    def test_ec_ends_between_two_rounds(self) -> None:
         keeper = self.keeper()
-        first = keeper.begin()
-        keeper.ask(first, [Request(1, [b"assert", b"a", b"1", b"lend(b,c)"])])
-        keeper.commit(first)
-        second = keeper.begin()
-        keeper.ask(second, [Request(2, [b"begin"])])
+        keeper.round([Request(1, [b"assert", b"a", b"1", b"lend(b,c)"])])
+        keeper.round([Request(2, [b"begin"])])
         keeper._engine.process.kill()
         keeper._engine.process.wait()
-        keeper.ask(second, [Request(2, [b"retract", b"a"]), Request(1, [b"events"])])
-        keeper.settle(first)
-        keeper.settle(second)
-        self.assertEqual(first.answers[0].reply, b"ok")
-        wanted = [b"ok", b"drafted 1", b"1 a 1 lend(b,c)"]
-        self.assertEqual([a.reply for a in second.answers], wanted)
+        asked = [Request(2, [b"retract", b"a"]), Request(1, [b"events"])]
+        answers = [answer.reply for answer in keeper.round(asked)]
+        self.assertEqual(answers, [b"drafted 1", b"1 a 1 lend(b,c)"])
 
     def test_a_limit_of_the_file_s_size(self) -> None:
         limited = (

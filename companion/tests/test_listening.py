@@ -10,7 +10,7 @@ import threading
 import time
 import unittest
 from pathlib import Path
-from typing import List, cast
+from typing import Any, List, cast
 from unittest import mock
 
 from ec_history.database import Database
@@ -244,13 +244,10 @@ class HubTest(Folder):
             self.tell(ann, b"watch out(b)\n")
             hub._round()
             self.tell(bob, b"assert a 1 lend(b,c)\n")
-            hub._round()  # the commit is on its way, with a note to ann
             ann.connection_lost(None)
-            hub._round()
             cid = self.joined(hub)
             self.assertNotEqual(cid.session, ann.session)
-            hub.finish()
-            hub._hand_on()
+            hub._round()
             self.assertEqual(self.written(bob), b"ok\n")
             self.assertEqual(self.written(cid), b"")
             self.assertEqual(self.joined(hub).session, ann.session)
@@ -258,24 +255,46 @@ class HubTest(Folder):
         asyncio.run(play())
 
     def test_nothing_is_written_before_it_is_kept(self) -> None:
+        append = self.database.append
+
         async def play() -> None:
             hub = Hub(self.keeper)
             ann, bob = self.joined(hub), self.joined(hub)
-            self.tell(bob, b"at 2\n")
-            hub._round()
-            self.assertEqual(self.written(bob), b"0\n")
-            self.tell(ann, b"assert a 1 lend(b,c)\n")
-            hub._round()
-            self.tell(bob, b"at 2\n")
-            hub._round()
-            self.assertEqual(self.written(ann), b"")
-            self.assertEqual(self.written(bob), b"0\n")
-            hub.finish()
+
+            def kept(*words: Any) -> None:
+                self.assertEqual(self.written(ann) + self.written(bob), b"")
+                append(*words)
+                self.assertEqual(self.written(ann) + self.written(bob), b"")
+
+            with mock.patch.object(self.database, "append", kept):
+                self.tell(ann, b"assert a 1 lend(b,c)\n")
+                self.tell(bob, b"at 2\n")
+                hub._round()
             self.assertEqual(self.written(ann), b"ok\n")
-            self.assertEqual(self.written(bob), b"0\n")
-            hub._hand_on()
-            self.assertEqual(self.written(bob), b"0\n2 has(c,b) out(b)\n")
+            self.assertEqual(self.written(bob), b"2 has(c,b) out(b)\n")
             self.assertEqual(self.database.count, 1)
+
+        asyncio.run(play())
+
+    def test_who_was_answered_shares_the_next_sync(self) -> None:
+        async def play() -> None:
+            hub = Hub(self.keeper)
+            ann, bob = self.joined(hub), self.joined(hub)
+            for name, client in ((b"a", ann), (b"b", bob)):
+                self.tell(client, b"assert %s 1 lend(b,c)\n" % name)
+            hub._round()
+            self.assertEqual(hub.awaited, {ann.session, bob.session})
+            hub._awaited_until += 60
+            self.tell(ann, b"retract a\n")
+            hub._round()
+            self.assertEqual(self.written(ann), b"ok\n")  # bob is waited for
+            self.tell(bob, b"retract b\n")
+            hub._round()
+            self.assertEqual(self.written(ann) + self.written(bob), b"ok\n" * 4)
+            hub._awaited_until = 0  # nobody is waited for any longer
+            self.tell(ann, b"last\n")
+            hub._round()
+            self.assertEqual(self.written(ann).count(b"\n"), 3)
 
         asyncio.run(play())
 
