@@ -1,0 +1,2 @@
+pub mod FileLimits
+pub mod FileLines

@@ -49,13 +49,15 @@ few_mentions theory events =
     if nat_lt most_mentions (length (mentions_of theory events)) then Err FullMentions
     else (if nat_lt most_links (link_count theory events) then Err FullLinks else Ok events)
 
--- The list with an event in its place, or what the event is refused for, as an update of it would be. Mentions and links are
--- counted only where all limits are kept.
+-- the same where all limits are kept; else mentions and links are not counted
+abbrev pub within_limits : Theory → Bool → List PlainEvent → Result (List PlainEvent) EventName
+within_limits theory all events = if all then few_mentions theory events else Ok events
+
+-- the list with an event in its place, or what the event is refused for, as an update that asserts it would be
 unfoldable pub admitted : Theory → Bool → List PlainEvent → PlainEvent → Result (List PlainEvent) EventName
 admitted theory all events e =
     if has_id e.id events then Err Duplicate
-    else (if nat_le most_events (length events) then Err FullEvents
-    else (if all then few_mentions theory (with_event e events) else Ok (with_event e events)))
+    else (if nat_le most_events (length events) then Err FullEvents else within_limits theory all (with_event e events))
 
 -- the list that a line leaves, or what the line is refused for
 abbrev pub after_line : Theory → Bool → List PlainEvent → FileLine → Result (List PlainEvent) EventName

@@ -1,3 +1,5 @@
 pub mod EventFile
+pub mod ShownLine
+pub mod Reading
 pub mod Verdicts
 pub mod Examples

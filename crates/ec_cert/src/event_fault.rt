@@ -1,5 +1,7 @@
 //! What an event file is refused for.
 
+use ec_lists::NoMemory;
+
 /// What a line of an event file is refused for.
 #[derive(Clone, Copy)]
 pub enum EventName {
@@ -21,4 +23,15 @@ pub enum EventName {
 pub enum EventFault {
     At(u32, EventName),
     Memory,
+}
+
+impl From<NoMemory> for EventFault {
+    ghost use Rattle.std.specs.Prelude.{◌≡◌};
+    ghost use Rattle.ec_cert.specs.declared.event_fault.EventFault.TheVariants.{Memory};
+
+    ghost from_gives = { λ _ fault. fault ≡ Memory };
+
+    fn from(_e: NoMemory) -> EventFault {
+        EventFault::Memory
+    }
 }
