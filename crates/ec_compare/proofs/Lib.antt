@@ -1,0 +1,6 @@
+mod Points
+mod Rows
+mod Zones
+mod Coverings
+mod Loops
+mod Replies
