@@ -133,7 +133,7 @@ class Spool:
         self._file.close()
 
     def changes(self, count: int) -> Iterator[List[Tuple[Optional[int], str]]]:
-        """The lines of each change, each with its part of so many; None is all parts."""
+        """The lines of each change, each with its part; None is all parts."""
         together: Optional[List[Tuple[Optional[int], str]]] = None
         with open(self.path, encoding="ascii") as file:
             for row in file:
@@ -153,7 +153,7 @@ class Spool:
 
 
 class Divided(NamedTuple):
-    """What an import into parts made: the folder's parts, or none where it is at fault."""
+    """What an import into parts made; no parts where a record is at fault."""
 
     imported: Imported
     parts: Optional[Parts]

@@ -10,8 +10,8 @@ from __future__ import annotations
 import sys
 from dataclasses import dataclass, field
 from functools import cached_property
-from typing import Callable, Dict, Iterable, Iterator, List, NamedTuple, Optional
-from typing import TypeVar
+from typing import Callable, Dict, Iterable, Iterator, List, NamedTuple, Optional, Set
+from typing import Tuple, TypeVar
 
 from .client import Server
 from .errors import HistoryError
@@ -92,7 +92,6 @@ class History:
         self.session = server.main
         self.theory: Theory = server.theory
         self.clock = server.clock
-        self._entries: Optional[Dict[Term, List[Entry]]] = None
 
     @cached_property
     def events(self) -> List[Event]:
@@ -115,22 +114,6 @@ class History:
         """The events that this history tells: all, of a whole one."""
         return self.events
 
-    @property
-    def entries(self) -> Dict[Term, List[Entry]]:
-        """For each property the entries that start or end it, by time and identity.
-
-        Initial properties are there with no entry where nothing else speaks of them.
-        """
-        if self._entries is None:
-            self._entries = {term: [] for term in self.theory.initial_properties()}
-            with Progress("events matched with rules") as progress:
-                for event in self.events:
-                    for rule, binding in self.theory.rules_met(event.term):
-                        entry = Entry(event, rule, binding)
-                        self._entries.setdefault(entry.head, []).append(entry)
-                    progress.step()
-        return self._entries
-
     def candidates(self, pattern: Optional[Pattern] = None) -> List[Term]:
         """The properties that may have started and fit a pattern, in `ec`'s order.
 
@@ -138,14 +121,33 @@ class History:
         """
         if pattern is not None and pattern.is_ground():
             return [pattern.fill({})]
-        initial = set(self.theory.initial_properties())
         return sorted(
             term
-            for term, entries in self.entries.items()
+            for term in self._startable(pattern)
             if (pattern is None or pattern.match(term) is not None)
-            and (term in initial or any(entry.rule.initiates for entry in entries))
             and self.owns_property(term)
         )
+
+    def _startable(self, pattern: Optional[Pattern]) -> Set[Term]:
+        """The initial properties, and those that events start by rules that they meet.
+
+        With a pattern, only rules for properties of its name are looked at.
+        """
+        found = set(self.theory.initial_properties())
+        rules: Dict[Tuple[str, int], List[Rule]] = {}
+        for rule in self.theory.rules:
+            head = rule.head
+            fits = pattern is None or (pattern.name, pattern.arity) == head.shape
+            if rule.initiates and fits:
+                rules.setdefault(rule.event.shape, []).append(rule)
+        with Progress("events matched with rules") as progress:
+            for event in self.events if rules else ():
+                for rule in rules.get(event.term.shape, ()):
+                    binding = rule.meets(event.term)
+                    if binding is not None:
+                        found.add(rule.head.fill(binding))
+                progress.step()
+        return found
 
     def rows(
         self,

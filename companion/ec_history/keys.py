@@ -2,11 +2,11 @@
 
 A *key* is an argument by which nothing reads another: a copy of a book, a bed. Each
 event and each property, by its name and its number of arguments, has the key at one of
-its places, or has none. An event without a key goes to all parts; a property without one
-is the same in all parts, so all that it rests on goes to all parts as well. Of a property
-with a key, each rule that starts or ends it has the same variable, or the same name, as
-the key of the property and of the event, and of each condition that has a key; and both
-sides of an exclusive declaration have the same.
+its places, or has none. An event without a key goes to all parts; a property without
+one is the same in all parts, so all that it rests on goes to all parts as well. Of a
+property with a key, each rule that starts or ends it has the same variable, or the same
+name, as the key of the property and of the event, and of each condition that has a key;
+and both sides of an exclusive declaration have the same.
 
 So the properties of one part are a closed set: with a property it has all that a rule
 reads for it, and all that is exclusive to it.
@@ -17,7 +17,7 @@ from __future__ import annotations
 from dataclasses import dataclass
 from typing import Dict, Iterator, List, NamedTuple, Optional, Set, Tuple
 
-from .terms import Anything, Argument, Pattern, Place, Term
+from .terms import Anything, Argument, Pattern, Term
 from .theory import Clause, Exclusive, Initially, Rule, Theory
 
 EVENT, PROPERTY = "event", "property"

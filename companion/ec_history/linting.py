@@ -21,7 +21,7 @@ from typing import Dict, Iterator, List, Optional, Set, Tuple
 from .client import Server
 from .common import add_processes
 from .errors import HistoryError
-from .moments import TICK, Clock
+from .moments import TICK
 from .parts import Parts, PartsFault, is_parts, open_parts
 from .program import add_program, find_program
 from .progress import Progress

@@ -95,8 +95,8 @@ class Named:
 class Names:
     """All names given so far, each with the one thing that it names.
 
-    Where `forgets_plain` is set, the identities of events in which the text stands as it
-    is are not kept: there may be many, and nothing is lost by it.
+    Where `forgets_plain` is set, the identities of events in which the text stands as
+    it is are not kept: there may be many, and nothing is lost by it.
     """
 
     def __init__(self, keep_case: bool = False) -> None:

@@ -4,9 +4,9 @@
 
     theory.ec        the theory, as it was when the parts were made
     part-000.lines   the lines of the first part, and so on
-    manifest.json    the theory's SHA-256, the places of the key in events and properties
-                     (from 1, null for none), and of each part how many lines and events
-                     it has, and the SHA-256 of its lines
+    manifest.json    the theory's SHA-256, the places of the key in events and
+                     properties (from 1, null for none), and of each part how many lines
+                     and events it has, and the SHA-256 of its lines
 
 Which part has a key follows from the text of the key alone.
 """

@@ -56,7 +56,7 @@ def run(args: argparse.Namespace) -> int:
 
 
 def required(theory: Theory, path: str) -> Split:
-    """The places of the key; raises HistoryError where the theory does not fall apart."""
+    """The places of the key, of a theory that falls apart; raises HistoryError."""
     split = Keys(theory).split()
     if not split.falls_apart:
         for line in obstacles_told(theory, split):
@@ -144,6 +144,6 @@ def _reason(obstacle: Obstacle) -> str:
     if rights == (None,):
         return f"{link.left} has a key, and the {what} {link.right} could have none"
     return (
-        f"the {what} {link.right} has another argument as its key, by other rules, than "
-        f"{link.left}"
+        f"the {what} {link.right} has another argument as its key, by other rules, "
+        f"than {link.left}"
     )

@@ -98,6 +98,11 @@ class Term:
         """How many arguments it has."""
         return len(self.arguments)
 
+    @property
+    def shape(self) -> Tuple[str, int]:
+        """Its name, and how many arguments it has."""
+        return self.name, len(self.arguments)
+
     def sort_key(self) -> Tuple[str, int, Tuple[Tuple[int, int, str], ...]]:
         """What the order goes by: name, number of arguments, arguments."""
         arguments = tuple(_argument_key(argument) for argument in self.arguments)
@@ -168,6 +173,11 @@ class Pattern:
     def arity(self) -> int:
         """How many arguments the terms have that it fits."""
         return len(self.places)
+
+    @property
+    def shape(self) -> Tuple[str, int]:
+        """Their name, and how many arguments they have."""
+        return self.name, len(self.places)
 
     def variables(self) -> List[str]:
         """The names of its variables, each once, in the order in which they come."""

@@ -101,12 +101,12 @@ def loaded_and_worked(
 
 
 class Workers:
-    """Those who work on parts; `each` gives what they find, in the order of the parts."""
+    """Those who work on parts."""
 
     def each(
         self, parts: Parts, numbers: Sequence[int], work: Work, *words: object
     ) -> Iterator[List[Any]]:
-        """What `work(history, *words)` gives, for each of these parts."""
+        """What `work(history, *words)` gives, for each of these parts, in order."""
         raise NotImplementedError
 
     def __enter__(self) -> "Workers":

@@ -46,7 +46,7 @@ MAP = {
     "events": [{"event": "{what}", "when": {"arity": "0"}}]
     + [
         {
-            "event": f"{{what}}({','.join(f'{{{name}}}' for name in ARGUMENTS[:arity])})",
+            "event": "{what}({%s})" % "},{".join(ARGUMENTS[:arity]),
             "when": {"arity": str(arity)},
         }
         for arity in (1, 2, 3)
@@ -163,7 +163,7 @@ class Drawing:
 
 
 def compare(seed: int) -> bool:
-    """Whether the theory of a seed falls apart; raises AssertionError at a difference."""
+    """Whether the theory of a seed falls apart; AssertionError at a difference."""
     drawing = Drawing(seed)
     with tempfile.TemporaryDirectory() as folder, contextlib.ExitStack() as stack:
         paths = [

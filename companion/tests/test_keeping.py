@@ -3,6 +3,7 @@
 from __future__ import annotations
 
 import os
+import shutil
 import signal
 import sqlite3
 import subprocess
@@ -318,6 +319,33 @@ class EndingTest(Folder):
         asked = [Request(2, [b"retract", b"a"]), Request(1, [b"events"])]
         answers = [answer.reply for answer in keeper.round(asked)]
         self.assertEqual(answers, [b"drafted 1", b"1 a 1 lend(b,c)"])
+
+    def test_a_disk_that_is_full(self) -> None:
+        disk = self.path("disk")
+        os.mkdir(disk)
+        mount = ["mount", "-t", "tmpfs", "-o", "size=1m", "none", disk]
+        mounted = subprocess.run(mount, stderr=subprocess.DEVNULL, check=False)
+        if mounted.returncode:
+            self.skipTest("no small file system can be mounted here")
+        self.addCleanup(subprocess.run, ["umount", disk], check=True)
+        file = os.path.join(disk, "kept.db")
+        lines = "".join(f"assert e{n} {n} lend(b{n},c)\n" for n in range(20_000))
+        status, out, _ = self.keep(file, "--theory", LOANS, lines=lines + "events\n")
+        replies = out.splitlines()
+        self.assertEqual((status, len(replies)), (0, 20_001))
+        taken = replies.count("ok")
+        self.assertGreater(taken, 100)
+        self.assertIn("refused not-kept database or disk is full", replies)
+        refused = [r for r in replies if r.startswith("refused not-kept ")]
+        self.assertEqual(len(refused), 20_000 - taken)
+        self.assertEqual(replies[-1].split(" ")[0], str(taken))
+        copied = self.path("copied.db")
+        for end in ("", "-wal", "-shm"):
+            if os.path.exists(file + end):
+                shutil.copy(file + end, copied + end)
+        self.assertEqual(self.keep(copied, "--check")[0], 0)
+        again = self.keep(copied, lines="events\nassert x 1 lend(y,z)\n")[1]
+        self.assertEqual(again.splitlines(), [replies[-1], "ok"])
 
     def test_a_limit_of_the_file_s_size(self) -> None:
         limited = (
