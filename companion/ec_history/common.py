@@ -37,11 +37,17 @@ def add_processes(parser: Arguments) -> None:
     """Adds how many parts are answered side by side."""
     parser.add_argument(
         "--processes",
-        type=int,
+        type=_process_count,
         metavar="N",
         default=os.cpu_count() or 1,
         help="how many parts are played side by side (as many as there are processors)",
     )
+
+
+def _process_count(text: str) -> int:
+    if not text.isdigit() or int(text) < 1:
+        raise argparse.ArgumentTypeError(f"{text}: a number from 1 is expected")
+    return int(text)
 
 
 def add_workers(parser: Arguments) -> None:

@@ -16,10 +16,11 @@ import tempfile
 from array import array
 from concurrent.futures import ProcessPoolExecutor
 from contextlib import ExitStack
+from functools import partial
 from typing import IO, Callable, Dict, Iterator, List, NamedTuple, Optional, Tuple
 
 from .common import accepted_theory
-from .errors import HistoryError
+from .errors import HistoryError, plainly
 from .importing import Change, Imported, Importer, tell_faults, told_words, write_names
 from .keys import Split
 from .mapping import Map, read_map
@@ -273,7 +274,9 @@ class Divider:
         ]
         workers = min(self.processes, parts.count)
         with ProcessPoolExecutor(workers) as pool, Progress("parts checked") as shown:
-            for part, refused in enumerate(pool.map(first_refused, jobs)):
+            for part, refused in enumerate(
+                pool.map(partial(plainly, first_refused), jobs)
+            ):
                 shown.step()
                 if refused is not None:
                     pool.shutdown(cancel_futures=True)

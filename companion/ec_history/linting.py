@@ -20,7 +20,7 @@ from typing import Dict, Iterator, List, Optional, Set, Tuple
 
 from .client import Server
 from .common import add_processes
-from .errors import HistoryError
+from .errors import HistoryError, plainly
 from .moments import TICK
 from .parts import Parts, PartsFault, is_parts, open_parts
 from .program import add_program, find_program
@@ -343,7 +343,7 @@ def lint_parts(
     """What is found in the lines of the parts of a folder."""
     parts = open_parts(folder, theory_path)
     findings: List[Finding] = []
-    job = partial(_lint_part, program, theory_path, parts)
+    job = partial(plainly, _lint_part, program, theory_path, parts)
     with ProcessPoolExecutor(min(processes, parts.count)) as pool:
         with Progress("parts looked through") as progress:
             for found in pool.map(job, range(parts.count)):

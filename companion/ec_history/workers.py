@@ -12,7 +12,7 @@ from functools import partial
 from typing import Any, Callable, Iterable, Iterator, List, Optional, Sequence
 
 from .client import Server
-from .errors import HistoryError
+from .errors import HistoryError, plainly
 from .history import History
 from .parts import Parts, open_parts
 from .playing import play
@@ -81,12 +81,7 @@ class LoadedPart:
 
 def worked(part: LoadedPart, work: Work, *words: object) -> List[Any]:
     """What some work finds in a part. Faults are told by their words alone."""
-    try:
-        return list(work(part.history(), *words))
-    except HistoryError as fault:
-        raise HistoryError(str(fault)) from None
-    except OSError as fault:
-        raise HistoryError(f"part {part.number} can't be read: {fault}") from None
+    return plainly(lambda: list(work(part.history(), *words)))
 
 
 def loaded_and_worked(
@@ -121,7 +116,7 @@ class Processes(Workers):
 
     def __init__(self, program: Optional[str] = None, count: int = 1) -> None:
         self.program = program
-        self.count = max(count, 1)
+        self.count = count
 
     def each(
         self, parts: Parts, numbers: Sequence[int], work: Work, *words: object
