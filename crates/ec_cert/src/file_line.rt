@@ -42,6 +42,8 @@ fn line_of<T: Moment>(command: Command<'_, T>) -> FileLine<'_, T>
         | Command::Commit
         | Command::Abort
         | Command::Ask(_)
+        | Command::Pairs { .. }
+        | Command::Related { .. }
         | Command::Last
         | Command::Quit => FileLine::Neither,
     }
