@@ -10,3 +10,6 @@ mod HoldingLemmas
 mod Knowing
 mod PassingLemmas
 mod Earlier
+mod FirstLemmas
+mod WritingLemmas
+mod Walking

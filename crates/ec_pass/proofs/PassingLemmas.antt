@@ -1,5 +1,5 @@
 -- A pass, from one instant to the next and from one event to the next.
-use Rattle.std.proofs.Common.{◌≡◌, ◌⊎◌, ℕ, ℤ, Bool, true, false, not, ◌&&◌, ◌||◌, List, [], ◌∷◌, ◌++◌, Option, Some, None, refl, sym, ap, ap₂, subst, ◌∙◌, inl, inr, ⊎_elim, arith}
+use Rattle.std.proofs.Common.{◌≡◌, ◌⊎◌, ℕ, ℤ, Bool, true, false, not, ◌&&◌, ◌||◌, List, [], ◌∷◌, ◌++◌, Option, Some, None, is_some, refl, sym, ap, ap₂, subst, ◌∙◌, inl, inr, ⊎_elim, arith}
 use Rattle.std.specs.Prelude.{int_le, int_lt, IsTrue, IsFalse}
 use Rattle.std.specs.List.{list_all, list_any}
 use Rattle.std.specs.Ordering.{int_eq}
@@ -28,10 +28,11 @@ use Rattle.ec_pass.specs.declared.pass.Pass.{Pass}
 use Rattle.ec_pass.specs.Holdings.{IsKnown, held_at_end, judged, looked_up}
 use Rattle.ec_pass.specs.Outcomes.{outcome_of}
 use Rattle.ec_pass.specs.Passing.{IsComing, IsPassing, is_instant}
-use Rattle.ec_pass.specs.Present.{IsAt}
+use Rattle.ec_pass.specs.Present.{IsAt, IsReady}
 use Rattle.ec_pass.specs.Settled.{excludes_any, is_settled}
 use Rattle.ec_pass.proofs.EffectLemmas.{has_effect-among, has_effect-elsewhere}
 use Rattle.ec_pass.proofs.Knowing.{IsJudged, IsJudged-known, IsKnown-looked_up, holds-ended}
+use Rattle.ec_pass.proofs.NumberLemmas.{is_some-term}
 use Rattle.ec_pass.proofs.SettledTerms.{IsAt-settled, clashes-number}
 
 -- events of which none is at an instant, as all are later or all are earlier
@@ -194,7 +195,7 @@ is_history-behind [] left ordered = ordered
 is_history-behind (e ∷ done) left ordered = is_history-behind done left (and_parts _ _ ordered).1
 
 -- and its first is not behind the others
-not-behind : (e : PlainEvent) (left : List PlainEvent) → is_history (e ∷ left) ≡ true → list_all (λ (f : PlainEvent). int_le e.rank f.rank) (e ∷ left) ≡ true
+pub not-behind : (e : PlainEvent) (left : List PlainEvent) → is_history (e ∷ left) ≡ true → list_all (λ (f : PlainEvent). int_le e.rank f.rank) (e ∷ left) ≡ true
 unfolding is_history
 not-behind e left ordered =
     let both = and_parts _ _ ordered in
@@ -236,3 +237,12 @@ module _ {T : Type 0} (rank : T → ℤ) (theory : Theory) (events done left : L
     number = term_at-kept before.present.props present.props kept before.p.0 q passing.number;
     known = passing.known;
   }
+
+-- a pass can be gone on from
+pub IsReady-passing : {T : Type 0} (rank : T → ℤ) (theory : Theory) (events done left : List PlainEvent) (q : Ground) (pass : Pass T) → IsPassing rank theory events done left q pass
+    → IsReady theory pass.present pass.p
+IsReady-passing rank theory events done left q pass passing = record {
+  kept = sym (is_some-term pass.p.0 pass.present.props) ∙ ap is_some passing.number;
+  started = λ n there. sym (is_some-term n pass.present.props) ∙ passing.at.started.numbers n there;
+  forms = passing.at.forms;
+}

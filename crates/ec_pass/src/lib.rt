@@ -1,15 +1,18 @@
-//! One pass over the events of a history, in their order, that finds whether a property holds and
-//! writes its label.
+//! One pass over the events of a history, in their order: whether a property holds at a time, and its
+//! label.
 //!
-//! A *pass* keeps nothing but which properties are current now, and what the active entries of the
-//! present instant start and end. It knows no cache and no sweep, so what it finds is a second way to
-//! what a server answers.
+//! A *pass* ([`find`]) keeps nothing but which properties are current now, and what the active entries
+//! of the present instant start and end. It knows no cache and no sweep, so it is a second way to what a
+//! server answers.
 //!
-//! Start at `specs/Present.antt`, which says what is known at each instant, and at `settling.rt`, by which
-//! it comes to the next.
+//! **Proved**: the label is that of ec_cone byte for byte, and whether the property holds is the
+//! calculus's word (`find`: `label`, `holds`). **Not said**: how many steps a pass takes; it evaluates
+//! each entry once. Start at `specs/Passing.antt`, which says what is known between two events, and at
+//! `pass.rt`.
 #![tactic(auto)]
 
 mod beginning;
+mod finding;
 mod holding;
 mod label;
 mod looking;
@@ -18,3 +21,5 @@ mod pass;
 mod present;
 mod settling;
 mod taking_in;
+
+pub use finding::{Finding, find};

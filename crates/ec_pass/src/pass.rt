@@ -1,10 +1,14 @@
 //! A pass over the events of a history, in their order.
-ghost use Rattle.std.specs.Prelude.{◌≡◌, [], ◌∷◌, ◌++◌, ◌||◌, ◌&&◌, List, Some, false, int_lt, map, IsTrue, IfOk, OnOk};
+ghost use Rattle.std.specs.Prelude.{◌≡◌, [], ◌∷◌, ◌++◌, ◌||◌, ◌&&◌, List, Some, false, int_lt, map, All, IsTrue, IfOk, OnOk};
 ghost use Rattle.ec_terms.specs.declared.ground.Ground.{Ground};
 ghost use Rattle.ec_terms.specs.Domain.{is_strong};
 ghost use Rattle.ec_terms.specs.Matchable.{IsMatchable};
+ghost use Rattle.ec_terms.specs.Term.{ground_of, names_are_names};
 ghost use Rattle.ec_axioms.specs.Calculus.{PlainEvent, holds_at, is_current};
+ghost use Rattle.ec_axioms.specs.Changes.{is_history};
 ghost use Rattle.ec_axioms.specs.Events.{event_of};
+ghost use Rattle.ec_changes.specs.LiveLaws.{ListsInitials};
+ghost use Rattle.ec_parts.specs.Initials.{IsPlainInitial};
 ghost use Rattle.ec_store.specs.Table.{term_at};
 ghost use Rattle.ec_numbered.specs.PropSet.{has_number};
 ghost use Rattle.ec_cone.specs.Cone.{cone_effects, cone_rules};
@@ -22,7 +26,8 @@ use ec_cone::Cone;
 use ec_context::Rules;
 use ec_lists::NoMemory;
 use ec_moment::Moment;
-use ec_terms::{PropId, Theory};
+use ec_terms::{GroundRef, PropId, Theory};
+use std::alloc::Global;
 use std::sync::ledger::Ledger;
 
 /// A pass: the instant that it has come to, what is known there, and what is known of one property and one time.
@@ -36,6 +41,34 @@ pub(crate) struct Pass<T> {
 }
 
 impl<T: Moment> Pass<T> {
+    /// A pass that stands before all events, at a first instant that none of them is before.
+    pub(crate) fn begin(
+        alloc: Global,
+        theory: &Theory,
+        p: &GroundRef<'_>,
+        at: T,
+        first: T,
+    ) -> Result<Pass<T>, NoMemory>
+        requires matchable { IsMatchable theory.now }
+        requires plain { All IsPlainInitial theory.now.initials }
+        requires named { IsTrue (names_are_names (ground_of p.now)) }
+        ensures passing { IfOk result (λ pass. (events : List PlainEvent) → IsTrue (is_history events) → ListsInitials theory.now
+            → IsComing events events (T.rank at) (T.rank first) (T.rank first) → IsPassing T.rank theory.now events [] events (ground_of p.now) pass) }
+        ensures at { IfOk result (λ pass. pass.at ≡ at) }
+    {
+        let mut present = Present::begin(alloc, theory)?;
+        let p = present.know(p)?;
+        let reached = !first.order(&at).is_lt();
+        let holding = look_up(Holding::Before, reached, present.current.contains(p));
+        Ok(Pass {
+            p,
+            at,
+            instant: first,
+            present,
+            holding,
+        })
+    }
+
     /// What is known of the property once all events of the present instant were looked at.
     fn judged(&self, theory: &Theory) -> Holding
         requires matchable { IsMatchable theory.now }
