@@ -2,11 +2,13 @@
 """Synced updates a second of `ec-history keep --listen`, beside Redis.
 
     companion/measure/kept_speed.py [--program PATH] [--clients 32] [--seconds 5]
+                                    [--turns 2]
 
 Each client tells one update, waits for its `ok`, and tells the next, over the loopback.
 Where `redis-server` is on the PATH, it does the same with `SET` under `appendfsync
-always`, on the same disk; the two take turns, and the better of two turns counts.
-`keep` should reach at least half of it.
+always`, on the same disk; the two take turns, and the best turn of each counts. `keep`
+should reach at least half of it. Of each the processor time for an update is told as
+well, of all its processes: it hardly depends on what else the machine does.
 """
 
 from __future__ import annotations
@@ -16,11 +18,13 @@ import multiprocessing
 import os
 import shutil
 import socket
+import statistics
 import subprocess
 import sys
 import tempfile
 import time
-from typing import Callable, List
+from pathlib import Path
+from typing import Callable, List, NamedTuple
 
 sys.path.insert(0, os.path.join(os.path.dirname(os.path.abspath(__file__)), ".."))
 
@@ -57,8 +61,18 @@ def tell(port: int, client: int, command: Command, until: float, told: object) -
         told.put(number)  # type: ignore[attr-defined]
 
 
-def rate(port: int, command: Command, clients: int, seconds: float) -> float:
-    """Commands a second, of all clients together."""
+class Rate(NamedTuple):
+    """Commands a second, and microseconds of processor time for one."""
+
+    commands: float
+    spent: float
+
+
+def rate(
+    process: int, port: int, command: Command, clients: int, seconds: float
+) -> Rate:
+    """How many commands of all clients together a server answers."""
+    before = processor_seconds(process)
     told: multiprocessing.Queue = multiprocessing.Queue()
     until = time.time() + seconds
     tasks = [
@@ -70,10 +84,24 @@ def rate(port: int, command: Command, clients: int, seconds: float) -> float:
     count = sum(told.get() for _ in tasks)
     for task in tasks:
         task.join()
-    return count / seconds
+    spent = processor_seconds(process) - before
+    return Rate(count / seconds, spent / count * 1e6)
 
 
-def keep_rate(program: str, clients: int, seconds: float) -> float:
+def processor_seconds(process: int) -> float:
+    """The processor time of a process and of those that it has started."""
+    ticks = 0
+    for path in Path("/proc").glob("[0-9]*/stat"):
+        try:
+            words = path.read_text().rpartition(")")[2].split()
+        except OSError:
+            continue  # it has just ended
+        if process in (int(path.parent.name), int(words[1])):
+            ticks += int(words[11]) + int(words[12])
+    return ticks / os.sysconf("SC_CLK_TCK")
+
+
+def keep_rate(program: str, clients: int, seconds: float) -> Rate:
     """Updates a second of a server that is started for it."""
     with tempfile.TemporaryDirectory(dir=".") as folder:
         theory = os.path.join(folder, "lamps.ec")
@@ -86,12 +114,12 @@ def keep_rate(program: str, clients: int, seconds: float) -> float:
         with subprocess.Popen(words, stderr=subprocess.PIPE, text=True) as server:
             assert server.stderr is not None
             port = int(server.stderr.readline().rpartition(":")[2])
-            found = rate(port, update, clients, seconds)
+            found = rate(server.pid, port, update, clients, seconds)
             server.terminate()
     return found
 
 
-def redis_rate(clients: int, seconds: float) -> float:
+def redis_rate(clients: int, seconds: float) -> Rate:
     """Commands a second of a Redis that is started for it."""
     with socket.socket() as free:
         free.bind(("127.0.0.1", 0))
@@ -102,31 +130,45 @@ def redis_rate(clients: int, seconds: float) -> float:
         words += ["--appendfsync", "always"]
         with subprocess.Popen(words, stdout=subprocess.DEVNULL) as server:
             time.sleep(1)
-            found = rate(port, setting, clients, seconds)
+            found = rate(server.pid, port, setting, clients, seconds)
             server.terminate()
     return found
+
+
+def words_of(name: str, rates: List[Rate]) -> str:
+    """The best and the median of some turns."""
+    middle = statistics.median(each.commands for each in rates)
+    spent = statistics.median(each.spent for each in rates)
+    best = max(rates).commands
+    return f"{name:<6} {best:9,.0f} at best, {middle:9,.0f} median; {spent:.0f} us"
 
 
 def main() -> int:
     parser = argparse.ArgumentParser(description=(__doc__ or "").splitlines()[0])
     parser.add_argument("--clients", type=int, default=32)
     parser.add_argument("--seconds", type=float, default=5)
+    parser.add_argument("--turns", type=int, default=2)
     add_program(parser)
     args = parser.parse_args()
     program = find_program(args.program)
-    kept: List[float] = []
-    redis: List[float] = []
-    for _ in range(2):
+    kept: List[Rate] = []
+    redis: List[Rate] = []
+    for _ in range(args.turns):
         kept.append(keep_rate(program, args.clients, args.seconds))
         if shutil.which("redis-server"):
             redis.append(redis_rate(args.clients, args.seconds))
-    print(f"keep   {max(kept):9,.0f} synced updates a second, {args.clients} clients")
+    print(
+        f"of {args.clients} clients, synced commands a second and processor time each"
+    )
+    print(words_of("keep", kept))
     if not redis:
         print("redis-server is not on the PATH, so nothing was compared")
         return 0
-    share = max(kept) / max(redis)
+    print(words_of("redis", redis))
+    share = max(kept).commands / max(redis).commands
+    middle = statistics.median(k.commands / r.commands for k, r in zip(kept, redis))
     print(
-        f"redis  {max(redis):9,.0f} with appendfsync always; keep reaches {share:.2f}"
+        f"keep reaches {share:.2f} of it at best, {middle:.2f} in the median of turns"
     )
     return 0 if share >= 0.5 else 1
 
