@@ -14,7 +14,7 @@ mod through;
 mod walk;
 mod walk_back;
 
-pub use attempting::{attempt, start};
+pub use attempting::{attempt, attempt_one, start};
 pub use change_back::undo_change;
 pub use coming_in::{come_in, let_in};
 pub use idle::forget_idle;

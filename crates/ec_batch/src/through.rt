@@ -1,5 +1,5 @@
 //! A walk through a whole batch, and one from no event to a whole list.
-ghost use Rattle.std.specs.Prelude.{◌≡◌, ◌+◌, ◌≤◌, ◌<◌, ◌^◌, [], List, OnOk, length, map};
+ghost use Rattle.std.specs.Prelude.{◌≡◌, ◌+◌, ◌≤◌, ◌<◌, ◌^◌, [], ◌∷◌, List, OnOk, length, map};
 ghost use Rattle.indexmap.specs.IndexMap.{index_map_len};
 ghost use Rattle.ec_axioms.specs.Calculus.{PlainEvent};
 ghost use Rattle.ec_axioms.specs.Events.{event_of, plain_update};
@@ -48,6 +48,30 @@ pub(crate) fn walk_through<T: Moment, M: MarkRow<T>, I: SpanRow<T>, X: TimeRow<T
         }
     }
     Ok(())
+}
+
+/// Walks through a batch of one update. `Err`: it is refused, at place 1, or memory ran out; the walk stays where it was then.
+pub(crate) fn walk_one<T: Moment, M: MarkRow<T>, I: SpanRow<T>, X: TimeRow<T>, L: Ledger>(
+    alloc: Global,
+    parts: &mut Parts<T, M, I, X>,
+    tally: &mut Tally,
+    walk: &mut Walk<T>,
+    one: &Update<T>,
+    steps: &mut Steps<L>,
+) -> Result<(), Refusal>
+    requires walked { HasWalked T.rank parts.old.checked (view_of parts.old) tally.old walk.old }
+    ensures goes { (soon : List PlainEvent) → HasWalkedTo T.rank parts.old.checked parts.old.store.events soon (view_of parts.old) tally.old walk.old →
+        GoesThrough T.rank parts.old.checked parts.old.store.events soon (plain_update T.rank one.now ∷ []) (view_of parts.new) tally.new walk.new result }
+    ensures theory { parts.new.checked ≡ parts.old.checked }
+    ensures store { parts.new.store ≡ parts.old.store }
+    ensures len { index_map_len walk.new.nets ≤ index_map_len walk.old.nets + 1 }
+    ensures steps { steps.new ≤ steps.old + 1 }
+{
+    match update(alloc, parts, tally, walk, one, steps) {
+        Ok(()) => Ok(()),
+        Err(Stop::Refused(cut)) => Err(Refusal::Update { place: 1, cut }),
+        Err(Stop::Memory(none)) => Err(Refusal::Memory(none)),
+    }
 }
 
 /// Walks from no event to a list of events, which is within the limits. `Err`: memory ran out.

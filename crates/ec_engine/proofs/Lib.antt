@@ -4,4 +4,3 @@ pub mod WorkDone
 pub mod StepSums
 pub mod Carried
 pub mod Arrivals
-mod Retractions

@@ -2,7 +2,7 @@
 ghost use Rattle.std.specs.Prelude.{◌≡◌, ◌+◌, ◌≤◌, ◌<◌, ◌^◌, [], ◌∷◌, IsTrue, IfOk, length, map};
 ghost use Rattle.ec_terms.specs.Term.{ground_of, names_are_names};
 ghost use Rattle.ec_axioms.specs.Calculus.{PlainEvent};
-ghost use Rattle.ec_axioms.specs.Changes.{asserting, entry_count, has_event, has_id, is_history, retracting};
+ghost use Rattle.ec_axioms.specs.Changes.{asserting, entry_count, has_event, is_history, retracting};
 ghost use Rattle.ec_axioms.specs.Events.{event_of, plain_update};
 ghost use Rattle.ec_parts.specs.StandFor.{StandFor, view_of};
 ghost use Rattle.ec_batch.specs.Build.{HaveOwnIds, history_from};
@@ -13,8 +13,8 @@ ghost use Rattle.ec_engine.specs.Standing.{IsStanding};
 use crate::arriving::arrive;
 use crate::building::fill;
 use crate::carrying::{carry_change, carry_out};
-use ec_axioms::{Cut, Event, Seen, Steps, Update};
-use ec_batch::{Refusal, attempt};
+use ec_axioms::{Event, Seen, Steps, Update};
+use ec_batch::{Refusal, attempt, attempt_one};
 use ec_check::Checked;
 use ec_context::Rules;
 use ec_lists::NoMemory;
@@ -190,38 +190,24 @@ impl<T: Moment, M: MarkRow<T>, I: SpanRow<T>, X: TimeRow<T>> Engine<T, M, I, X> 
         ensures theory { self.new.theory ≡ self.old.theory }
         ensures steps { steps.new ≤ steps.old + most_steps self.old.theory self.old.events (retracting id ∷ []) }
     {
-        if self.is_present(&id) {
-            self.retract_present(id, steps)
-        } else {
-            let cut = Cut::Unknown(id);
-            Err(Refusal::Update { place: 1, cut })
-        }
-    }
-
-    /// Whether an event has an identity.
-    fn is_present(&self, id: &Name) -> bool
-        ensures { result ≡ has_id id.now self.now.events }
-    {
-        self.parts().store.find(id).is_some()
-    }
-
-    /// Retracts an event that is present.
-    fn retract_present<L: Ledger>(
-        &mut self,
-        id: Name,
-        steps: &mut Steps<L>,
-    ) -> Result<Seen, Refusal>
-        requires present { IsTrue (has_id id self.old.events) }
-        ensures revised { IsRevised self.old.theory self.old.events (retracting id ∷ []) result self.new.events }
-        ensures theory { self.new.theory ≡ self.old.theory }
-        ensures steps { steps.new ≤ steps.old + most_steps self.old.theory self.old.events (retracting id ∷ []) }
-    {
-        let mut batch = match Vec::with_capacity(self.alloc, 1) {
-            Ok(batch) => batch,
-            Err(error) => return Err(Refusal::Memory(NoMemory::from(error))),
+        let parts = &mut *self.parts;
+        let update = Update::Retract(id);
+        let walk = match attempt_one(self.alloc, parts, &mut self.tally, &update, steps) {
+            Ok(walk) => walk,
+            Err(refusal) => return Err(refusal),
         };
-        batch.push_reserved(Update::Retract(id));
-        self.revise(batch.as_slice(), steps)
+        let seen = match carry_out(
+            self.alloc,
+            &mut self.lists,
+            parts,
+            &mut self.tally,
+            walk,
+            steps,
+        ) {
+            Ok(seen) => seen,
+            Err(none) => return Err(Refusal::Memory(none)),
+        };
+        Ok(seen)
     }
 }
 
