@@ -4,6 +4,7 @@ use crate::drawn_commands::command;
 use crate::drawn_theories::{all_props, stretch, theory, TIMES};
 use crate::draws::Draws;
 use crate::queries::Query;
+use crate::relations::WORDS;
 use crate::server::Server;
 use crate::times::Instant;
 
@@ -85,8 +86,26 @@ fn queries(server: &Server<'_>, stretches: &[(Instant, Instant)]) -> Vec<Query> 
             queries.push(Query::Through(prop.clone(), *from, *until));
         }
     }
+    queries.extend(comparisons(stretches));
     queries.extend(TIMES.map(|number| Query::At(server.time().instant(number))));
     queries.push(Query::Clashes);
     queries.push(Query::Events);
+    queries
+}
+
+/// Each property compared with each, by a relation that differs from one to the next and from time to time.
+fn comparisons(stretches: &[(Instant, Instant)]) -> Vec<Query> {
+    let mut queries = Vec::new();
+    for (from, until) in stretches {
+        let mut turn = (from.number() + until.number()).unsigned_abs() as usize;
+        for left in all_props() {
+            for right in all_props() {
+                let word = WORDS[turn % WORDS.len()];
+                queries.push(Query::Pairs(left.clone(), word, right.clone()));
+                queries.push(Query::Related(left.clone(), *from, word, right));
+                turn += 1;
+            }
+        }
+    }
     queries
 }

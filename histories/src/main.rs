@@ -12,6 +12,7 @@ mod draws;
 mod events;
 mod history;
 mod queries;
+mod relations;
 mod served;
 mod server;
 mod terms;

@@ -1,5 +1,6 @@
 //! Lines that ask a history, and the replies to them.
 use crate::history::{Entry, History, Span};
+use crate::relations::stands_in;
 use crate::terms::Term;
 use crate::theory::Kind;
 use crate::times::Instant;
@@ -15,6 +16,8 @@ pub enum Query {
     Why(Term, Instant),
     Clashes,
     Events,
+    Pairs(Term, &'static str, Term),
+    Related(Term, Instant, &'static str, Term),
 }
 
 impl fmt::Display for Query {
@@ -28,6 +31,10 @@ impl fmt::Display for Query {
             Query::Why(prop, at) => write!(f, "why {prop} {at}"),
             Query::Clashes => f.write_str("clashes"),
             Query::Events => f.write_str("events"),
+            Query::Pairs(left, word, right) => write!(f, "pairs {left} {word} {right}"),
+            Query::Related(left, at, word, right) => {
+                write!(f, "related {left} {at} {word} {right}")
+            }
         }
     }
 }
@@ -50,6 +57,8 @@ impl Query {
             Query::Why(prop, at) => reason(history, prop, *at),
             Query::Clashes => list(history.clashes()),
             Query::Events => list(&history.events),
+            Query::Pairs(left, word, right) => pairs(history, left, word, right),
+            Query::Related(left, at, word, right) => related(history, left, *at, word, right),
         }
     }
 }
@@ -81,6 +90,33 @@ fn bounds(span: &Span, between: &str) -> String {
 fn interval(span: &Span) -> String {
     let close = if span.end.is_some() { "]" } else { ")" };
     format!("({}{close}", bounds(span, ","))
+}
+
+/// The intervals of two properties that stand in a relation, by the first and then by the second. Those of a random history are few.
+fn pairs(history: &History<'_>, left: &Term, word: &str, right: &Term) -> String {
+    let (lefts, rights) = (history.intervals(left), history.intervals(right));
+    let both = lefts
+        .iter()
+        .flat_map(|i| rights.iter().map(move |j| (i, j)));
+    let those = both.filter(|(i, j)| stands_in(word, i, j));
+    list(those.map(|(i, j)| format!("{} {}", interval(i), interval(j))))
+}
+
+/// The intervals of a property to which that of another one at a time stands in a relation.
+fn related(history: &History<'_>, left: &Term, at: Instant, word: &str, right: &Term) -> String {
+    let lefts = history.intervals(left);
+    match lefts.iter().find(|span| span.covers(at)) {
+        None => "none".to_string(),
+        Some(i) => {
+            let rights = history.intervals(right);
+            list(
+                rights
+                    .iter()
+                    .filter(|j| stands_in(word, i, j))
+                    .map(interval),
+            )
+        }
+    }
 }
 
 /// A broken begin.

@@ -31,6 +31,11 @@ impl Time {
 }
 
 impl Instant {
+    /// Its number.
+    pub fn number(self) -> i64 {
+        self.number
+    }
+
     /// All instants from this one to another, both among them. Nothing happens between one and the next.
     pub fn up_to(self, last: Instant) -> impl Iterator<Item = Instant> {
         (self.number..=last.number).map(move |number| Instant { number, ..self })

@@ -5,7 +5,8 @@ use Rattle.ec_commands.specs.declared.limits.TheConstants.{MOST_DRAFTED}
 use Rattle.ec_commands.specs.Answers.{answer_ok, answer_bye, answer_drafted, answer_last, answer_text, front_text, refused_commit, refused_full_draft, refused_in_draft, refused_long_line, refused_no_draft, refused_syntax, refused_update}
 use Rattle.ec_axioms.specs.Calculus.{PlainEvent}
 use Rattle.ec_axioms.specs.Changes.{PlacedCut, PlainUpdate, asserting, retracting}
-use Rattle.ec_commands.specs.Commands.{PlainCommand, silent, bad, assert_event, retract_event, begin_draft, commit_draft, abort_draft, ask, ask_last, quit, parsed_of}
+use Rattle.ec_commands.specs.Commands.{PlainCommand, silent, bad, assert_event, retract_event, begin_draft, commit_draft, abort_draft, ask, ask_pairs, ask_related, ask_last, quit, parsed_of}
+use Rattle.ec_commands.specs.QueryTexts.{pairs_reply, related_reply}
 use Rattle.ec_commands.specs.Lines.{CutText, cut_of, is_long, line_feed}
 use Rattle.ec_lines.proofs.CutLines.{behind, cut_of-append}
 use Rattle.ec_replies.specs.Replies.{Language, Reply, commit_reply, command_reply, drafted_reply, query_text, reply_line, reply_of, reply_to_abort, reply_to_begin, reply_to_commit, reply_to_update, session_of, update_reply}
@@ -94,6 +95,8 @@ module _ (prefix : Option ℕ) where
     command_ended commit_draft = commit_ended
     command_ended abort_draft = abort_ended
     command_ended (ask query) = reply_ended (query_text language state.events query)
+    command_ended (ask_pairs p r q) = reply_ended (pairs_reply language.theory state.events language.canon p r q)
+    command_ended (ask_related p t r q) = reply_ended (related_reply language.theory state.events language.canon p t r q)
     command_ended ask_last = reply_ended (answer_text (answer_last state.last))
     command_ended quit = reply_ended (answer_text answer_bye)
 

@@ -12,7 +12,9 @@ use Rattle.ec_replies.specs.Runs.{Step, is_quit, command_quits, command_may_want
 use Rattle.ec_replies.proofs.OwnDraft.{reply_of-long, reply_of-short}
 use Rattle.ec_sessions.specs.declared.handled.Handled.{Handled}
 use Rattle.ec_sessions.specs.declared.handled.Handled.TheVariants.{Go, Bye, WriteFault}
-use Rattle.ec_sessions.specs.Answering.{IsAnswerBy, IsAnswerTo, IsWritten, is_bye}
+use Rattle.ec_sessions.specs.declared.told.Comparison.{Comparison}
+use Rattle.ec_sessions.specs.declared.told.Comparison.TheVariants.{Pairs, Related}
+use Rattle.ec_sessions.specs.Answering.{IsAnswerBy, IsAnswerTo, IsWritten, comparison_text, is_bye, plain_comparison}
 use Rattle.ec_sessions.specs.Handling.{IsHandled}
 
 -- ---- commands
@@ -41,6 +43,18 @@ pub CommandStep-query : (query : PlainQuery) (language : Language) (prefix : Opt
     → CommandStep language prefix session before (ask query) (reply_line prefix (query_text language before.events query)) before
 unfolding command_reply
 CommandStep-query query language prefix session before = inl refl
+
+-- a comparison is answered by its text, from the present events
+pub CommandStep-compared : {T : Type 0} (rank : T → ℤ) (comparison : Comparison T) (language : Language) (prefix : Option ℕ) (session : ℕ) (before : State)
+    → CommandStep language prefix session before (plain_comparison rank comparison)
+    (reply_line prefix (comparison_text rank language.theory before.events language.canon comparison)) before
+unfolding command_reply
+CommandStep-compared rank (Pairs left relation right) language prefix session before = inl refl
+CommandStep-compared rank (Related left at relation right) language prefix session before = inl refl
+
+pub command_quits-compared : {T : Type 0} (rank : T → ℤ) (comparison : Comparison T) → command_quits (plain_comparison rank comparison) ≡ false
+command_quits-compared rank (Pairs left relation right) = refl
+command_quits-compared rank (Related left at relation right) = refl
 
 -- ---- answers
 

@@ -5,3 +5,4 @@ mod Revisions
 mod Standings
 mod StepCounts
 mod StepLawProofs
+mod Comparisons

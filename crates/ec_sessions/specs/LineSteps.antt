@@ -5,7 +5,7 @@ use Rattle.ec_terms.specs.declared.theory.Theory.{Theory}
 use Rattle.ec_axioms.specs.Calculus.{PlainEvent}
 use Rattle.ec_axioms.specs.Changes.{PlainUpdate, asserting, retracting}
 use Rattle.ec_commands.specs.Commands.{PlainQuery, ask_holds, ask_through, ask_intervals, ask_broken, ask_at, ask_clashes, ask_events, ask_why}
-use Rattle.ec_commands.specs.Commands.{PlainCommand, silent, bad, assert_event, retract_event, begin_draft, commit_draft, abort_draft, ask, ask_last, quit, PlainParsed, parsed_of}
+use Rattle.ec_commands.specs.Commands.{PlainCommand, silent, bad, assert_event, retract_event, begin_draft, commit_draft, abort_draft, ask, ask_pairs, ask_related, ask_last, quit, PlainParsed, parsed_of}
 use Rattle.ec_commands.specs.Lines.{is_long}
 use Rattle.ec_engine.specs.Revise.{most_steps}
 use Rattle.ec_query.specs.ReasonSteps.{why_steps}
@@ -38,6 +38,8 @@ most_change_steps theory session state begin_draft = 0
 most_change_steps theory session state commit_draft = most_commit_steps theory session state
 most_change_steps theory session state abort_draft = 0
 most_change_steps theory session state (ask query) = 0
+most_change_steps theory session state (ask_pairs p r q) = 0
+most_change_steps theory session state (ask_related p t r q) = 0
 most_change_steps theory session state ask_last = 0
 most_change_steps theory session state quit = 0
 
@@ -77,6 +79,8 @@ most_asked_steps theory events begin_draft = 0
 most_asked_steps theory events commit_draft = 0
 most_asked_steps theory events abort_draft = 0
 most_asked_steps theory events (ask query) = most_query_steps theory events query
+most_asked_steps theory events (ask_pairs p r q) = 0
+most_asked_steps theory events (ask_related p t r q) = 0
 most_asked_steps theory events ask_last = 0
 most_asked_steps theory events quit = 0
 

@@ -3,7 +3,7 @@ use Rattle.std.specs.Prelude.{◌≡◌, ℕ, ℤ, Bool, true, false, ◌||◌, 
 use Rattle.ec_terms.specs.declared.ground.Ground.{Ground}
 use Rattle.ec_axioms.specs.Changes.{PlainUpdate}
 use Rattle.ec_commands.specs.Commands.{ask_events, ask_why}
-use Rattle.ec_commands.specs.Commands.{PlainCommand, silent, bad, assert_event, retract_event, begin_draft, commit_draft, abort_draft, ask, ask_last, quit, parsed_of}
+use Rattle.ec_commands.specs.Commands.{PlainCommand, silent, bad, assert_event, retract_event, begin_draft, commit_draft, abort_draft, ask, ask_pairs, ask_related, ask_last, quit, parsed_of}
 use Rattle.ec_commands.specs.Lines.{is_long}
 use Rattle.ec_engine.specs.Revise.{most_steps}
 use Rattle.ec_query.specs.ReasonSteps.{why_steps}
@@ -28,6 +28,8 @@ reads_no_event begin_draft = true
 reads_no_event commit_draft = false
 reads_no_event abort_draft = true
 reads_no_event (ask query) = is_none (reading_of query)
+reads_no_event (ask_pairs p r q) = true
+reads_no_event (ask_related p t r q) = true
 reads_no_event ask_last = true
 reads_no_event quit = true
 

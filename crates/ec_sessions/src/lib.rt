@@ -3,6 +3,7 @@
 
 mod asked;
 mod asking;
+mod compared;
 mod drafting;
 mod drafts;
 mod handled;

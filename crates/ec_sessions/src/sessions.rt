@@ -14,7 +14,7 @@ ghost use Rattle.ec_sessions.specs.LineSteps.{most_change_steps, most_line_steps
 use crate::drafts::Drafts;
 use crate::handled::Handled;
 use crate::reply::reply;
-use crate::told::Told;
+use crate::told::{Comparison, Told};
 use ec_axioms::{Seen, Steps};
 use ec_check::Checked;
 use ec_engine::Engine;
@@ -114,10 +114,11 @@ impl<T: Moment, M: MarkRow<T>, I: SpanRow<T>, X: TimeRow<T>> Sessions<T, M, I, X
             Told::Nothing => Handled::Go,
             Told::Answer(answer) => reply(prefix, &answer, out),
             Told::Query(query) => self.ask(prefix, &query, out, steps),
+            Told::Compared(comparison) => self.compare(prefix, &comparison, out),
         }
     }
 
-    /// Does what a command of a session says, and tells its answer, or the query that it asks.
+    /// Does what a command of a session says, and tells its answer, or the query or the comparison that it asks for.
     fn answer<'a, L: Ledger>(
         &mut self,
         session: u8,
@@ -141,6 +142,26 @@ impl<T: Moment, M: MarkRow<T>, I: SpanRow<T>, X: TimeRow<T>> Sessions<T, M, I, X
             Command::Commit => Told::Answer(self.commit(session, steps)),
             Command::Abort => Told::Answer(self.abort(session)),
             Command::Ask(query) => Told::Query(query),
+            Command::Pairs {
+                left,
+                relation,
+                right,
+            } => Told::Compared(Comparison::Pairs {
+                left,
+                relation,
+                right,
+            }),
+            Command::Related {
+                left,
+                at,
+                relation,
+                right,
+            } => Told::Compared(Comparison::Related {
+                left,
+                at,
+                relation,
+                right,
+            }),
             Command::Last => Told::Answer(Answer::Last(self.last)),
             Command::Quit => Told::Answer(Answer::Bye),
         }

@@ -10,9 +10,9 @@ use Rattle.ec_replies.specs.State.{State}
 use Rattle.ec_replies.specs.Replies.{Language, query_text, reply_line, session_of}
 use Rattle.ec_replies.specs.Runs.{command_quits}
 use Rattle.ec_sessions.specs.declared.handled.Handled.TheVariants.{Go}
-use Rattle.ec_sessions.specs.Answering.{IsAnswerTo, IsWritten, is_bye}
+use Rattle.ec_sessions.specs.Answering.{IsAnswerTo, IsWritten, comparison_text, is_bye, plain_comparison}
 use Rattle.ec_sessions.specs.LineSteps.{most_asked_steps, most_change_steps, most_query_steps}
-use Rattle.ec_sessions.proofs.AnsweredLines.{CommandStep, CommandStep-answer, CommandStep-query, CommandStep-silent, IsHandled-written, Step-parsed, is_quit-parsed}
+use Rattle.ec_sessions.proofs.AnsweredLines.{CommandStep, CommandStep-answer, CommandStep-compared, CommandStep-query, CommandStep-silent, command_quits-compared, IsHandled-written, Step-parsed, is_quit-parsed}
 use Rattle.ec_sessions.proofs.sessions.Sessions.handle_parsed.Goals as goal
 
 pub returns-in-Nothing-clause-handled : goal.returns-in-Nothing-clause-handled
@@ -58,6 +58,26 @@ returns-in-Query-clause-handled g c = λ line short is.
     told.1 c.ask.ensures.written) in
     IsHandled-written g.K.Sink.stands language c.args.out.now c.ask.new.out c.ask.result false (Step-parsed language line text parsed before after short is step)
     (is_quit-parsed language line parsed short is ∙ ap command_quits told.0) written
+
+pub returns-in-Compared-clause-handled : goal.returns-in-Compared-clause-handled
+returns-in-Compared-clause-handled g c = λ line short is.
+    let language : Language = record { theory = c.args.self.now.theory; spelt = g.T.Moment.spelt; canon = g.T.Moment.canon } in
+    let rank = g.T.Moment.rank in
+    let parsed = plain_parsed rank c.args.parsed in
+    let before = c.args.self.now.state in
+    let after = c.answer.new.self.state in
+    let comparison = c.in-Compared.comparison in
+    let told = c.in-Compared.ensures.told in
+    let text = reply_line parsed.session (comparison_text rank language.theory before.events language.canon comparison) in
+    let step = subst (λ (k : PlainCommand). CommandStep language parsed.session (session_of parsed) before k text after) (sym told.0)
+    (subst (λ (s : State). CommandStep language parsed.session (session_of parsed) before (plain_comparison rank comparison) text s) (sym told.1)
+    (CommandStep-compared rank comparison language parsed.session (session_of parsed) before)) in
+    let written = subst (λ (t : Theory). IsWritten g.K.Sink.stands c.compare.result false (reply_line parsed.session (comparison_text rank t before.events g.T.Moment.canon comparison)) c.args.out.now c.compare.new.out)
+    c.answer.ensures.theory
+    (subst (λ (s : State). IsWritten g.K.Sink.stands c.compare.result false (reply_line parsed.session (comparison_text rank c.answer.new.self.theory s.events g.T.Moment.canon comparison)) c.args.out.now c.compare.new.out)
+    told.1 c.compare.ensures.written) in
+    IsHandled-written g.K.Sink.stands language c.args.out.now c.compare.new.out c.compare.result false (Step-parsed language line text parsed before after short is step)
+    (is_quit-parsed language line parsed short is ∙ ap command_quits told.0 ∙ command_quits-compared rank comparison) written
 
 pub returns-in-Query-clause-steps : goal.returns-in-Query-clause-steps
 unfolding most_asked_steps
