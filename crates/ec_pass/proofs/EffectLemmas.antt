@@ -1,19 +1,18 @@
 -- What some events do at an instant, event by event.
-use Rattle.std.proofs.Common.{◌≡◌, ℕ, ℤ, Bool, true, false, ◌&&◌, ◌||◌, List, [], ◌∷◌, ◌++◌, filter, flat_map, map, refl, sym, ap, ap₂, ◌∙◌, arith}
+use Rattle.std.proofs.Common.{◌≡◌, ℤ, Bool, true, false, ◌&&◌, ◌||◌, List, [], ◌∷◌, ◌++◌, filter, flat_map, refl, sym, ap, ap₂, ◌∙◌, arith}
 use Rattle.std.specs.List.{list_any}
 use Rattle.std.specs.Ordering.{int_eq}
-use Rattle.std.proofs.lemmas.Bool.{and_parts, and_from, false≢true}
+use Rattle.std.proofs.lemmas.Bool.{and_parts, and_from}
 use Rattle.std.proofs.lemmas.List.Folds.{list_any-append}
 use Rattle.std.proofs.Math.Bool.{or-false}
 use Rattle.ec_lists.proofs.Tests.{list_any-filter, list_any-flat_map, list_any-map, list_any-same, nat_lt-filter}
 use Rattle.ec_terms.specs.declared.ground.Ground.{Ground}
 use Rattle.ec_terms.specs.declared.theory.Theory.{Theory}
 use Rattle.ec_terms.specs.Domain.{GroundEntry, are_exclusive, entries_of}
-use Rattle.ec_terms.specs.Term.{term_eq}
-use Rattle.ec_terms.proofs.DomainLemmas.{are_exclusive-comm, term_eq-refl}
+use Rattle.ec_terms.proofs.DomainLemmas.{term_eq-refl}
 use Rattle.ec_terms.proofs.OrderLemmas.{term_eq-Decides}
 use Rattle.ec_axioms.specs.Calculus.{Currency, Effect, PlainEvent, effects_at, effects_of, has_effect, is_active, is_clashing, is_initiated, is_initiating}
-use Rattle.ec_axioms.proofs.Members.{IsMember, list_any-member, member-list_any}
+use Rattle.ec_axioms.proofs.Members.{list_any-member, member-list_any}
 
 -- an active entry of an event at the instant is wanted
 abbrev pub acts_by : Theory → Currency → (GroundEntry → Bool) → PlainEvent → Bool

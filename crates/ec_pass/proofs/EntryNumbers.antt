@@ -1,5 +1,5 @@
 -- What the entries of an event start and end, by number, is what they initiate and terminate, by term; and their bits are those of the event's line.
-use Rattle.std.proofs.Common.{◌≡◌, ℕ, Bool, true, false, cond, ◌&&◌, ◌||◌, List, [], ◌∷◌, ◌++◌, Option, Some, None, filter, flat_map, map, refl, sym, ap, ap₂, subst, ◌∙◌, inl, inr, arith}
+use Rattle.std.proofs.Common.{◌≡◌, ℕ, Bool, true, false, cond, ◌&&◌, List, [], ◌∷◌, ◌++◌, Some, filter, flat_map, map, refl, sym, ap, ap₂, subst, ◌∙◌, inl, inr, arith}
 use Rattle.std.specs.Prelude.{◌==◌}
 use Rattle.std.specs.List.{list_any}
 use Rattle.std.proofs.lemmas.List.Concat.{flat_map-cons}
@@ -9,12 +9,11 @@ use Rattle.ec_terms.specs.declared.ground.Ground.{Ground}
 use Rattle.ec_terms.specs.declared.ids.PropId.{PropId}
 use Rattle.ec_terms.specs.declared.theory.Kind.{Kind}
 use Rattle.ec_terms.specs.declared.theory.Kind.TheVariants.{Initiates, Terminates}
-use Rattle.ec_terms.specs.declared.theory.Theory.{Theory}
-use Rattle.ec_terms.specs.Domain.{GroundEntry, entries_of}
+use Rattle.ec_terms.specs.Domain.{GroundEntry}
 use Rattle.ec_terms.specs.Term.{term_eq}
 use Rattle.ec_axioms.specs.Calculus.{Currency, Effect, PlainEvent, is_active, is_initiating, is_terminating}
 use Rattle.ec_axioms.proofs.Members.{IsMember}
-use Rattle.ec_store.specs.Table.{KeptProp, is_in_order, term_at}
+use Rattle.ec_store.specs.Table.{KeptProp, is_in_order}
 use Rattle.ec_numbered.specs.PropSet.{has_number}
 use Rattle.ec_exclusive.specs.CurrentProps.{MemberForms, is_in}
 use Rattle.ec_context.specs.Activity.{IsCurrencyOfTerms}

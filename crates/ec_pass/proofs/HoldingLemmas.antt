@@ -1,5 +1,5 @@
 -- Whether a property holds, by what breaks it first.
-use Rattle.std.proofs.Common.{◌≡◌, ℕ, ℤ, Bool, true, false, cond, not, ◌&&◌, ◌||◌, List, [], ◌∷◌, Option, Some, None, find, refl, sym, ap, ap₂, ◌∙◌, ⊎_elim, inl, inr, ◌⊎◌, arith}
+use Rattle.std.proofs.Common.{◌≡◌, ℤ, Bool, true, false, cond, ◌&&◌, List, [], ◌∷◌, Some, find, refl, sym, ap, ap₂, ◌∙◌, ⊎_elim, arith}
 use Rattle.std.specs.Prelude.{int_le, int_lt}
 use Rattle.std.specs.List.{list_all, list_any}
 use Rattle.std.specs.Option.{option_map_or}
@@ -7,11 +7,11 @@ use Rattle.std.specs.Ordering.{int_eq}
 use Rattle.std.proofs.lemmas.Bool.{and_from, and_parts, cases_Bool, false≢true, or_cases}
 use Rattle.std.proofs.lemmas.Int.{ints}
 use Rattle.ec_lists.proofs.Finds.{find-filter, find-none}
-use Rattle.ec_lists.proofs.Integers.{int_eq-is, int_eq-same}
+use Rattle.ec_lists.proofs.Integers.{int_eq-is}
 use Rattle.ec_lists.proofs.Tests.{list_any-same}
 use Rattle.ec_terms.specs.declared.ground.Ground.{Ground}
 use Rattle.ec_terms.specs.declared.theory.Theory.{Theory}
-use Rattle.ec_axioms.specs.Calculus.{Currency, PlainEvent, has_break, holds_at, instants_of, is_current, is_terminated, timeline_by, timeline_of, with_instant}
+use Rattle.ec_axioms.specs.Calculus.{PlainEvent, has_break, holds_at, instants_of, is_current, is_terminated, timeline_by, timeline_of, with_instant}
 use Rattle.ec_axioms.specs.Changes.{comes_before, is_history}
 use Rattle.ec_axioms.specs.Plain.{ends_well}
 use Rattle.ec_axioms.proofs.Effects.{list_any-instants}

@@ -1,8 +1,7 @@
 -- What some entries start and end, with one entry more.
-use Rattle.std.proofs.Common.{◌≡◌, ℕ, ◌+◌, ◌<◌, ℤ, Bool, cond, List, [], ◌∷◌, ◌++◌, length, get_or, take, flat_map, sym, ap, ap₂, ◌∙◌}
+use Rattle.std.proofs.Common.{◌≡◌, ℕ, ◌+◌, ◌<◌, ℤ, Bool, cond, List, [], ◌∷◌, ◌++◌, length, get_or, take, flat_map, sym, ap, ◌∙◌}
 use Rattle.std.proofs.lemmas.List.{append_assoc, append-nil}
 use Rattle.ec_parts.proofs.Mentioned.{flat_map-take_more}
-use Rattle.ec_terms.specs.declared.ids.PropId.{PropId}
 use Rattle.ec_exclusive.specs.CurrentProps.{MemberForms}
 use Rattle.ec_context.specs.declared.entry.Entry.{Entry}
 use Rattle.ec_cone.specs.Cone.{has_number}

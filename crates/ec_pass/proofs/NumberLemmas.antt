@@ -1,12 +1,11 @@
 -- Numbers that stand for terms: none, those of either of two tests, and in a table that keeps more.
-use Rattle.std.proofs.Common.{◌≡◌, ℕ, Bool, true, false, ◌&&◌, ◌||◌, List, [], Option, Some, None, is_some, refl, sym, ap, ap₂, subst, ◌∙◌, ⊎_elim}
+use Rattle.std.proofs.Common.{◌≡◌, ℕ, Bool, true, false, ◌&&◌, ◌||◌, List, Option, Some, None, is_some, refl, sym, ap, ap₂, subst, ◌∙◌, ⊎_elim}
 use Rattle.std.specs.Prelude.{◌==◌, option_map}
-use Rattle.std.proofs.lemmas.Bool.{cases_Bool, eq-eqb, eqb-true, false≢true, false_from_ne_true, or_cases, or_left, or_right}
+use Rattle.std.proofs.lemmas.Bool.{eq-eqb, eqb-true, false≢true, false_from_ne_true, or_cases}
 use Rattle.std.proofs.lemmas.Option.{same_Some}
 use Rattle.ec_lists.proofs.Booleans.{Bool-from_both}
 use Rattle.ec_lists.proofs.Options.{is_some-option_map, Some-from_is_some}
 use Rattle.ec_terms.specs.declared.ground.Ground.{Ground}
-use Rattle.ec_terms.specs.declared.ids.PropId.{PropId}
 use Rattle.ec_terms.specs.declared.theory.Theory.{Theory}
 use Rattle.ec_terms.specs.Term.{term_eq}
 use Rattle.ec_terms.proofs.DomainLemmas.{term_eq-refl}
@@ -15,11 +14,9 @@ use Rattle.ec_store.specs.Table.{KeptProp, is_in_order, prop_at, term_at}
 use Rattle.ec_store.proofs.PropLemmas.{place-prop_at, prop_at-id, same-places}
 use Rattle.ec_context.specs.Widened.{KeepsAll}
 use Rattle.ec_context.proofs.Shown.{term_at-kept}
-use Rattle.ec_numbered.specs.ByNumber.{kept_at}
-use Rattle.ec_exclusive.specs.CurrentProps.{HasForms, MemberForms, is_in}
+use Rattle.ec_exclusive.specs.CurrentProps.{HasForms, MemberForms}
 use Rattle.ec_exclusive.specs.Forms.{form_of}
-use Rattle.ec_exclusive.specs.Neighbours.{form_at}
-use Rattle.ec_pass.specs.Numbers.{AreNumbersOf, IsKept}
+use Rattle.ec_pass.specs.Numbers.{AreNumbersOf}
 
 -- ---- a number and its term
 

@@ -1,7 +1,7 @@
 -- Behind an instant the numbers that are settled are those of the properties that are current there.
-use Rattle.std.proofs.Common.{◌≡◌, ℕ, ℤ, Bool, true, false, not, ◌&&◌, ◌||◌, List, [], ◌++◌, Option, Some, None, is_some, refl, sym, ap, ap₂, subst, ◌∙◌, ⊎_elim, arith}
-use Rattle.std.specs.Prelude.{◌==◌, int_lt, int_le}
-use Rattle.std.specs.List.{list_all, list_any}
+use Rattle.std.proofs.Common.{◌≡◌, ℕ, ℤ, Bool, true, false, not, ◌&&◌, ◌||◌, List, [], Some, sym, ap, ap₂, subst, ◌∙◌, ⊎_elim, arith}
+use Rattle.std.specs.Prelude.{◌==◌}
+use Rattle.std.specs.List.{list_any}
 use Rattle.std.specs.Ordering.{int_eq}
 use Rattle.std.proofs.lemmas.Bool.{and_parts, eqb-true, or_cases}
 use Rattle.ec_lists.proofs.Booleans.{Bool-from_both}
@@ -9,7 +9,7 @@ use Rattle.ec_lists.proofs.Options.{Some-from_is_some}
 use Rattle.ec_terms.specs.declared.ground.Ground.{Ground}
 use Rattle.ec_terms.specs.declared.ids.PropId.{PropId}
 use Rattle.ec_terms.specs.declared.theory.Theory.{Theory}
-use Rattle.ec_terms.specs.Domain.{GroundEntry, are_exclusive, is_strong}
+use Rattle.ec_terms.specs.Domain.{GroundEntry, is_strong}
 use Rattle.ec_terms.proofs.DomainLemmas.{are_exclusive-comm}
 use Rattle.ec_axioms.specs.Calculus.{Currency, PlainEvent, has_break, has_effect, is_clashing, is_current, is_initiated, is_initiating, is_terminated, is_terminating}
 use Rattle.ec_axioms.specs.Plain.{IsLastBefore}
@@ -22,7 +22,7 @@ use Rattle.ec_exclusive.specs.CurrentProps.{HasForms, MemberForms, is_in}
 use Rattle.ec_exclusive.specs.Neighbours.{both_exclusive, exclusive_at}
 use Rattle.ec_exclusive.proofs.KeptLists.{numbered}
 use Rattle.ec_pass.specs.declared.present.Present.{Present}
-use Rattle.ec_pass.specs.Numbers.{AreNumbersOf, IsKept}
+use Rattle.ec_pass.specs.Numbers.{AreNumbersOf}
 use Rattle.ec_pass.specs.Present.{IsAt}
 use Rattle.ec_pass.specs.Settled.{excludes_any, is_settled}
 use Rattle.ec_pass.proofs.EffectLemmas.{clash_from, clash_to, has_effect-elsewhere}

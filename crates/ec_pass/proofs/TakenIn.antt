@@ -1,7 +1,6 @@
 -- One event more of the present instant.
-use Rattle.std.proofs.Common.{◌≡◌, ℕ, ℤ, Bool, true, ◌&&◌, ◌||◌, List, [], ◌∷◌, ◌++◌, Option, Some, flat_map, map, refl, sym, ap, ap₂, subst, ◌∙◌}
+use Rattle.std.proofs.Common.{◌≡◌, ℕ, Bool, true, ◌&&◌, ◌||◌, List, [], ◌∷◌, ◌++◌, Some, flat_map, map, refl, sym, ap, subst, ◌∙◌}
 use Rattle.std.specs.Prelude.{◌==◌}
-use Rattle.std.specs.List.{list_any}
 use Rattle.std.proofs.lemmas.List.Folds.{list_any-append}
 use Rattle.ec_lists.proofs.Integers.{int_eq-same}
 use Rattle.ec_terms.specs.declared.ground.Ground.{Ground}
@@ -9,9 +8,9 @@ use Rattle.ec_terms.specs.declared.ids.PropId.{PropId}
 use Rattle.ec_terms.specs.declared.theory.Theory.{Theory}
 use Rattle.ec_terms.specs.Domain.{GroundEntry, entries_of}
 use Rattle.ec_terms.specs.Matchable.{IsMatchable}
-use Rattle.ec_axioms.specs.Calculus.{Currency, Effect, PlainEvent, effects_of, has_effect, is_active, is_current, is_initiated, is_initiating, is_terminated, is_terminating}
+use Rattle.ec_axioms.specs.Calculus.{Currency, PlainEvent, effects_of, has_effect, is_current, is_initiated, is_initiating, is_terminated, is_terminating}
 use Rattle.ec_axioms.proofs.Members.{Contains-from_member}
-use Rattle.ec_store.specs.Table.{KeptProp, is_in_order, term_at}
+use Rattle.ec_store.specs.Table.{KeptProp, is_in_order}
 use Rattle.ec_numbered.specs.PropSet.{has_number}
 use Rattle.ec_exclusive.specs.CurrentProps.{HasForms, is_in}
 use Rattle.ec_context.specs.Activity.{IsCurrencyOfTerms}

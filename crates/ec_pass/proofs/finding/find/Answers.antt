@@ -1,12 +1,11 @@
 -- The pass begins with what is initial, takes in all events, and ends.
-use Rattle.std.proofs.Common.{◌≡◌, [], sym, subst}
+use Rattle.std.proofs.Common.{[], sym, subst}
 use Rattle.ec_terms.specs.Matchable.{IsMatchable}
 use Rattle.ec_terms.specs.Term.{ground_of}
 use Rattle.ec_check.specs.WellFormed.{IsWellFormed}
 use Rattle.ec_store.specs.Store.{history_of}
 use Rattle.ec_parts.proofs.ListedInitials.{lists_initials, plain_initials}
 use Rattle.ec_pass.specs.Passing.{IsPassing}
-use Rattle.ec_pass.proofs.PassingLemmas.{IsReady-passing}
 use Rattle.ec_pass.proofs.finding.find.Goals as goal
 
 pub begin-requires-clause-plain : goal.begin-requires-clause-plain

@@ -1,5 +1,5 @@
 -- The events begin with the first one, or there is none.
-use Rattle.std.proofs.Common.{◌≡◌, [], ◌∷◌, drop, sym, ap, ◌∙◌}
+use Rattle.std.proofs.Common.{drop, sym, ap, ◌∙◌}
 use Rattle.ec_axioms.specs.Events.{event_of}
 use Rattle.ec_store.specs.Store.{history_of}
 use Rattle.ec_pass.proofs.Walking.{IsComing-first, IsComing-none, IsNextEvent, next_event, walk_ended}

@@ -1,5 +1,5 @@
 -- One event more is done, and its line is written.
-use Rattle.std.proofs.Common.{◌≡◌, ◌≤◌, ◌∷◌, [], drop, length, take, sym, ap, subst, ◌∙◌, arith}
+use Rattle.std.proofs.Common.{◌≤◌, ◌∷◌, drop, length, take, sym, ap, subst, ◌∙◌, arith}
 use Rattle.std.proofs.lemmas.Result.{IfOk-weaker}
 use Rattle.ec_terms.specs.Term.{ground_of}
 use Rattle.ec_axioms.specs.Events.{event_of}
