@@ -5,7 +5,7 @@ use Rattle.ec_axioms.specs.Calculus.{PlainEvent}
 use Rattle.ec_axioms.specs.Changes.{has_id, with_event}
 use Rattle.ec_axioms.specs.Links.{link_count, mentions_of, most_events, most_links, most_mentions}
 use Rattle.ec_commands.specs.Lines.{is_long, lines_of}
-use Rattle.ec_commands.specs.Commands.{PlainCommand, silent, bad, assert_event, retract_event, begin_draft, commit_draft, abort_draft, ask, ask_pairs, ask_related, ask_last, quit, parsed_of}
+use Rattle.ec_commands.specs.Commands.{PlainCommand, silent, bad, assert_event, retract_event, begin_draft, commit_draft, abort_draft, ask, ask_past, ask_pairs, ask_related, watch_prop, unwatch_prop, ask_last, quit, parsed_of}
 use Rattle.ec_replies.specs.Replies.{Language}
 use Rattle.ec_cert.specs.declared.event_fault.EventName.{EventName}
 use Rattle.ec_cert.specs.declared.event_fault.EventName.TheVariants.{Syntax, Duplicate, FullEvents, FullMentions, FullLinks}
@@ -28,8 +28,11 @@ file_command begin_draft = neither
 file_command commit_draft = neither
 file_command abort_draft = neither
 file_command (ask query) = neither
+file_command (ask_past k query) = neither
 file_command (ask_pairs p r q) = neither
 file_command (ask_related p t r q) = neither
+file_command (watch_prop p) = neither
+file_command (unwatch_prop p) = neither
 file_command ask_last = neither
 file_command quit = neither
 

@@ -38,7 +38,7 @@ above_from p q different not_below = by_order (term_cmp p q) refl
 -- ---- with one property more
 
 -- the members are the new one and the old ones
-IsMember-from_with_property : (p : Ground) (properties : List Ground) (q : Ground) → IsMember (with_property p properties) q → (p ≡ q) ⊎ IsMember properties q
+pub IsMember-from_with_property : (p : Ground) (properties : List Ground) (q : Ground) → IsMember (with_property p properties) q → (p ≡ q) ⊎ IsMember properties q
 IsMember-from_with_property p [] q = λ member. member
 IsMember-from_with_property p (r ∷ properties) q =
     cond_both (term_eq p r) (r ∷ properties) (cond (is_lt (term_cmp p r)) (p ∷ r ∷ properties) (r ∷ with_property p properties))
@@ -50,7 +50,7 @@ IsMember-from_with_property p (r ∷ properties) q =
     (λ _. ⊎_elim (λ first. inr (inl first)) (λ later. ⊎_elim (λ new. inl new) (λ old. inr (inr old)) (IsMember-from_with_property p properties q later))))
 
 -- each of them
-IsMember-with_property : (p : Ground) (properties : List Ground) (q : Ground) → (p ≡ q) ⊎ IsMember properties q → IsMember (with_property p properties) q
+pub IsMember-with_property : (p : Ground) (properties : List Ground) (q : Ground) → (p ≡ q) ⊎ IsMember properties q → IsMember (with_property p properties) q
 IsMember-with_property p [] q member = member
 IsMember-with_property p (r ∷ properties) q member =
     cond_both (term_eq p r) (r ∷ properties) (cond (is_lt (term_cmp p r)) (p ∷ r ∷ properties) (r ∷ with_property p properties))
@@ -63,7 +63,7 @@ IsMember-with_property p (r ∷ properties) q member =
     (⊎_elim (λ first. inl first) (λ later. inr (IsMember-with_property p properties q (inr later)))) member))
 
 -- they ascend
-IsPairwise-with_property : (p : Ground) (properties : List Ground) → IsPairwise IsBelow properties → IsPairwise IsBelow (with_property p properties)
+pub IsPairwise-with_property : (p : Ground) (properties : List Ground) → IsPairwise IsBelow properties → IsPairwise IsBelow (with_property p properties)
 IsPairwise-with_property p [] ascend = (λ q member. absurd member, tt)
 IsPairwise-with_property p (r ∷ properties) ascend =
     cond_both (term_eq p r) (r ∷ properties) (cond (is_lt (term_cmp p r)) (p ∷ r ∷ properties) (r ∷ with_property p properties))

@@ -3,7 +3,7 @@ use Rattle.std.specs.Prelude.{ℕ, List, [], ◌∷◌, ◌++◌, Option, Some, 
 use Rattle.ec_axioms.specs.declared.event.Cut.{Cut}
 use Rattle.ec_axioms.specs.declared.event.Cut.TheVariants.{Duplicate, Unknown, FullEvents, FullMentions, FullLinks}
 use Rattle.ec_axioms.specs.declared.event.Seen.{Seen}
-use Rattle.ec_commands.specs.declared.limits.TheConstants.{MOST_DRAFTED, MOST_PAIRS}
+use Rattle.ec_commands.specs.declared.limits.TheConstants.{MOST_DRAFTED, MOST_PAIRS, MOST_WATCHED}
 use Rattle.ec_axioms.specs.Links.{most_events, most_mentions, most_links}
 
 -- an answer that is one of a few fixed forms
@@ -21,6 +21,11 @@ pub data PlainAnswer : Type 0 where
   refused_full_draft : PlainAnswer
   refused_order : PlainAnswer
   refused_full_pairs : PlainAnswer
+  refused_future : ℕ → PlainAnswer
+  refused_gone : ℕ → PlainAnswer
+  refused_watched : PlainAnswer
+  refused_full_watches : PlainAnswer
+  refused_not_watched : PlainAnswer
   refused_memory : PlainAnswer
   refused_update : Cut → PlainAnswer
   refused_commit : ℕ → Cut → PlainAnswer
@@ -54,6 +59,11 @@ answer_text refused_no_draft = codes "refused no-draft"
 answer_text refused_full_draft = codes "refused full-draft " ++ decimal MOST_DRAFTED
 answer_text refused_order = codes "refused order"
 answer_text refused_full_pairs = codes "refused full-pairs " ++ decimal MOST_PAIRS
+answer_text (refused_future count) = codes "refused future " ++ decimal count
+answer_text (refused_gone first) = codes "refused gone " ++ decimal first
+answer_text refused_watched = codes "refused watched"
+answer_text refused_full_watches = codes "refused full-watches " ++ decimal MOST_WATCHED
+answer_text refused_not_watched = codes "refused not-watched"
 answer_text refused_memory = codes "refused memory"
 answer_text (refused_update cut) = codes "refused " ++ cut_text cut
 answer_text (refused_commit k cut) = codes "refused commit " ++ decimal k ++ codes " " ++ cut_text cut

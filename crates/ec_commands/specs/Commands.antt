@@ -1,5 +1,8 @@
 -- What a line says: its session and its command, by the words of the line.
-use Rattle.std.specs.Prelude.{ℕ, ◌+◌, ◌-◌, ◌*◌, ◌&&◌, ◌==◌, if◌then◌else◌, nat_le, nat_lt, List, [], ◌∷◌, ℤ, Option, Some, None, option_map, option_and_then, codes, bytes_eq, find}
+use Rattle.std.specs.Prelude.{ℕ, ◌+◌, ◌-◌, ◌*◌, ◌^◌, ◌&&◌, ◌==◌, if◌then◌else◌, nat_le, nat_lt, List, [], ◌∷◌, length, ℤ, Option, Some, None, option_map, option_and_then, codes, bytes_eq, find}
+use Rattle.std.specs.Char.{is_ascii_digit}
+use Rattle.std.specs.List.{list_all}
+use Rattle.std.specs.Str.Parse.{digits_value}
 use Rattle.ec_terms.specs.declared.ground.Ground.{Ground}
 use Rattle.ec_terms.specs.Spelling.{is_name}
 use Rattle.ec_terms.specs.Term.{term_value}
@@ -21,7 +24,8 @@ pub data PlainQuery : Type 0 where
   ask_events : PlainQuery
   ask_why : Ground → ℤ → PlainQuery
 
--- a command: `ask` asks a query of the present events, `ask_pairs` and `ask_related` compare the intervals of two properties there
+-- A command: `ask` asks a query of the present events, `ask_past` one of those after so many accepted updates; `ask_pairs` and
+-- `ask_related` compare the intervals of two properties; `watch_prop` has a property's changes noted from then on, `unwatch_prop` no more.
 pub data PlainCommand : Type 0 where
   silent : PlainCommand
   bad : PlainCommand
@@ -31,8 +35,11 @@ pub data PlainCommand : Type 0 where
   commit_draft : PlainCommand
   abort_draft : PlainCommand
   ask : PlainQuery → PlainCommand
+  ask_past : ℕ → PlainQuery → PlainCommand
   ask_pairs : Ground → Relation → Ground → PlainCommand
   ask_related : Ground → ℤ → Relation → Ground → PlainCommand
+  watch_prop : Ground → PlainCommand
+  unwatch_prop : Ground → PlainCommand
   ask_last : PlainCommand
   quit : PlainCommand
 
@@ -113,6 +120,30 @@ command_by spelt Quit words = of_none quit words
 unfoldable pub command_of_words : (List ℕ → Option ℤ) → List (List ℕ) → PlainCommand
 command_of_words spelt [] = bad
 command_of_words spelt (word ∷ words) = if_part (keyword_of word) (λ keyword. command_by spelt keyword words)
+
+-- a number of accepted updates: 1 to 20 digits, below 2 ^ 64
+unfoldable pub count_value : List ℕ → Option ℕ
+count_value word =
+    if nat_le 1 (length word) && nat_le (length word) 20 && list_all is_ascii_digit word && nat_lt (digits_value 10 word) (2 ^ 64)
+    then Some (digits_value 10 word) else None
+
+-- the question of a query about the list after so many accepted updates; bad where the command is no query of one list
+abbrev pub past_query : ℕ → PlainCommand → PlainCommand
+past_query k silent = bad
+past_query k bad = bad
+past_query k (assert_event id t term) = bad
+past_query k (retract_event id) = bad
+past_query k begin_draft = bad
+past_query k commit_draft = bad
+past_query k abort_draft = bad
+past_query k (ask query) = ask_past k query
+past_query k (ask_past n query) = bad
+past_query k (ask_pairs p r q) = bad
+past_query k (ask_related p t r q) = bad
+past_query k (watch_prop p) = bad
+past_query k (unwatch_prop p) = bad
+past_query k ask_last = bad
+past_query k quit = bad
 
 -- a digit's value, or none
 unfoldable pub digit_value_of : ℕ → Option ℕ

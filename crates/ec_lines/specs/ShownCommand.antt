@@ -2,7 +2,7 @@
 use Rattle.std.specs.Prelude.{ℤ, Option, Some, None, IsTrue}
 use Rattle.ec_terms.specs.Term.{ground_of, names_are_names}
 use Rattle.ec_commands.specs.Commands.{PlainQuery, ask_holds, ask_through, ask_intervals, ask_broken, ask_at, ask_clashes, ask_events, ask_why}
-use Rattle.ec_commands.specs.Commands.{PlainCommand, PlainParsed, silent, bad, assert_event, retract_event, begin_draft, commit_draft, abort_draft, ask, ask_pairs, ask_related, ask_last, quit}
+use Rattle.ec_commands.specs.Commands.{PlainCommand, PlainParsed, silent, bad, assert_event, retract_event, begin_draft, commit_draft, abort_draft, ask, ask_past, ask_pairs, ask_related, watch_prop, unwatch_prop, ask_last, quit}
 use Rattle.ec_lines.specs.declared.command.Command.{Command}
 use Rattle.ec_lines.specs.declared.command.Command.TheVariants.{Silent, Bad, Assert, Retract, Begin, Commit, Abort, Ask, Pairs, Related, Last, Quit}
 use Rattle.ec_lines.specs.declared.command.Parsed.{Parsed}
@@ -65,7 +65,10 @@ AreNamed begin_draft = Unit {0}
 AreNamed commit_draft = Unit {0}
 AreNamed abort_draft = Unit {0}
 AreNamed (ask query) = IsNamedQuery query
+AreNamed (ask_past k query) = IsNamedQuery query
 AreNamed (ask_pairs p r q) = IsTrue (names_are_names p) × IsTrue (names_are_names q)
 AreNamed (ask_related p t r q) = IsTrue (names_are_names p) × IsTrue (names_are_names q)
+AreNamed (watch_prop p) = IsTrue (names_are_names p)
+AreNamed (unwatch_prop p) = IsTrue (names_are_names p)
 AreNamed ask_last = Unit {0}
 AreNamed quit = Unit {0}

@@ -123,7 +123,9 @@ impl<T: Moment, M: MarkRow<T>, I: SpanRow<T>, X: TimeRow<T>> Chronicle<T, M, I, 
     {
         let mut batch = match Vec::with_capacity(self.alloc, 1) {
             Ok(batch) => batch,
-            Err(error) => return Err(refused_departure(self.engine(), id, NoMemory::from(error))),
+            Err(error) => {
+                return Err(refused_departure(self.engine(), id, NoMemory::from(error)));
+            }
         };
         batch.push_reserved(Update::Retract(id));
         self.commit(batch.as_slice(), steps)

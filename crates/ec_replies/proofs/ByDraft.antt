@@ -1,9 +1,10 @@
 -- The replies to updates and to what is done with drafts, where the session's draft is known.
-use Rattle.std.proofs.Common.{◌≡◌, ℕ, false, ltb, length, List, [], Option, Some, None}
+use Rattle.std.proofs.Common.{◌≡◌, ◌==◌, ◌||◌, ℕ, false, ltb, length, List, [], Option, Some, None}
 use Rattle.ec_terms.specs.declared.theory.Theory.{Theory}
 use Rattle.ec_axioms.specs.Changes.{PlainUpdate}
 use Rattle.ec_commands.specs.declared.limits.TheConstants.{MOST_DRAFTED}
 use Rattle.ec_commands.specs.Answers.{answer_ok, refused_in_draft, refused_no_draft}
+use Rattle.ec_replies.specs.Past.{commit_weight}
 use Rattle.ec_replies.specs.State.{State, draft_of, with_draft}
 use Rattle.ec_replies.specs.Updates.{updated, updated_by}
 use Rattle.ec_replies.specs.Replies.{answering, update_reply, drafted_reply, commit_reply, reply_to_update, reply_to_begin, reply_to_commit, reply_to_abort}
@@ -41,7 +42,7 @@ module _ (prefix : Option ℕ) (session : ℕ) (state : State) where
   reply_to_begin-open held opened = rw (opened, reply_to_begin)
 
   pub reply_to_commit-open : (theory : Theory) (held : List PlainUpdate) → draft_of session state ≡ Some held
-      → reply_to_commit theory prefix session state ≡ commit_reply theory prefix session state (updated_by theory state.events held)
+      → reply_to_commit theory prefix session state ≡ commit_reply theory prefix session state (commit_weight held) (updated_by theory state.events held)
   unfolding reply_to_commit
   reply_to_commit-open theory held opened = rw (opened, reply_to_commit)
 
@@ -67,6 +68,6 @@ module _ (session : ℕ) (state : State) where
   commit_may_want_memory-closed theory closed = rw (closed, commit_may_want_memory)
 
   pub commit_may_want_memory-open : (theory : Theory) (held : List PlainUpdate) → draft_of session state ≡ Some held
-      → commit_may_want_memory theory session state ≡ batch_may_want_memory theory state.events held
+      → commit_may_want_memory theory session state ≡ (length held == 0 || batch_may_want_memory theory state.events held)
   unfolding commit_may_want_memory
   commit_may_want_memory-open theory held opened = rw (opened, commit_may_want_memory)

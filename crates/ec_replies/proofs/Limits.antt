@@ -1,22 +1,22 @@
--- The list of events and the drafts stay within the limits.
-use Rattle.std.proofs.Common.{◌≡◌, ℕ, ◌+◌, ◌<◌, ◌≤◌, ◌⊎◌, inl, inr, Bool, true, false, not, cond, eqb, ltb, leb, length, get_or, List, [], ◌∷◌, ◌++◌, Option, Some, None, Result, Ok, Err, IsTrue, refl, sym, ◌∙◌, subst, arith, length-append, eqb-true}
-use Rattle.std.specs.Prelude.{slice_set, bytes_eq}
+-- The list of events, the drafts, the past and the watches stay within the limits.
+use Rattle.std.proofs.Common.{◌≡◌, ℕ, ◌+◌, ◌≤◌, ◌⊎◌, inl, inr, Bool, true, false, not, cond, ltb, leb, length, List, [], ◌∷◌, ◌++◌, Option, Some, None, Result, Ok, Err, IsTrue, refl, sym, ◌∙◌, subst, arith, length-append}
+use Rattle.std.specs.Prelude.{bytes_eq}
 use Rattle.std.specs.List.Sorted.{IsPermutation}
 use Rattle.std.proofs.lemmas.Slice.Eq.{bytes_eq-Decides}
-use Rattle.std.proofs.lemmas.Bool.{cases_lt, ltb-false, leb-false}
-use Rattle.std.proofs.lemmas.List.{get_or_past, length-set, get_or-set_same, get_or-set_other, length-replicate}
+use Rattle.std.proofs.lemmas.Bool.{ltb-false, leb-false}
+use Rattle.std.proofs.lemmas.List.{length-set, length-replicate}
+use Rattle.std.proofs.lemmas.List.Elements.{All-cons, All-nil}
 use Rattle.std.proofs.lemmas.List.Sorted.{length_permutation}
-use Rattle.ec_lists.proofs.Numbers.{eqb-apart}
 use Rattle.ec_lists.proofs.Filters.{length-filter_le}
 use Rattle.ec_terms.specs.declared.theory.Theory.{Theory}
 use Rattle.ec_terms.specs.declared.ground.Ground.{Ground}
 use Rattle.ec_axioms.specs.declared.event.Cut.{Cut}
 use Rattle.ec_axioms.specs.declared.event.Cut.TheVariants.{Duplicate, Unknown, FullEvents, FullMentions, FullLinks}
-use Rattle.ec_commands.specs.declared.limits.TheConstants.{MOST_DRAFTED, SESSIONS}
+use Rattle.ec_commands.specs.declared.limits.TheConstants.{MOST_DRAFTED, MOST_PAST, SESSIONS}
 use Rattle.ec_axioms.specs.Calculus.{PlainEvent}
 use Rattle.ec_axioms.specs.Changes.{PlainUpdate, asserting, retracting, after_update, is_history, has_id, comes_before, with_event, without_event}
 use Rattle.ec_commands.specs.Commands.{PlainCommand, parsed_of}
-use Rattle.ec_axioms.specs.Links.{mentions_of, event_mentions, link_count, most_events, most_mentions, most_links}
+use Rattle.ec_axioms.specs.Links.{with_property, mentions_of, event_mentions, link_count, most_events, most_mentions, most_links}
 use Rattle.ec_commands.specs.Lines.{is_long}
 use Rattle.ec_axioms.proofs.Histories.{is_history-with_event, is_history-without_event}
 use Rattle.ec_axioms.proofs.Members.{IsMember, list_any-member}
@@ -24,14 +24,17 @@ use Rattle.ec_changes.specs.LinkLaws.{links_of}
 use Rattle.ec_changes.proofs.LinkSteps.{LinksAreOfMentions-law, LinksInAnyOrder-law, OneMentionMore-law}
 use Rattle.ec_changes.proofs.EventMentions.{MentionsWithoutEvent-law}
 use Rattle.ec_changes.proofs.KeptEvents.{has_event-member}
-use Rattle.ec_replies.specs.State.{Draft, State, with_draft, empty_state}
+use Rattle.ec_replies.specs.Past.{Accepted, commit_weight, empty_past, with_accepted}
+use Rattle.ec_replies.specs.State.{Draft, State, with_draft, watched_by, with_watched, empty_state}
 use Rattle.ec_replies.specs.Updates.{updated, updated_from, asserted, retracted, with_few_mentions}
-use Rattle.ec_replies.specs.Replies.{Language, Reply, session_of, revised}
+use Rattle.ec_replies.specs.Replies.{Language, Reply, session_of, revised, without_property}
 use Rattle.ec_replies.specs.Runs.{Step, Run, RunsOn, is_quit}
 use Rattle.ec_replies.specs.Laws.{line_command, line_prefix}
-use Rattle.ec_replies.specs.RunLaws.{IsListWithinLimits, IsStateWithinLimits, RunsStayWithinLimits, held_count}
+use Rattle.ec_replies.specs.RunLaws.{AreWatched, IsListWithinLimits, IsStateWithinLimits, RunsStayWithinLimits, held_count}
 use Rattle.ec_replies.proofs.Drafts.{draft_of-empty_state}
-use Rattle.ec_replies.proofs.Outcomes.{Outcome, is_kept, is_updated, is_held, is_begun, is_committed, is_dropped, LineOutcome, step_outcome}
+use Rattle.ec_replies.proofs.Watched.{AreWatched-none, AreWatched-with, AreWatched-without, each-set, none_watched}
+use Rattle.ec_replies.proofs.Windows.{WindowsAreWidest-law, length-within_window, within_window-All}
+use Rattle.ec_replies.proofs.Outcomes.{Outcome, is_kept, is_updated, is_held, is_begun, is_committed, is_dropped, is_watching, is_unwatched, LineOutcome, step_outcome}
 
 -- ---- lists of events
 
@@ -147,58 +150,79 @@ updated_from-within theory place events after (update ∷ updates) within is =
 
 -- ---- drafts
 
--- a small draft in the place of another
-held_count-set : (drafts : List Draft) (own session : ℕ) (draft : Draft) → ((k : ℕ) → held_count (get_or drafts k None) ≤ MOST_DRAFTED)
-    → held_count draft ≤ MOST_DRAFTED → held_count (get_or (slice_set drafts own draft) session None) ≤ MOST_DRAFTED
-held_count-set drafts own session draft all small = by_same (eqb own session) refl
-  where
-    by_place : (own < length drafts) ⊎ (length drafts ≤ own) → held_count (get_or (slice_set drafts own draft) own None) ≤ MOST_DRAFTED
-    by_place (inl within) = subst (λ (d : Draft). held_count d ≤ MOST_DRAFTED) (sym (get_or-set_same drafts own draft None within)) small
-    by_place (inr past) =
-        subst (λ (d : Draft). held_count d ≤ MOST_DRAFTED) (sym (get_or_past (slice_set drafts own draft) own None (omega (arith, length-set drafts own draft)))) (omega arith)
-
-    by_same : (b : Bool) → eqb own session ≡ b → held_count (get_or (slice_set drafts own draft) session None) ≤ MOST_DRAFTED
-    by_same true same =
-        subst (λ (k : ℕ). held_count (get_or (slice_set drafts own draft) k None) ≤ MOST_DRAFTED) (eqb-true own session same) (by_place (cases_lt own (length drafts)))
-    by_same false other =
-        subst (λ (d : Draft). held_count d ≤ MOST_DRAFTED) (sym (get_or-set_other drafts own session draft None (eqb-apart own session other))) (all session)
-
--- another draft, and another list
+-- another draft, and other watches
 with_draft-within : (theory : Theory) (session : ℕ) (draft : Draft) (state : State) → held_count draft ≤ MOST_DRAFTED → IsStateWithinLimits theory state
     → IsStateWithinLimits theory (with_draft session draft state)
 with_draft-within theory session draft state small within = record {
   list = within.list;
   sessions = length-set state.drafts session draft ∙ within.sessions;
-  drafts = λ k. held_count-set state.drafts session k draft within.drafts small;
+  drafts = λ k. each-set (λ (d : Draft). held_count d ≤ MOST_DRAFTED) state.drafts session k draft None within.drafts small (omega arith);
+  past = within.past;
+  room = within.room;
+  kept = within.kept;
+  watching = within.watching;
+  watches = within.watches;
 }
 
-revised-within : (theory : Theory) (state : State) (events : List PlainEvent) → IsListWithinLimits theory events → IsStateWithinLimits theory state
-    → IsStateWithinLimits theory (revised theory state events)
-revised-within theory state events list within = record { list = list; sessions = within.sessions; drafts = within.drafts }
+with_watched-within : (theory : Theory) (session : ℕ) (watched : List Ground) (state : State) → AreWatched watched → IsStateWithinLimits theory state
+    → IsStateWithinLimits theory (with_watched session watched state)
+with_watched-within theory session watched state are within = record {
+  list = within.list;
+  sessions = within.sessions;
+  drafts = within.drafts;
+  past = within.past;
+  room = within.room;
+  kept = within.kept;
+  watching = length-set state.watches session watched ∙ within.watching;
+  watches = λ k. each-set AreWatched state.watches session k watched [] within.watches are AreWatched-none;
+}
+
+-- another list, with the one before it in the past
+revised-within : (theory : Theory) (weight : ℕ) (state : State) (events : List PlainEvent) → IsListWithinLimits theory events → IsStateWithinLimits theory state
+    → IsStateWithinLimits theory (revised theory weight state events)
+unfolding with_accepted
+revised-within theory weight state events list within =
+    let update : Accepted = record { before = state.events; weight = weight } in
+    let shorter = length-within_window MOST_PAST (update ∷ state.past.kept) in
+    let counted = within.kept in record {
+      list = list;
+      sessions = within.sessions;
+      drafts = within.drafts;
+      past = within_window-All (λ (u : Accepted). IsListWithinLimits theory u.before) MOST_PAST (update ∷ state.past.kept)
+          (All-cons (λ (u : Accepted). IsListWithinLimits theory u.before) update state.past.kept within.list within.past);
+      room = (WindowsAreWidest-law MOST_PAST (update ∷ state.past.kept)).fits;
+      kept = omega arith;
+      watching = within.watching;
+      watches = within.watches;
+    }
 
 -- ---- steps and runs
 
-Outcome-within : (theory : Theory) (prefix : Option ℕ) (session : ℕ) (state : State) (command : PlainCommand) (reply : Reply) → IsStateWithinLimits theory state
-    → Outcome theory prefix session state command reply → IsStateWithinLimits theory reply.after
-Outcome-within theory prefix session state command reply within (is_kept text) = within
-Outcome-within theory prefix session state command reply within (is_updated update events changes closed is) =
-    revised-within theory state events (updated-within theory state.events events update within.list is) within
-Outcome-within theory prefix session state command reply within (is_held held update opened room) =
-    with_draft-within theory session (Some (held ++ update ∷ [])) state (omega (arith, length-append held (update ∷ []))) within
-Outcome-within theory prefix session state command reply within (is_begun closed) = with_draft-within theory session (Some []) state (omega arith) within
-Outcome-within theory prefix session state command reply within (is_committed held events changes opened is) =
-    with_draft-within theory session None (revised theory state events) (omega arith)
-    (revised-within theory state events (updated_from-within theory 1 state.events events held within.list is) within)
-Outcome-within theory prefix session state command reply within (is_dropped held opened) = with_draft-within theory session None state (omega arith) within
+Outcome-within : (language : Language) (prefix : Option ℕ) (session : ℕ) (state : State) (command : PlainCommand) (reply : Reply) → IsStateWithinLimits language.theory state
+    → Outcome language prefix session state command reply → IsStateWithinLimits language.theory reply.after
+Outcome-within language prefix session state command reply within (is_kept text none) = within
+Outcome-within language prefix session state command reply within (is_updated update events changes closed is) =
+    revised-within language.theory 1 state events (updated-within language.theory state.events events update within.list is) within
+Outcome-within language prefix session state command reply within (is_held held update opened room) =
+    with_draft-within language.theory session (Some (held ++ update ∷ [])) state (omega (arith, length-append held (update ∷ []))) within
+Outcome-within language prefix session state command reply within (is_begun keeps closed) = with_draft-within language.theory session (Some []) state (omega arith) within
+Outcome-within language prefix session state command reply within (is_committed held events changes opened is) =
+    with_draft-within language.theory session None (revised language.theory (commit_weight held) state events) (omega arith)
+    (revised-within language.theory (commit_weight held) state events (updated_from-within language.theory 1 state.events events held within.list is) within)
+Outcome-within language prefix session state command reply within (is_dropped held keeps opened) = with_draft-within language.theory session None state (omega arith) within
+Outcome-within language prefix session state command reply within (is_watching p asks new room) =
+    with_watched-within language.theory session (with_property p (watched_by session state)) state (AreWatched-with p (watched_by session state) room (within.watches session)) within
+Outcome-within language prefix session state command reply within (is_unwatched p asks was) =
+    with_watched-within language.theory session (without_property p (watched_by session state)) state (AreWatched-without p (watched_by session state) (within.watches session)) within
 
-step-within : (language : Language) (state after : State) (line text : List ℕ) → IsStateWithinLimits language.theory state → Step language state line text after
+pub step-within : (language : Language) (state after : State) (line text : List ℕ) → IsStateWithinLimits language.theory state → Step language state line text after
     → IsStateWithinLimits language.theory after
 step-within language state after line text within step = by_length (step_outcome language state after line text step)
   where
     by_length : ((is_long line ≡ true) × (after ≡ state)) ⊎ ((is_long line ≡ false) × LineOutcome language state line text after) → IsStateWithinLimits language.theory after
     by_length (inl long) = subst (IsStateWithinLimits language.theory) (sym long.1) within
     by_length (inr short) =
-        Outcome-within language.theory (line_prefix language line) (session_of (parsed_of language.spelt line)) state (line_command language line)
+        Outcome-within language (line_prefix language line) (session_of (parsed_of language.spelt line)) state (line_command language line)
         (record { text = text; after = after }) within short.1
 
 run-within : (language : Language) (state after : State) (lines : List (List ℕ)) (out : List ℕ) → IsStateWithinLimits language.theory state
@@ -215,11 +239,16 @@ run-within language state after (line ∷ lines) out within run =
 
 -- before the first line
 empty_state-within : (theory : Theory) → IsStateWithinLimits theory empty_state
-unfolding empty_state is_history mentions_of link_count
+unfolding empty_state empty_past is_history mentions_of link_count
 empty_state-within theory = record {
   list = record { history = refl; few_events = omega arith; few_mentions = omega arith; few_links = omega arith };
   sessions = length-replicate {A = Draft} SESSIONS None;
   drafts = λ session. subst (λ (d : Draft). held_count d ≤ MOST_DRAFTED) (sym (draft_of-empty_state session)) (omega arith);
+  past = All-nil (λ (update : Accepted). IsListWithinLimits theory update.before);
+  room = omega arith;
+  kept = omega arith;
+  watching = length-replicate {A = List Ground} SESSIONS [];
+  watches = λ session. subst AreWatched (sym (none_watched session)) AreWatched-none;
 }
 
 pub RunsStayWithinLimits-law : RunsStayWithinLimits

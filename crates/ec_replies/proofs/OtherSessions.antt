@@ -1,5 +1,6 @@
 -- A run without the lines of a session that leaves the events as they are.
-use Rattle.std.proofs.Common.{◌≡◌, ◌≢◌, ℕ, ◌⊎◌, inl, inr, Bool, true, false, not, ◌&&◌, cond, eqb, eqb-true, length, List, [], ◌∷◌, ◌++◌, Option, Some, None, IsTrue, IsFalse, refl, sym, ap, ◌∙◌, subst, arith}
+use Rattle.std.proofs.Common.{◌≡◌, ◌≢◌, ℕ, ◌⊎◌, inl, inr, Bool, true, false, not, ◌&&◌, ◌||◌, ◌==◌, cond, eqb, eqb-true, length, List, [], ◌∷◌, ◌++◌, Option, Some, None, IsTrue, IsFalse, refl, sym, ap, ◌∙◌, subst, arith}
+use Rattle.std.specs.Prelude.{nat_le}
 use Rattle.std.proofs.lemmas.Bool.{false≢true, eq-eqb}
 use Rattle.std.proofs.lemmas.List.{length-set}
 use Rattle.std.proofs.lemmas.List.Elements.{All-head, All-tail}
@@ -8,18 +9,18 @@ use Rattle.ec_lists.proofs.Tests.{list_all-filter}
 use Rattle.ec_axioms.specs.Calculus.{PlainEvent}
 use Rattle.ec_axioms.specs.Changes.{PlainUpdate, asserting, retracting}
 use Rattle.ec_commands.specs.Lines.{is_long}
-use Rattle.ec_commands.specs.Commands.{PlainCommand, silent, bad, assert_event, retract_event, begin_draft, commit_draft, abort_draft, ask, ask_pairs, ask_related, ask_last, quit, parsed_of}
-use Rattle.ec_commands.specs.Answers.{answer_ok, answer_text}
+use Rattle.ec_commands.specs.Commands.{PlainCommand, silent, bad, assert_event, retract_event, begin_draft, commit_draft, abort_draft, ask, ask_past, ask_pairs, ask_related, watch_prop, unwatch_prop, ask_last, quit, parsed_of}
+use Rattle.ec_replies.specs.Past.{Past, first_kept}
 use Rattle.ec_replies.specs.State.{Draft, State, draft_of}
 use Rattle.ec_replies.specs.Updates.{updated}
-use Rattle.ec_replies.specs.Replies.{Language, Reply, session_of, reply_line, reply_of}
+use Rattle.ec_replies.specs.Replies.{Language, Reply, is_backwards, session_of, reply_of}
 use Rattle.ec_replies.specs.Runs.{Step, is_quit, may_want_memory, command_may_want_memory, update_may_want_memory, batch_may_want_memory, commit_may_want_memory, may_want_by}
-use Rattle.ec_replies.specs.Laws.{IsSameTo, is_line_of, may_change, line_command, line_prefix}
-use Rattle.ec_replies.specs.RunLaws.{Answered, is_unanswered, GoesOn, RunOf, IsWithoutEffect, without_session, SessionsWithoutEffectAreUnseen}
+use Rattle.ec_replies.specs.Laws.{BeginsWithOk, IsSameTo, is_line_of, line_command, line_prefix}
+use Rattle.ec_replies.specs.RunLaws.{Answered, is_unanswered, GoesOn, RunOf, IsWithoutEffect, is_watch, is_unwatch, may_show, without_session, SessionsWithoutEffectAreUnseen}
 use Rattle.ec_replies.proofs.ByDraft.{update_may_want_memory-closed, update_may_want_memory-open, commit_may_want_memory-closed, commit_may_want_memory-open}
 use Rattle.ec_replies.proofs.OwnDraft.{reply_of-long, is_line_of-parts, RepliesDependOnOwnDraft-law}
-use Rattle.ec_replies.proofs.Outcomes.{Outcome, is_kept, is_updated, is_held, is_begun, is_committed, is_dropped, LineOutcome, step_outcome}
-use Rattle.ec_replies.proofs.StepLaws.{OthersKeepADraft-law}
+use Rattle.ec_replies.proofs.Outcomes.{Outcome, is_kept, is_updated, is_held, is_begun, is_committed, is_dropped, is_watching, is_unwatched, LineOutcome, step_outcome}
+use Rattle.ec_replies.proofs.StepLaws.{OthersKeepADraft-law, alone}
 use Rattle.ec_replies.proofs.AnsweredLines.{run-from_answered}
 
 -- two states are the same to each session but one
@@ -28,9 +29,18 @@ record AreSameBut (session : ℕ) (state other : State) : Type 0 where
   last : state.last ≡ other.last
   drafts : (k : ℕ) → k ≢ session → draft_of k state ≡ draft_of k other
   sessions : length state.drafts ≡ length other.drafts
+  past : state.past ≡ other.past
+  watches : state.watches ≡ other.watches
 
 same_to : (session k : ℕ) (state other : State) → k ≢ session → AreSameBut session state other → IsSameTo k state other
-same_to session k state other apart same = record { events = same.events; last = same.last; draft = same.drafts k apart; sessions = same.sessions }
+same_to session k state other apart same = record {
+  events = same.events;
+  last = same.last;
+  draft = same.drafts k apart;
+  sessions = same.sessions;
+  past = same.past;
+  watches = same.watches;
+}
 
 -- ---- memory
 
@@ -58,7 +68,7 @@ commit_may_want_memory-same language session state other same = by_draft (draft_
         commit_may_want_memory-closed session state language.theory is ∙ sym (commit_may_want_memory-closed session other language.theory (sym same.draft ∙ is))
     by_draft (Some held) is =
         commit_may_want_memory-open session state language.theory held is
-        ∙ ap (λ (events : List PlainEvent). batch_may_want_memory language.theory events held) same.events
+        ∙ ap (λ (events : List PlainEvent). length held == 0 || batch_may_want_memory language.theory events held) same.events
         ∙ sym (commit_may_want_memory-open session other language.theory held (sym same.draft ∙ is))
 
 command_may_want_memory-same : (language : Language) (session : ℕ) (state other : State) (command : PlainCommand) → IsSameTo session state other
@@ -73,8 +83,12 @@ command_may_want_memory-same language session state other begin_draft same = ref
 command_may_want_memory-same language session state other commit_draft same = commit_may_want_memory-same language session state other same
 command_may_want_memory-same language session state other abort_draft same = refl
 command_may_want_memory-same language session state other (ask query) same = refl
+command_may_want_memory-same language session state other (ask_past k query) same =
+    ap (λ (past : Past). not (is_backwards query) && nat_le k past.count && nat_le (first_kept past) k) same.past
 command_may_want_memory-same language session state other (ask_pairs p r q) same = refl
 command_may_want_memory-same language session state other (ask_related p t r q) same = refl
+command_may_want_memory-same language session state other (watch_prop p) same = refl
+command_may_want_memory-same language session state other (unwatch_prop p) same = refl
 command_may_want_memory-same language session state other ask_last same = refl
 command_may_want_memory-same language session state other quit same = refl
 
@@ -126,6 +140,8 @@ module _ (language : Language) (session : ℕ) where
     last = here.last;
     drafts = λ k apart. by_own k apart (eqb k own) refl;
     sessions = here.sessions;
+    past = here.past;
+    watches = here.watches;
   }
     where
       by_own : (k : ℕ) → k ≢ session → (b : Bool) → eqb k own ≡ b → draft_of k next ≡ draft_of k after
@@ -181,33 +197,45 @@ module _ (language : Language) (session : ℕ) where
 
   -- ---- the session's own lines
 
-  -- a reply that makes no update leaves the events and the counts
-  Outcome-unseen : (prefix : Option ℕ) (own : ℕ) (state : State) (command : PlainCommand) (reply : Reply)
-      → (may_change command ≡ true → reply.text ≢ reply_line prefix (answer_text answer_ok)) → Outcome language.theory prefix own state command reply
-      → (reply.after.events ≡ state.events) × (reply.after.last ≡ state.last) × (length reply.after.drafts ≡ length state.drafts)
-  Outcome-unseen prefix own state command reply no_ok (is_kept text) = (refl, refl, refl)
-  Outcome-unseen prefix own state command reply no_ok (is_updated update events changes closed is) = absurd (no_ok changes refl)
-  Outcome-unseen prefix own state command reply no_ok (is_held held update opened room) = (refl, refl, length-set state.drafts own (Some (held ++ update ∷ [])))
-  Outcome-unseen prefix own state command reply no_ok (is_begun closed) = (refl, refl, length-set state.drafts own (Some []))
-  Outcome-unseen prefix own state command reply no_ok (is_committed held events changes opened is) = absurd (no_ok changes refl)
-  Outcome-unseen prefix own state command reply no_ok (is_dropped held opened) = (refl, refl, length-set state.drafts own None)
+  -- what another session sees of a state but drafts
+  abbrev IsUnseen : State → State → Type 0
+  IsUnseen state after =
+      (after.events ≡ state.events) × (after.last ≡ state.last) × (length after.drafts ≡ length state.drafts) × (after.past ≡ state.past) × (after.watches ≡ state.watches)
+
+  -- a reply that makes no update, and begins or ends no watch, leaves all but drafts
+  Outcome-unseen : (prefix : Option ℕ) (own : ℕ) (state : State) (command : PlainCommand) (reply : Reply) → is_watch command ≡ false
+      → (may_show command ≡ true → BeginsWithOk prefix reply.text → ⊥) → Outcome language prefix own state command reply → IsUnseen state reply.after
+  Outcome-unseen prefix own state command reply no_watch no_ok (is_kept text none) = (refl, refl, refl, refl, refl)
+  Outcome-unseen prefix own state command reply no_watch no_ok (is_updated update events changes closed is) =
+      absurd (no_ok (ap (λ (b : Bool). b || is_unwatch command) changes) (_, refl))
+  Outcome-unseen prefix own state command reply no_watch no_ok (is_held held update opened room) =
+      (refl, refl, length-set state.drafts own (Some (held ++ update ∷ [])), refl, refl)
+  Outcome-unseen prefix own state command reply no_watch no_ok (is_begun keeps closed) = (refl, refl, length-set state.drafts own (Some []), refl, refl)
+  Outcome-unseen prefix own state command reply no_watch no_ok (is_committed held events changes opened is) =
+      absurd (no_ok (ap (λ (b : Bool). b || is_unwatch command) changes) (_, refl))
+  Outcome-unseen prefix own state command reply no_watch no_ok (is_dropped held keeps opened) = (refl, refl, length-set state.drafts own None, refl, refl)
+  Outcome-unseen prefix own state command reply no_watch no_ok (is_watching p asks new room) = absurd (false≢true (sym no_watch ∙ ap is_watch asks))
+  Outcome-unseen prefix own state command reply no_watch no_ok (is_unwatched p asks was) = absurd (no_ok (ap may_show asks) (alone prefix))
 
   -- a step of the session that makes no update is seen by no other
   step-unseen : (state next other : State) (line text : List ℕ) → IsTrue (is_line_of language session line)
-      → (may_change (line_command language line) ≡ true → text ≢ reply_line (line_prefix language line) (answer_text answer_ok))
+      → is_watch (line_command language line) ≡ false
+      → (may_show (line_command language line) ≡ true → BeginsWithOk (line_prefix language line) text → ⊥)
       → AreSameBut session state other → Step language state line text next → AreSameBut session next other
-  step-unseen state next other line text mine no_ok same step = by_length (step_outcome language state next line text step)
+  step-unseen state next other line text mine no_watch no_ok same step = by_length (step_outcome language state next line text step)
     where
       by_length : ((is_long line ≡ true) × (next ≡ state)) ⊎ ((is_long line ≡ false) × LineOutcome language state line text next) → AreSameBut session next other
       by_length (inl long) = subst (λ (s : State). AreSameBut session s other) (sym long.1) same
       by_length (inr short) =
           let unseen = Outcome-unseen (line_prefix language line) (session_of (parsed_of language.spelt line)) state (line_command language line)
-          (record { text = text; after = next }) no_ok short.1 in
+          (record { text = text; after = next }) no_watch no_ok short.1 in
           record {
             events = unseen.0 ∙ same.events;
             last = unseen.1 ∙ same.last;
             drafts = λ k apart. OthersKeepADraft-law language k state next line text (is_line_of-apart language session k line mine apart) step ∙ same.drafts k apart;
             sessions = unseen.2 ∙ same.sessions;
+            past = unseen.3 ∙ same.past;
+            watches = unseen.4 ∙ same.watches;
           }
 
   -- ---- runs
@@ -237,7 +265,7 @@ module _ (language : Language) (session : ℕ) where
           → ((next reached : State) → AreSameBut session next reached → RunOf language next rest after → (last : State) × RunOf language reached (others rest) last)
           → (last : State) × RunOf language other (cond (not own) (one ∷ others rest) (others rest)) last
       by_own true mine later =
-          later run.0 other (step-unseen state run.0 other one.line one.text mine (effect.no_ok mine) same run.1)
+          later run.0 other (step-unseen state run.0 other one.line one.text mine (effect.no_watch mine) (effect.no_ok mine) same run.1)
           (subst (λ (q : Bool). GoesOn q rest run.0 after (RunOf language run.0 rest after)) (effect.no_quit mine) run.2)
       by_own false none later =
           let step = step-follows state run.0 other one.line one.text none same run.1 in
@@ -247,5 +275,5 @@ module _ (language : Language) (session : ℕ) where
 pub SessionsWithoutEffectAreUnseen-law : SessionsWithoutEffectAreUnseen
 SessionsWithoutEffectAreUnseen-law language session state after answered all run =
     let follows = run-follows language session state after state answered
-    (record { events = refl; last = refl; drafts = λ k apart. refl; sessions = refl }) all run in
+    (record { events = refl; last = refl; drafts = λ k apart. refl; sessions = refl; past = refl; watches = refl }) all run in
     (follows.0, run-from_answered language state follows.0 (without_session language session answered) follows.1)

@@ -4,11 +4,11 @@ use Rattle.std.proofs.lemmas.Bool.{and_parts, false≢true}
 use Rattle.std.proofs.lemmas.List.{append-nil}
 use Rattle.std.specs.List.{list_all}
 use Rattle.ec_commands.specs.Lines.{is_long}
-use Rattle.ec_commands.specs.Commands.{PlainCommand, silent, bad, assert_event, retract_event, begin_draft, commit_draft, abort_draft, ask, ask_pairs, ask_related, ask_last, quit, parsed_of}
+use Rattle.ec_commands.specs.Commands.{PlainCommand, silent, bad, assert_event, retract_event, begin_draft, commit_draft, abort_draft, ask, ask_past, ask_pairs, ask_related, watch_prop, unwatch_prop, ask_last, quit, parsed_of}
 use Rattle.ec_replies.specs.State.{State}
 use Rattle.ec_replies.specs.Replies.{Language, session_of}
 use Rattle.ec_replies.specs.Runs.{Step, IsReply, is_quit, has_quit, Run, RunsOn, may_want_memory, command_may_want_memory}
-use Rattle.ec_replies.specs.Laws.{may_change, line_command}
+use Rattle.ec_replies.specs.Laws.{may_change, is_past_query, line_command}
 use Rattle.ec_replies.specs.RunLaws.{RunsGoOn, is_without_memory, WithoutMemoryARunIsOne}
 
 module _ (language : Language) where
@@ -114,8 +114,8 @@ module _ (language : Language) where
 
 -- ---- memory
 
--- memory is wanting for no command but an assert, a retract or a commit
-command_without_memory : (language : Language) (session : ℕ) (state : State) (command : PlainCommand) → may_change command ≡ false
+-- memory is wanting for no command but an assert, a retract, a commit or a question about the past
+command_without_memory : (language : Language) (session : ℕ) (state : State) (command : PlainCommand) → (may_change command || is_past_query command) ≡ false
     → command_may_want_memory language.theory session state command ≡ false
 unfolding command_may_want_memory
 command_without_memory language session state silent keeps = refl
@@ -126,8 +126,11 @@ command_without_memory language session state begin_draft keeps = refl
 command_without_memory language session state commit_draft keeps = cc
 command_without_memory language session state abort_draft keeps = refl
 command_without_memory language session state (ask query) keeps = refl
+command_without_memory language session state (ask_past k query) keeps = cc
 command_without_memory language session state (ask_pairs p r q) keeps = refl
 command_without_memory language session state (ask_related p t r q) keeps = refl
+command_without_memory language session state (watch_prop p) keeps = refl
+command_without_memory language session state (unwatch_prop p) keeps = refl
 command_without_memory language session state ask_last keeps = refl
 command_without_memory language session state quit keeps = refl
 
@@ -137,7 +140,7 @@ pub step_without_memory : (language : Language) (state after : State) (line text
 unfolding is_without_memory may_want_memory
 step_without_memory language state after line text without (inl answered) = answered
 step_without_memory language state after line text without (inr refused) =
-    absurd (false≢true (sym (none (is_long line) (may_change (line_command language line)) without
+    absurd (false≢true (sym (none (is_long line) (may_change (line_command language line) || is_past_query (line_command language line)) without
     (command_without_memory language (session_of (parsed_of language.spelt line)) state (line_command language line))) ∙ refused.may))
   where
     none : (long changes : Bool) → (long || not changes) ≡ true

@@ -1,8 +1,10 @@
 -- What a window over accepted updates keeps.
-use Rattle.std.proofs.Common.{◌≡◌, ℕ, ◌+◌, ◌-◌, ◌<◌, ◌≤◌, Bool, true, false, cond, leb, List, [], ◌∷◌, ◌++◌, refl, sym, ap, subst, ◌∙◌, arith}
+use Rattle.std.proofs.Common.{◌≡◌, ℕ, ◌+◌, ◌-◌, ◌<◌, ◌≤◌, Bool, true, false, cond, leb, List, [], ◌∷◌, ◌++◌, All, length, take, refl, sym, ap, subst, ◌∙◌, arith}
 use Rattle.std.proofs.lemmas.Bool.{cond-true, cond-false, le-leb, leb-true, leb-false, lt-leb}
-use Rattle.ec_replies.specs.Past.{Accepted, within_window}
-use Rattle.ec_replies.specs.PastLaws.{IsWidestWindow, WindowsAreWidest, WindowsNeedNoMore, total_weight}
+use Rattle.std.proofs.lemmas.List.{length-take}
+use Rattle.std.proofs.lemmas.List.Elements.{All-same, All-take}
+use Rattle.ec_replies.specs.Past.{Accepted, total_weight, within_window}
+use Rattle.ec_replies.specs.PastLaws.{IsWidestWindow, WindowsAreWidest, WindowsNeedNoMore}
 
 -- all updates are kept where there is room for all
 pub within_window-all : (room : ℕ) (all : List Accepted) → total_weight all ≤ room → within_window room all ≡ all
@@ -71,3 +73,14 @@ WindowsAreWidest-law room (update ∷ earlier) = by_test (leb update.weight room
           fits = omega arith;
           widest = λ oldest there. let same : update ≡ oldest = cc in subst (λ (it : Accepted). room < 0 + it.weight) same (omega arith);
         }
+
+-- what is said of all updates is said of those that are kept
+pub within_window-All : (P : Accepted → Type 0) (room : ℕ) (all : List Accepted) → All P all → All P (within_window room all)
+within_window-All P room all each =
+    let widest = WindowsAreWidest-law room all in All-same P (within_window room all) (take (length (within_window room all)) all) widest.front (All-take P (length (within_window room all)) all each)
+
+-- no more are kept than there are
+pub length-within_window : (room : ℕ) (all : List Accepted) → length (within_window room all) ≤ length all
+length-within_window room all =
+    let widest = WindowsAreWidest-law room all in
+    let taken = ap length widest.front ∙ length-take (length (within_window room all)) all in omega (arith, taken)

@@ -23,6 +23,11 @@ unfoldable pub within_window : ℕ → List Accepted → List Accepted
 within_window room [] = []
 within_window room (update ∷ earlier) = if nat_le update.weight room then update ∷ within_window (room - update.weight) earlier else []
 
+-- the weights of accepted updates together
+abbrev pub total_weight : List Accepted → ℕ
+total_weight [] = 0
+total_weight (update ∷ earlier) = update.weight + total_weight earlier
+
 -- the weight of a commit of these updates
 abbrev pub commit_weight : List PlainUpdate → ℕ
 commit_weight held = if length held == 0 then 1 else length held

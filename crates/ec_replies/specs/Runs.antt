@@ -1,5 +1,5 @@
 -- The step that a line makes, for which memory may be wanting, and the run that lines make.
-use Rattle.std.specs.Prelude.{◌≡◌, ◌⊎◌, ℕ, Bool, true, false, not, ◌&&◌, nat_lt, List, [], ◌∷◌, ◌++◌, Some, None, Result, Ok, Err, length, IsTrue}
+use Rattle.std.specs.Prelude.{◌≡◌, ◌⊎◌, ℕ, Bool, true, false, not, ◌&&◌, ◌||◌, ◌==◌, nat_lt, nat_le, List, [], ◌∷◌, ◌++◌, Some, None, Result, Ok, Err, length, IsTrue}
 use Rattle.std.specs.List.{list_any}
 use Rattle.ec_terms.specs.declared.theory.Theory.{Theory}
 use Rattle.ec_axioms.specs.declared.event.Cut.{Cut}
@@ -8,11 +8,12 @@ use Rattle.ec_commands.specs.declared.limits.TheConstants.{MOST_DRAFTED}
 use Rattle.ec_axioms.specs.Calculus.{PlainEvent}
 use Rattle.ec_axioms.specs.Changes.{PlainUpdate, asserting, retracting}
 use Rattle.ec_commands.specs.Lines.{is_long}
-use Rattle.ec_commands.specs.Commands.{PlainCommand, silent, bad, assert_event, retract_event, begin_draft, commit_draft, abort_draft, ask, ask_pairs, ask_related, ask_last, quit, PlainParsed, parsed_of}
+use Rattle.ec_commands.specs.Commands.{PlainQuery, PlainCommand, silent, bad, assert_event, retract_event, begin_draft, commit_draft, abort_draft, ask, ask_past, ask_pairs, ask_related, watch_prop, unwatch_prop, ask_last, quit, PlainParsed, parsed_of}
 use Rattle.ec_commands.specs.Answers.{refused_memory, answer_text}
+use Rattle.ec_replies.specs.Past.{first_kept}
 use Rattle.ec_replies.specs.State.{Draft, State, draft_of, empty_state}
 use Rattle.ec_replies.specs.Updates.{updated}
-use Rattle.ec_replies.specs.Replies.{Language, reply_line, reply_of, session_of}
+use Rattle.ec_replies.specs.Replies.{Language, is_backwards, reply_line, reply_of, session_of}
 
 -- ---- want of memory
 
@@ -43,13 +44,18 @@ unfoldable pub batch_may_want_memory : Theory → List PlainEvent → List Plain
 batch_may_want_memory theory events [] = false
 batch_may_want_memory theory events (update ∷ updates) = may_want_by (updated theory events update)
 
--- memory may be wanting for a commit, if the draft is open and it may for the updates that it holds
+-- memory may be wanting for a commit, if the draft is open and it may for the updates that it holds, or if it holds none, since that
+-- is counted as an accepted update
 unfoldable pub commit_may_want_memory : Theory → ℕ → State → Bool
 commit_may_want_memory theory session state = by_draft (draft_of session state)
   where
     by_draft : Draft → Bool
     by_draft None = false
-    by_draft (Some held) = batch_may_want_memory theory state.events held
+    by_draft (Some held) = length held == 0 || batch_may_want_memory theory state.events held
+
+-- memory may be wanting for a question about the past, unless it is refused
+abbrev pub past_may_want_memory : State → ℕ → PlainQuery → Bool
+past_may_want_memory state k query = not (is_backwards query) && nat_le k state.past.count && nat_le (first_kept state.past) k
 
 -- memory may be wanting for a command
 unfoldable pub command_may_want_memory : Theory → ℕ → State → PlainCommand → Bool
@@ -61,8 +67,11 @@ command_may_want_memory theory session state begin_draft = false
 command_may_want_memory theory session state commit_draft = commit_may_want_memory theory session state
 command_may_want_memory theory session state abort_draft = false
 command_may_want_memory theory session state (ask query) = false
+command_may_want_memory theory session state (ask_past k query) = past_may_want_memory state k query
 command_may_want_memory theory session state (ask_pairs p r q) = false
 command_may_want_memory theory session state (ask_related p t r q) = false
+command_may_want_memory theory session state (watch_prop p) = false
+command_may_want_memory theory session state (unwatch_prop p) = false
 command_may_want_memory theory session state ask_last = false
 command_may_want_memory theory session state quit = false
 
@@ -91,7 +100,7 @@ pub record IsMemoryRefusal (language : Language) (state : State) (line text : Li
   pub text_is : text ≡ memory_text language line
   pub after_is : after ≡ state
 
--- A step: a line is answered by its reply, or it is an update that is refused for want of memory.
+-- A step: a line is answered by its reply, or it is an update or a question about the past that is refused for want of memory.
 abbrev pub Step : Language → State → List ℕ → List ℕ → State → Type 0
 Step language state line text after = IsReply language state line text after ⊎ IsMemoryRefusal language state line text after
 
@@ -105,8 +114,11 @@ command_quits begin_draft = false
 command_quits commit_draft = false
 command_quits abort_draft = false
 command_quits (ask query) = false
+command_quits (ask_past k query) = false
 command_quits (ask_pairs p r q) = false
 command_quits (ask_related p t r q) = false
+command_quits (watch_prop p) = false
+command_quits (unwatch_prop p) = false
 command_quits ask_last = false
 command_quits quit = true
 

@@ -7,12 +7,19 @@ mod laws_replies;
 mod laws_runs;
 mod worked;
 
-pub use laws_notes::{no_note_where_nothing_differs_law, notes_tell_the_intervals_law};
-pub use laws_past::{accepted_updates_can_be_taken_back_law, windows_are_widest_law};
+pub use laws_notes::{
+    followed_notes_tell_the_intervals_law, no_note_where_nothing_differs_law, notes_are_told_law,
+    notes_tell_the_intervals_law,
+};
+pub use laws_past::{
+    accepted_updates_are_counted_law, accepted_updates_can_be_taken_back_law,
+    the_past_is_remembered_law, the_window_is_widest_law, windows_are_widest_law,
+};
 pub use laws_replies::{
     begins_and_aborts_law, commits_are_whole_law, only_accepted_lines_change_law,
     others_keep_a_draft_law, queries_ignore_drafts_law, replies_depend_on_own_draft_law,
-    updates_are_made_or_held_law, without_memory_a_step_is_the_reply_law,
+    updates_are_made_or_held_law, watches_and_unwatches_law, watches_show_in_notes_alone_law,
+    without_memory_a_step_is_the_reply_law,
 };
 pub use laws_runs::{
     output_tells_the_state_law, runs_are_of_lines_law, runs_go_on_law, runs_stay_within_limits_law,
@@ -20,5 +27,6 @@ pub use laws_runs::{
 };
 pub use worked::{
     a_commit_is_refused_at_its_second_update, a_lamp_is_plugged_and_pushed,
-    a_state_has_all_drafts_closed, two_sessions_do_not_see_each_other,
+    a_state_has_all_drafts_closed, a_watched_lamp_is_noted, two_sessions_do_not_see_each_other,
+    what_was_known_is_asked_for,
 };

@@ -3,12 +3,14 @@ use Rattle.std.proofs.Common.{◌≡◌, ◌⊎◌, inl, inr, ℕ, Bool, true, f
 use Rattle.std.specs.Prelude.{ℤ}
 use Rattle.ec_commands.specs.Commands.{PlainQuery, PlainCommand, silent, bad, quit, assert_event, retract_event, begin_draft, commit_draft, abort_draft, ask, ask_last, PlainParsed, parsed_of}
 use Rattle.ec_commands.specs.Answers.{PlainAnswer, answer_bye, answer_last, answer_text, refused_long_line, refused_memory, refused_syntax}
-use Rattle.ec_axioms.specs.Changes.{asserting, retracting}
+use Rattle.ec_axioms.specs.Changes.{PlainUpdate, asserting, retracting}
+use Rattle.ec_commands.specs.declared.limits.TheConstants.{SESSIONS}
 use Rattle.ec_commands.specs.Lines.{is_long}
 use Rattle.ec_terms.specs.declared.ground.Ground.{Ground}
 use Rattle.ec_replies.specs.State.{State}
-use Rattle.ec_replies.specs.Replies.{Language, Reply, session_of, answering, reply_line, query_text, command_reply, parsed_reply, reply_of, reply_to_update, reply_to_begin, reply_to_commit, reply_to_abort}
+use Rattle.ec_replies.specs.Replies.{Language, Reply, noted, session_of, answering, reply_line, query_text, command_reply, parsed_reply, reply_of, reply_to_update, reply_to_begin, reply_to_commit, reply_to_abort}
 use Rattle.ec_replies.specs.Runs.{Step, is_quit, command_quits, command_may_want_memory, parsed_may_want_memory, may_want_memory, update_may_want_memory, commit_may_want_memory}
+use Rattle.ec_replies.proofs.Outcomes.{noted-unwatched}
 use Rattle.ec_replies.proofs.OwnDraft.{reply_of-long, reply_of-short}
 use Rattle.ec_sessions.specs.declared.handled.Handled.{Handled}
 use Rattle.ec_sessions.specs.declared.handled.Handled.TheVariants.{Go, Bye, WriteFault}
@@ -16,6 +18,7 @@ use Rattle.ec_sessions.specs.declared.told.Comparison.{Comparison}
 use Rattle.ec_sessions.specs.declared.told.Comparison.TheVariants.{Pairs, Related}
 use Rattle.ec_sessions.specs.Answering.{IsAnswerBy, IsAnswerTo, IsWritten, comparison_text, is_bye, plain_comparison}
 use Rattle.ec_sessions.specs.Handling.{IsHandled}
+use Rattle.ec_sessions.specs.SessionsState.{no_watches}
 
 -- ---- commands
 
@@ -81,24 +84,40 @@ module _ (language : Language) (session : ℕ) (before : State) where
   unfolding command_reply
   IsAnswerTo-abort answer after replies goes_on = record { by = inl replies; quits = goes_on }
 
-  pub IsAnswerTo-commit : (answer : PlainAnswer) (after : State)
+  -- the answer to a reply is that to the reply with its notes, where nothing is watched
+  noted_answer : (reply : Option ℕ → Reply) (may : Bool) (answer : PlainAnswer) (after : State) → before.watches ≡ no_watches → IsAnswerBy reply may before answer after
+      → IsAnswerBy (λ prefix. noted language before (reply prefix)) may before answer after
+  noted_answer reply may answer after unwatched (inl replies) = inl (λ prefix. noted-unwatched language before (reply prefix) SESSIONS unwatched ∙ replies prefix)
+  noted_answer reply may answer after unwatched (inr wanting) = inr wanting
+
+  pub IsAnswerTo-commit : (answer : PlainAnswer) (after : State) → before.watches ≡ no_watches
       → IsAnswerBy (λ prefix. reply_to_commit language.theory prefix session before) (commit_may_want_memory language.theory session before) before answer after → is_bye answer ≡ false
       → IsAnswerTo language session before commit_draft answer after
   unfolding command_reply command_may_want_memory
-  IsAnswerTo-commit answer after by goes_on = record { by = by; quits = goes_on }
+  IsAnswerTo-commit answer after unwatched by goes_on = record {
+    by = noted_answer (λ prefix. reply_to_commit language.theory prefix session before) (commit_may_want_memory language.theory session before) answer after unwatched by;
+    quits = goes_on;
+  }
 
-  pub IsAnswerTo-assert : (id : List ℕ) (t : ℤ) (term : Ground) (answer : PlainAnswer) (after : State)
+  pub IsAnswerTo-assert : (id : List ℕ) (t : ℤ) (term : Ground) (answer : PlainAnswer) (after : State) → before.watches ≡ no_watches
       → IsAnswerBy (λ prefix. reply_to_update language.theory prefix session before (asserting (record { id = id; rank = t; term = term })))
       (update_may_want_memory language.theory session before (asserting (record { id = id; rank = t; term = term }))) before answer after → is_bye answer ≡ false
       → IsAnswerTo language session before (assert_event id t term) answer after
   unfolding command_reply command_may_want_memory
-  IsAnswerTo-assert id t term answer after by goes_on = record { by = by; quits = goes_on }
+  IsAnswerTo-assert id t term answer after unwatched by goes_on =
+      let update : PlainUpdate = asserting (record { id = id; rank = t; term = term }) in record {
+        by = noted_answer (λ prefix. reply_to_update language.theory prefix session before update) (update_may_want_memory language.theory session before update) answer after unwatched by;
+        quits = goes_on;
+      }
 
-  pub IsAnswerTo-retract : (id : List ℕ) (answer : PlainAnswer) (after : State)
+  pub IsAnswerTo-retract : (id : List ℕ) (answer : PlainAnswer) (after : State) → before.watches ≡ no_watches
       → IsAnswerBy (λ prefix. reply_to_update language.theory prefix session before (retracting id)) (update_may_want_memory language.theory session before (retracting id)) before answer after
       → is_bye answer ≡ false → IsAnswerTo language session before (retract_event id) answer after
   unfolding command_reply command_may_want_memory
-  IsAnswerTo-retract id answer after by goes_on = record { by = by; quits = goes_on }
+  IsAnswerTo-retract id answer after unwatched by goes_on = record {
+    by = noted_answer (λ prefix. reply_to_update language.theory prefix session before (retracting id)) (update_may_want_memory language.theory session before (retracting id)) answer after unwatched by;
+    quits = goes_on;
+  }
 
 -- an answer to a command that is this one
 pub IsAnswerTo-same : (language : Language) (session : ℕ) (before : State) (command told : PlainCommand) (answer : PlainAnswer) (after : State) → command ≡ told

@@ -23,14 +23,14 @@ module _ (theory : Theory) (session : ℕ) (state : State) (update : PlainUpdate
 
   pub reply_to_update-held : (count : ℕ) (drafts : List Draft) → IsOpenWithRoom (draft_of session state)
       → ((held : List PlainUpdate) → draft_of session state ≡ Some held → (drafts ≡ slice_set state.drafts session (Some (held ++ update ∷ []))) × (count ≡ length held + 1))
-      → (prefix : Option ℕ) → reply_to_update theory prefix session state update ≡ answering prefix (answer_drafted count) (record { events = state.events; last = state.last; drafts = drafts })
+      → (prefix : Option ℕ) → reply_to_update theory prefix session state update ≡ answering prefix (answer_drafted count) (record state { drafts = drafts })
   reply_to_update-held count drafts room pushed prefix =
       let held = room.0 in
       let told = pushed held room.1 in
       reply_to_update-open prefix session state theory update held room.1
       ∙ ap (λ (b : Bool). if b then answering prefix (answer_drafted (length held + 1)) (with_draft session (Some (held ++ update ∷ [])) state) else answering prefix refused_full_draft state)
       (lt-ltb (length held) MOST_DRAFTED room.2)
-      ∙ ap₂ (λ (ds : List Draft) (n : ℕ). answering prefix (answer_drafted n) (record { events = state.events; last = state.last; drafts = ds })) (sym told.0) (sym told.1)
+      ∙ ap₂ (λ (ds : List Draft) (n : ℕ). answering prefix (answer_drafted n) (record state { drafts = ds })) (sym told.0) (sym told.1)
 
   pub update_may_want_memory-room : IsOpenWithRoom (draft_of session state) → IsTrue (update_may_want_memory theory session state update)
   update_may_want_memory-room room = update_may_want_memory-open session state theory update room.0 room.1 ∙ lt-ltb (length room.0) MOST_DRAFTED room.2

@@ -1,5 +1,5 @@
 -- How many steps an update, a commit and a line may take, where the draft is known.
-use Rattle.std.proofs.Common.{◌≡◌, ℕ, true, false, List, [], ◌∷◌, Some, None}
+use Rattle.std.proofs.Common.{◌≡◌, ◌+◌, ℕ, length, true, false, List, [], ◌∷◌, Some, None}
 use Rattle.ec_terms.specs.declared.theory.Theory.{Theory}
 use Rattle.ec_axioms.specs.Changes.{PlainUpdate}
 use Rattle.ec_commands.specs.Commands.{parsed_of}
@@ -10,7 +10,7 @@ use Rattle.ec_engine.specs.Revise.{most_steps}
 use Rattle.ec_sessions.specs.LineSteps.{most_update_steps, most_commit_steps, most_parsed_steps, most_line_steps}
 
 module _ (theory : Theory) (session : ℕ) (state : State) where
-  pub most_update_steps-closed : (update : PlainUpdate) → draft_of session state ≡ None → most_update_steps theory session state update ≡ most_steps theory state.events (update ∷ [])
+  pub most_update_steps-closed : (update : PlainUpdate) → draft_of session state ≡ None → most_update_steps theory session state update ≡ most_steps theory state.events (update ∷ []) + 1
   unfolding most_update_steps
   most_update_steps-closed update closed = rw (closed, most_update_steps)
 
@@ -18,7 +18,7 @@ module _ (theory : Theory) (session : ℕ) (state : State) where
   unfolding most_update_steps
   most_update_steps-open update held opened = rw (opened, most_update_steps)
 
-  pub most_commit_steps-open : (held : List PlainUpdate) → draft_of session state ≡ Some held → most_commit_steps theory session state ≡ most_steps theory state.events held
+  pub most_commit_steps-open : (held : List PlainUpdate) → draft_of session state ≡ Some held → most_commit_steps theory session state ≡ most_steps theory state.events held + length held
   unfolding most_commit_steps
   most_commit_steps-open held opened = rw (opened, most_commit_steps)
 

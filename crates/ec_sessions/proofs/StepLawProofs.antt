@@ -5,7 +5,7 @@ use Rattle.ec_terms.specs.declared.theory.Theory.{Theory}
 use Rattle.ec_axioms.specs.Calculus.{PlainEvent}
 use Rattle.ec_axioms.specs.Changes.{PlainUpdate, asserting, retracting}
 use Rattle.ec_commands.specs.Commands.{ask_events, ask_why}
-use Rattle.ec_commands.specs.Commands.{PlainCommand, silent, bad, assert_event, retract_event, begin_draft, commit_draft, abort_draft, ask, ask_pairs, ask_related, ask_last, quit, parsed_of}
+use Rattle.ec_commands.specs.Commands.{PlainCommand, silent, bad, assert_event, retract_event, begin_draft, commit_draft, abort_draft, ask, ask_past, ask_pairs, ask_related, watch_prop, unwatch_prop, ask_last, quit, parsed_of}
 use Rattle.ec_commands.specs.Lines.{is_long}
 use Rattle.ec_replies.specs.State.{State}
 use Rattle.ec_replies.specs.Replies.{Language, session_of}
@@ -41,8 +41,11 @@ no_steps theory session state begin_draft none = refl
 no_steps theory session state commit_draft none = absurd (true≢false (sym none))
 no_steps theory session state abort_draft none = refl
 no_steps theory session state (ask query) none = zero-add (reading_steps theory state.events (reading_of query)) ∙ no_query_steps theory state.events (reading_of query) none
+no_steps theory session state (ask_past k query) none = refl
 no_steps theory session state (ask_pairs p r q) none = refl
 no_steps theory session state (ask_related p t r q) none = refl
+no_steps theory session state (watch_prop p) none = refl
+no_steps theory session state (unwatch_prop p) none = refl
 no_steps theory session state ask_last none = refl
 no_steps theory session state quit none = refl
 

@@ -5,28 +5,28 @@ use Rattle.ec_terms.specs.declared.theory.Theory.{Theory}
 use Rattle.ec_axioms.specs.Calculus.{PlainEvent}
 use Rattle.ec_axioms.specs.Changes.{PlainUpdate, asserting, retracting}
 use Rattle.ec_commands.specs.Commands.{PlainQuery, ask_holds, ask_through, ask_intervals, ask_broken, ask_at, ask_clashes, ask_events, ask_why}
-use Rattle.ec_commands.specs.Commands.{PlainCommand, silent, bad, assert_event, retract_event, begin_draft, commit_draft, abort_draft, ask, ask_pairs, ask_related, ask_last, quit, PlainParsed, parsed_of}
+use Rattle.ec_commands.specs.Commands.{PlainCommand, silent, bad, assert_event, retract_event, begin_draft, commit_draft, abort_draft, ask, ask_past, ask_pairs, ask_related, watch_prop, unwatch_prop, ask_last, quit, PlainParsed, parsed_of}
 use Rattle.ec_commands.specs.Lines.{is_long}
 use Rattle.ec_engine.specs.Revise.{most_steps}
 use Rattle.ec_query.specs.ReasonSteps.{why_steps}
 use Rattle.ec_replies.specs.State.{Draft, State, draft_of}
 use Rattle.ec_replies.specs.Replies.{Language, session_of}
 
--- an update, while the draft is closed: those of a batch of it alone; none while it is open
+-- an update, while the draft is closed: those of a batch of it alone, and one for its record; none while it is open
 unfoldable pub most_update_steps : Theory → ℕ → State → PlainUpdate → ℕ
 most_update_steps theory session state update = by_draft (draft_of session state)
   where
     by_draft : Draft → ℕ
-    by_draft None = most_steps theory state.events (update ∷ [])
+    by_draft None = most_steps theory state.events (update ∷ []) + 1
     by_draft (Some held) = 0
 
--- a commit: those of its draft; none where there is no draft
+-- a commit: those of its draft, and one for the record of each update; none where there is no draft
 unfoldable pub most_commit_steps : Theory → ℕ → State → ℕ
 most_commit_steps theory session state = by_draft (draft_of session state)
   where
     by_draft : Draft → ℕ
     by_draft None = 0
-    by_draft (Some held) = most_steps theory state.events held
+    by_draft (Some held) = most_steps theory state.events held + length held
 
 -- the change that a command makes
 unfoldable pub most_change_steps : Theory → ℕ → State → PlainCommand → ℕ
@@ -38,8 +38,11 @@ most_change_steps theory session state begin_draft = 0
 most_change_steps theory session state commit_draft = most_commit_steps theory session state
 most_change_steps theory session state abort_draft = 0
 most_change_steps theory session state (ask query) = 0
+most_change_steps theory session state (ask_past k query) = 0
 most_change_steps theory session state (ask_pairs p r q) = 0
 most_change_steps theory session state (ask_related p t r q) = 0
+most_change_steps theory session state (watch_prop p) = 0
+most_change_steps theory session state (unwatch_prop p) = 0
 most_change_steps theory session state ask_last = 0
 most_change_steps theory session state quit = 0
 
@@ -79,8 +82,11 @@ most_asked_steps theory events begin_draft = 0
 most_asked_steps theory events commit_draft = 0
 most_asked_steps theory events abort_draft = 0
 most_asked_steps theory events (ask query) = most_query_steps theory events query
+most_asked_steps theory events (ask_past k query) = 0
 most_asked_steps theory events (ask_pairs p r q) = 0
 most_asked_steps theory events (ask_related p t r q) = 0
+most_asked_steps theory events (watch_prop p) = 0
+most_asked_steps theory events (unwatch_prop p) = 0
 most_asked_steps theory events ask_last = 0
 most_asked_steps theory events quit = 0
 

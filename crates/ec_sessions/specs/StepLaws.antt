@@ -3,7 +3,7 @@ use Rattle.std.specs.Prelude.{◌≡◌, ℕ, ℤ, Bool, true, false, ◌||◌, 
 use Rattle.ec_terms.specs.declared.ground.Ground.{Ground}
 use Rattle.ec_axioms.specs.Changes.{PlainUpdate}
 use Rattle.ec_commands.specs.Commands.{ask_events, ask_why}
-use Rattle.ec_commands.specs.Commands.{PlainCommand, silent, bad, assert_event, retract_event, begin_draft, commit_draft, abort_draft, ask, ask_pairs, ask_related, ask_last, quit, parsed_of}
+use Rattle.ec_commands.specs.Commands.{PlainCommand, silent, bad, assert_event, retract_event, begin_draft, commit_draft, abort_draft, ask, ask_past, ask_pairs, ask_related, watch_prop, unwatch_prop, ask_last, quit, parsed_of}
 use Rattle.ec_commands.specs.Lines.{is_long}
 use Rattle.ec_engine.specs.Revise.{most_steps}
 use Rattle.ec_query.specs.ReasonSteps.{why_steps}
@@ -28,8 +28,11 @@ reads_no_event begin_draft = true
 reads_no_event commit_draft = false
 reads_no_event abort_draft = true
 reads_no_event (ask query) = is_none (reading_of query)
+reads_no_event (ask_past k query) = is_none (reading_of query)
 reads_no_event (ask_pairs p r q) = true
 reads_no_event (ask_related p t r q) = true
+reads_no_event (watch_prop p) = true
+reads_no_event (unwatch_prop p) = true
 reads_no_event ask_last = true
 reads_no_event quit = true
 
@@ -55,8 +58,9 @@ HeldUpdatesTakeNoStep =
     (language : Language) (state : State) (line : List ℕ) (update : PlainUpdate) → IsFalse (is_long line) → asked_update (line_command language line) ≡ Some update
     → IsOpen (session_of (parsed_of language.spelt line)) state → most_line_steps language state line ≡ 0
 
--- A commit takes the steps of its draft as one batch.
+-- A commit takes the steps of its draft as one batch, and one for the record of each update.
 abbrev pub CommitsTakeTheirBatch : Type 0
 CommitsTakeTheirBatch =
     (language : Language) (state : State) (line : List ℕ) (held : List PlainUpdate) → IsFalse (is_long line) → line_command language line ≡ commit_draft
-    → draft_of (session_of (parsed_of language.spelt line)) state ≡ Some held → most_line_steps language state line ≡ most_steps language.theory state.events held
+    → draft_of (session_of (parsed_of language.spelt line)) state ≡ Some held
+    → most_line_steps language state line ≡ most_steps language.theory state.events held + length held

@@ -103,6 +103,6 @@ impl<T: Moment, M: MarkRow<T>, I: SpanRow<T>, X: TimeRow<T>> Sessions<T, M, I, X
         ensures counted { K.faults out.old ≤ K.faults out.new }
         ensures steps { steps.new ≤ steps.old + most_query_steps self.now.theory self.now.state.events (plain_query T.rank query.now) }
     {
-        reply_to_query(&self.engine, prefix, query, out, steps)
+        reply_to_query(self.chronicle.engine(), prefix, query, out, steps)
     }
 }

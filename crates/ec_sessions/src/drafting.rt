@@ -60,7 +60,7 @@ impl<T: Moment, M: MarkRow<T>, I: SpanRow<T>, X: TimeRow<T>> Sessions<T, M, I, X
         let Some(held) = self.drafts.held(session) else {
             return Answer::NoDraft;
         };
-        match self.engine.revise(held, steps) {
+        match self.chronicle.commit(held, steps) {
             Ok(seen) => {
                 self.last = seen;
                 self.drafts.close(session);

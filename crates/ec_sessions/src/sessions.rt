@@ -17,11 +17,11 @@ use crate::reply::reply;
 use crate::told::{Comparison, Told};
 use ec_axioms::{Seen, Steps};
 use ec_check::Checked;
-use ec_engine::Engine;
 use ec_lines::{Answer, Command, Line, Parsed, read_command};
 use ec_lists::NoMemory;
 use ec_moment::Moment;
 use ec_outside::Sink;
+use ec_past::Chronicle;
 use ec_rows::{MarkRow, SpanRow, TimeRow};
 use std::alloc::Global;
 use std::marker::Model;
@@ -35,22 +35,23 @@ const NO_CHANGE: Seen = Seen {
     props: 0,
 };
 
-/// What lines are answered from: the engine, which keeps the present events and what the calculus makes of them; what the
-/// last accepted update changed; and the draft of each session. Contracts see the theory and the state of the replies.
+/// What lines are answered from: the chronicle, which keeps the present events, what the calculus makes of them, and their past;
+/// what the last accepted update changed; and the draft of each session. Contracts see the theory and the state of the replies, in
+/// which nothing is watched.
 #[derive(Drop)]
 pub struct Sessions<T: Moment, M: MarkRow<T>, I: SpanRow<T>, X: TimeRow<T>> {
-    pub(crate) engine: Engine<T, M, I, X>,
+    pub(crate) chronicle: Chronicle<T, M, I, X>,
     pub(crate) last: Seen,
     pub(crate) drafts: Drafts<T>,
     pub(crate) alloc: Global,
 }
 
 impl<T: Moment, M: MarkRow<T>, I: SpanRow<T>, X: TimeRow<T>> Model for Sessions<T, M, I, X> {
-    ghost use Rattle.ec_sessions.specs.SessionsState.{SessionsState};
+    ghost use Rattle.ec_sessions.specs.SessionsState.{SessionsState, kept_state};
 
     ghost Value = { SessionsState };
 
-    ghost view = { λ s. record { theory = s.engine.theory; state = record { events = s.engine.events; last = s.last; drafts = s.drafts } } };
+    ghost view = { λ s. record { theory = s.chronicle.theory; state = kept_state s.chronicle.events s.chronicle.past s.last s.drafts } };
 }
 
 impl<T: Moment, M: MarkRow<T>, I: SpanRow<T>, X: TimeRow<T>> Sessions<T, M, I, X> {
@@ -59,10 +60,10 @@ impl<T: Moment, M: MarkRow<T>, I: SpanRow<T>, X: TimeRow<T>> Sessions<T, M, I, X
         ensures theory { IfOk result (λ sessions. sessions.theory ≡ checked) }
         ensures empty { IfOk result (λ sessions. sessions.state ≡ empty_state) }
     {
-        let engine = Engine::new(alloc, checked)?;
+        let chronicle = Chronicle::new(alloc, checked)?;
         let drafts = Drafts::new(alloc)?;
         Ok(Sessions {
-            engine,
+            chronicle,
             last: NO_CHANGE,
             drafts,
             alloc,

@@ -8,6 +8,8 @@ ghost use Rattle.ec_axioms.specs.Changes.{PlainUpdate, asserting, retracting};
 ghost use Rattle.ec_axioms.specs.Events.{event_of, plain_update};
 ghost use Rattle.ec_engine.specs.Revise.{IsRevised, most_steps};
 ghost use Rattle.ec_lines.specs.ShownAnswer.{plain_answer};
+ghost use Rattle.ec_past.specs.Chronicles.{IsPastAfter};
+ghost use Rattle.ec_replies.specs.Past.{Past};
 ghost use Rattle.ec_replies.specs.State.{State, draft_of};
 ghost use Rattle.ec_replies.specs.Replies.{reply_to_update, update_reply};
 ghost use Rattle.ec_replies.specs.Runs.{may_want_by, update_may_want_memory};
@@ -15,6 +17,7 @@ ghost use Rattle.ec_replies.specs.Updates.{asserted, retracted, updated};
 ghost use Rattle.ec_sessions.specs.Answering.{IsAnswerBy, is_bye};
 ghost use Rattle.ec_sessions.specs.Drafts.{IsOpenWithRoom};
 ghost use Rattle.ec_sessions.specs.LineSteps.{most_update_steps};
+ghost use Rattle.ec_sessions.specs.SessionsState.{revised_state};
 
 use crate::drafts::Room;
 use crate::sessions::Sessions;
@@ -104,9 +107,9 @@ impl<T: Moment, M: MarkRow<T>, I: SpanRow<T>, X: TimeRow<T>> Sessions<T, M, I, X
         ensures reply { let outcome = asserted self.old.theory self.old.state.events (record { id = id; rank = T.rank at; term = ground_of event.now }) in
             IsAnswerBy (λ prefix. update_reply self.old.theory prefix self.old.state outcome) (may_want_by outcome) self.old.state (plain_answer result) self.new.state }
         ensures goes_on { is_bye (plain_answer result) ≡ false }
-        ensures steps { steps.new ≤ steps.old + most_steps self.old.theory self.old.state.events (asserting (record { id = id; rank = T.rank at; term = ground_of event.now }) ∷ []) }
+        ensures steps { steps.new ≤ steps.old + most_steps self.old.theory self.old.state.events (asserting (record { id = id; rank = T.rank at; term = ground_of event.now }) ∷ []) + 1 }
     {
-        let revised = self.engine.assert(id, at, event, steps);
+        let revised = self.chronicle.assert(id, at, event, steps);
         answer_revised(&mut self.last, revised)
     }
 
@@ -116,17 +119,18 @@ impl<T: Moment, M: MarkRow<T>, I: SpanRow<T>, X: TimeRow<T>> Sessions<T, M, I, X
         ensures reply { let outcome = retracted self.old.state.events id in
             IsAnswerBy (λ prefix. update_reply self.old.theory prefix self.old.state outcome) (may_want_by outcome) self.old.state (plain_answer result) self.new.state }
         ensures goes_on { is_bye (plain_answer result) ≡ false }
-        ensures steps { steps.new ≤ steps.old + most_steps self.old.theory self.old.state.events (retracting id ∷ []) }
+        ensures steps { steps.new ≤ steps.old + most_steps self.old.theory self.old.state.events (retracting id ∷ []) + 1 }
     {
-        let revised = self.engine.retract(id, steps);
+        let revised = self.chronicle.retract(id, steps);
         answer_revised(&mut self.last, revised)
     }
 }
 
 /// The answer to an update, by what came of it. If it is made, `last` becomes what it changed.
 fn answer_revised(last: &mut Seen, revised: Result<Seen, Refusal>) -> Answer
-    ensures reply { (theory : Theory) (state : State) (update : PlainUpdate) (after : List PlainEvent) → state.last ≡ last.old → IsRevised theory state.events (update ∷ []) revised after →
-        IsAnswerBy (λ prefix. update_reply theory prefix state (updated theory state.events update)) (may_want_by (updated theory state.events update)) state (plain_answer result) (record { events = after; last = last.new; drafts = state.drafts }) }
+    ensures reply { (theory : Theory) (state : State) (update : PlainUpdate) (after : List PlainEvent) (past : Past) →
+        state.last ≡ last.old → IsRevised theory state.events (update ∷ []) revised after → IsPastAfter 1 state.events state.past revised past →
+        IsAnswerBy (λ prefix. update_reply theory prefix state (updated theory state.events update)) (may_want_by (updated theory state.events update)) state (plain_answer result) (revised_state after past last.new state) }
     ensures goes_on { is_bye (plain_answer result) ≡ false }
 {
     match revised {

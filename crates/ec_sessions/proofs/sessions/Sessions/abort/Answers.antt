@@ -4,13 +4,13 @@ use Rattle.ec_commands.specs.Answers.{answer_ok}
 use Rattle.ec_replies.specs.State.{Draft, State, draft_of}
 use Rattle.ec_replies.specs.Replies.{answering, reply_to_abort}
 use Rattle.ec_replies.proofs.ByDraft.{reply_to_abort-closed, reply_to_abort-open}
-use Rattle.ec_sessions.specs.SessionsState.{SessionsState}
+use Rattle.ec_sessions.specs.SessionsState.{SessionsState, kept_state}
 use Rattle.ec_sessions.proofs.sessions.Sessions.abort.Goals as goal
 
 pub returns-in-Some-clause-reply : goal.returns-in-Some-clause-reply
 returns-in-Some-clause-reply g c =
-    let inside : State = record { events = c.self.inside.engine.events; last = c.self.inside.last; drafts = c.self.inside.drafts } in
-    let after : List Draft → State = λ ds. record { events = inside.events; last = inside.last; drafts = ds } in
+    let inside : State = kept_state c.self.inside.chronicle.events c.self.inside.chronicle.past c.self.inside.last c.self.inside.drafts in
+    let after : List Draft → State = λ ds. record inside { drafts = ds } in
     subst (λ (d : SessionsState). (prefix : Option ℕ) → reply_to_abort prefix c.args.session d.state ≡ answering prefix answer_ok (after c.close.new.self)) c.self.view_is
     (λ prefix. reply_to_abort-open prefix c.args.session inside _ c.in-Some.ensures.open ∙ ap (λ ds. answering prefix answer_ok (after ds)) (sym c.close.ensures))
 

@@ -1,5 +1,5 @@
 -- Each command is answered as its reply says.
-use Rattle.std.proofs.Common.{◌+◌, ◌≤◌, sym, ap, ◌∙◌, subst}
+use Rattle.std.proofs.Common.{◌≡◌, ◌+◌, ◌≤◌, refl, sym, ap, ◌∙◌, subst}
 use Rattle.ec_terms.specs.Term.{ground_of}
 use Rattle.ec_axioms.specs.declared.event.Seen.{Seen}
 use Rattle.ec_commands.specs.Answers.{answer_bye, answer_last, refused_syntax}
@@ -9,9 +9,13 @@ use Rattle.ec_lines.specs.ShownCommand.{plain_command}
 use Rattle.ec_replies.specs.Replies.{Language}
 use Rattle.ec_sessions.specs.Answering.{IsAnswerTo}
 use Rattle.ec_sessions.specs.LineSteps.{most_change_steps}
-use Rattle.ec_sessions.specs.SessionsState.{SessionsState}
+use Rattle.ec_sessions.specs.SessionsState.{SessionsState, no_watches}
 use Rattle.ec_sessions.proofs.AnsweredLines.{IsAnswerTo-abort, IsAnswerTo-assert, IsAnswerTo-bad, IsAnswerTo-begin, IsAnswerTo-commit, IsAnswerTo-last, IsAnswerTo-quit, IsAnswerTo-retract, IsAnswerTo-same}
 use Rattle.ec_sessions.proofs.sessions.Sessions.answer.Goals as goal
+
+-- nothing is watched
+unwatched : {inside : SessionsState} {seen : SessionsState} → inside ≡ seen → inside.state.watches ≡ no_watches → seen.state.watches ≡ no_watches
+unwatched same none = ap (λ (d : SessionsState). d.state.watches) (sym same) ∙ none
 
 pub returns-in-Bad-clause-told : goal.returns-in-Bad-clause-told
 returns-in-Bad-clause-told g c =
@@ -25,7 +29,7 @@ returns-in-Assert-clause-told g c =
     let language : Language = record { theory = c.args.self.now.theory; spelt = g.T.Moment.spelt; canon = g.T.Moment.canon } in
     let rank = g.T.Moment.rank in
     IsAnswerTo-same language c.args.session c.args.self.now.state _ (assert_event c.in-Assert.id (rank c.in-Assert.at) (ground_of c.in-Assert.event)) (plain_answer c.assert.result) c.assert.new.self.state (ap (plain_command rank) c.in-Assert.is)
-    (IsAnswerTo-assert language c.args.session c.args.self.now.state c.in-Assert.id (rank c.in-Assert.at) (ground_of c.in-Assert.event) (plain_answer c.assert.result) c.assert.new.self.state c.assert.ensures.reply c.assert.ensures.goes_on)
+    (IsAnswerTo-assert language c.args.session c.args.self.now.state c.in-Assert.id (rank c.in-Assert.at) (ground_of c.in-Assert.event) (plain_answer c.assert.result) c.assert.new.self.state (unwatched c.self.view_is refl) c.assert.ensures.reply c.assert.ensures.goes_on)
 
 pub returns-in-Assert-clause-steps : goal.returns-in-Assert-clause-steps
 unfolding most_change_steps
@@ -39,7 +43,7 @@ returns-in-Retract-clause-told g c =
     let language : Language = record { theory = c.args.self.now.theory; spelt = g.T.Moment.spelt; canon = g.T.Moment.canon } in
     let rank = g.T.Moment.rank in
     IsAnswerTo-same language c.args.session c.args.self.now.state _ (retract_event c.in-Retract.id) (plain_answer c.retract.result) c.retract.new.self.state (ap (plain_command rank) c.in-Retract.is)
-    (IsAnswerTo-retract language c.args.session c.args.self.now.state c.in-Retract.id (plain_answer c.retract.result) c.retract.new.self.state c.retract.ensures.reply c.retract.ensures.goes_on)
+    (IsAnswerTo-retract language c.args.session c.args.self.now.state c.in-Retract.id (plain_answer c.retract.result) c.retract.new.self.state (unwatched c.self.view_is refl) c.retract.ensures.reply c.retract.ensures.goes_on)
 
 pub returns-in-Retract-clause-steps : goal.returns-in-Retract-clause-steps
 unfolding most_change_steps
@@ -60,7 +64,7 @@ returns-in-Commit-clause-told g c =
     let language : Language = record { theory = c.args.self.now.theory; spelt = g.T.Moment.spelt; canon = g.T.Moment.canon } in
     let rank = g.T.Moment.rank in
     IsAnswerTo-same language c.args.session c.args.self.now.state _ commit_draft (plain_answer c.commit.result) c.commit.new.self.state (ap (plain_command rank) c.in-Commit.is)
-    (IsAnswerTo-commit language c.args.session c.args.self.now.state (plain_answer c.commit.result) c.commit.new.self.state c.commit.ensures.reply c.commit.ensures.goes_on)
+    (IsAnswerTo-commit language c.args.session c.args.self.now.state (plain_answer c.commit.result) c.commit.new.self.state (unwatched c.self.view_is refl) c.commit.ensures.reply c.commit.ensures.goes_on)
 
 pub returns-in-Commit-clause-steps : goal.returns-in-Commit-clause-steps
 unfolding most_change_steps

@@ -1,5 +1,5 @@
 -- By the draft: the update is made, held, or refused because the draft is full.
-use Rattle.std.proofs.Common.{◌+◌, ◌≤◌, ℕ, inl, inr, refl, sym, ap, ◌∙◌, subst}
+use Rattle.std.proofs.Common.{◌+◌, ◌≤◌, ℕ, inl, inr, refl, sym, ap, ◌∙◌, subst, arith}
 use Rattle.ec_terms.specs.Term.{ground_of}
 use Rattle.ec_axioms.specs.Changes.{PlainUpdate, asserting}
 use Rattle.ec_lines.specs.ShownAnswer.{plain_answer}
@@ -20,7 +20,7 @@ pub returns-in-Closed-clause-steps : goal.returns-in-Closed-clause-steps
 returns-in-Closed-clause-steps g c =
     let update : PlainUpdate = asserting (record { id = c.args.id; rank = g.T.Moment.rank c.args.at; term = ground_of c.args.event.now }) in
     let closed = ap (λ (d : SessionsState). draft_of c.args.session d.state) (sym c.self.view_is) ∙ c.in-Closed.ensures in
-    subst (λ (n : ℕ). c.assert_at_once.new.steps ≤ c.args.steps.now + n) (sym (most_update_steps-closed c.args.self.now.theory c.args.session c.args.self.now.state update closed)) c.assert_at_once.ensures.steps
+    subst (λ (n : ℕ). c.assert_at_once.new.steps ≤ c.args.steps.now + n) (sym (most_update_steps-closed c.args.self.now.theory c.args.session c.args.self.now.state update closed)) (omega (arith, c.assert_at_once.ensures.steps))
 
 pub returns-in-Err-clause-reply : goal.returns-in-Err-clause-reply
 returns-in-Err-clause-reply g c =

@@ -1,5 +1,5 @@
 -- By the draft: the update is made, held, or refused because the draft is full.
-use Rattle.std.proofs.Common.{◌+◌, ◌≤◌, ℕ, inl, sym, ap, ◌∙◌, subst}
+use Rattle.std.proofs.Common.{◌+◌, ◌≤◌, ℕ, inl, sym, ap, ◌∙◌, subst, arith}
 use Rattle.ec_axioms.specs.Changes.{PlainUpdate, retracting}
 use Rattle.ec_lines.specs.ShownAnswer.{plain_answer}
 use Rattle.ec_replies.specs.State.{draft_of}
@@ -19,7 +19,7 @@ pub returns-in-Closed-clause-steps : goal.returns-in-Closed-clause-steps
 returns-in-Closed-clause-steps g c =
     let update : PlainUpdate = retracting c.args.id in
     let closed = ap (λ (d : SessionsState). draft_of c.args.session d.state) (sym c.self.view_is) ∙ c.in-Closed.ensures in
-    subst (λ (n : ℕ). c.retract_at_once.new.steps ≤ c.args.steps.now + n) (sym (most_update_steps-closed c.args.self.now.theory c.args.session c.args.self.now.state update closed)) c.retract_at_once.ensures.steps
+    subst (λ (n : ℕ). c.retract_at_once.new.steps ≤ c.args.steps.now + n) (sym (most_update_steps-closed c.args.self.now.theory c.args.session c.args.self.now.state update closed)) (omega (arith, c.retract_at_once.ensures.steps))
 
 pub returns-in-Full-clause-reply : goal.returns-in-Full-clause-reply
 returns-in-Full-clause-reply g c =
