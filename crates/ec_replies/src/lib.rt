@@ -27,6 +27,6 @@ pub use laws_runs::{
 };
 pub use worked::{
     a_commit_is_refused_at_its_second_update, a_lamp_is_plugged_and_pushed,
-    a_state_has_all_drafts_closed, a_watched_lamp_is_noted, two_sessions_do_not_see_each_other,
-    what_was_known_is_asked_for,
+    a_state_has_all_drafts_closed, a_watched_lamp_is_noted, two_lamps_are_compared,
+    two_sessions_do_not_see_each_other, what_was_known_is_asked_for,
 };

@@ -57,3 +57,13 @@ pub fn a_watched_lamp_is_noted()
         ∷ (told (codes "ok") ++ told (codes "note " ++ decimal 1 ++ codes " lit(a) lost " ++ decimal 1 ++ codes " (10,inf) gained " ++ decimal 1 ++ codes " (10,20]"))
         ∷ told (codes "refused watched") ∷ told (codes "ok") ∷ told (codes "refused not-watched") ∷ [] }
 {}
+
+/// The runs of two lamps overlap. Where the first holds no longer, nothing is related to it; a word that is no relation is refused.
+pub fn two_lamps_are_compared()
+    ensures { replies_to (codes "assert p 5 plug(a)" ∷ codes "assert u 15 unplug(a)" ∷ codes "assert p2 10 plug(b)"
+        ∷ codes "pairs powered(a) overlaps powered(b)" ∷ codes "@1 related powered(b) 11 overlapped_by powered(a)"
+        ∷ codes "related powered(a) 16 overlaps powered(b)" ∷ codes "pairs powered(a) near powered(b)" ∷ [])
+        ≡ told (codes "ok") ∷ told (codes "ok") ∷ told (codes "ok")
+        ∷ told (decimal 1 ++ codes " (5,15] (10,inf)") ∷ told_to 1 (decimal 1 ++ codes " (5,15]")
+        ∷ told (codes "none") ∷ told (codes "refused syntax") ∷ [] }
+{}
