@@ -11,16 +11,15 @@ from __future__ import annotations
 import argparse
 import os
 import shutil
+import sqlite3
 import sys
 import tempfile
 from array import array
-from concurrent.futures import ProcessPoolExecutor
 from contextlib import ExitStack
-from functools import partial
 from typing import IO, Callable, Dict, Iterator, List, NamedTuple, Optional, Tuple
 
 from .common import accepted_theory
-from .errors import HistoryError, plainly
+from .errors import HistoryError
 from .importing import Change, Imported, Importer, tell_faults, told_words, write_names
 from .keys import Split
 from .mapping import Map, read_map
@@ -28,6 +27,7 @@ from .names import Names, umask
 from .parts import MOST_PARTS, SLOTS, THEORY, Held, Parts, sha256_of, slot_of_event
 from .playing import Refused, first_refused
 from .program import find_program
+from .processes import in_processes
 from .progress import Progress
 from .records import read_records
 from .splitting import required
@@ -192,20 +192,18 @@ class Divider:
         with ExitStack() as stack:
             try:
                 draft = tempfile.mkdtemp(prefix=".parts-", dir=above)
-            except OSError as fault:
-                raise HistoryError(
-                    f"{above} can't be written: {fault.strerror}"
-                ) from None
-            stack.callback(shutil.rmtree, draft, ignore_errors=True)
-            spool, imported = self._spool(draft, map_of, path, names)
-            if imported.faults and not skip_faulty:
-                return Divided(imported, None)
-            parts = self._fitting(draft, spool, count)
-            os.unlink(spool.path)
-            parts.write_manifest()
-            before()
-            os.chmod(draft, 0o777 & ~umask())
-            os.rename(draft, self.folder)
+                stack.callback(shutil.rmtree, draft, ignore_errors=True)
+                spool, imported = self._spool(draft, map_of, path, names)
+                if imported.faults and not skip_faulty:
+                    return Divided(imported, None)
+                parts = self._fitting(draft, spool, count)
+                os.unlink(spool.path)
+                parts.write_manifest()
+                before()
+                os.chmod(draft, 0o777 & ~umask())
+                os.rename(draft, self.folder)
+            except (OSError, sqlite3.Error) as fault:
+                raise HistoryError(f"{self.folder} can't be made: {fault}") from None
         return Divided(imported, parts.at(self.folder))
 
     def _spool(
@@ -272,14 +270,12 @@ class Divider:
             (self.program, parts.theory_path, parts.lines_path(part))
             for part in range(parts.count)
         ]
-        workers = min(self.processes, parts.count)
-        with ProcessPoolExecutor(workers) as pool, Progress("parts checked") as shown:
-            for part, refused in enumerate(
-                pool.map(partial(plainly, first_refused), jobs)
-            ):
+        found = in_processes(first_refused, jobs, self.processes)
+        with Progress("parts checked") as shown:
+            for part, refused in enumerate(found):
                 shown.step()
                 if refused is not None:
-                    pool.shutdown(cancel_futures=True)
+                    found.close()
                     return part, refused
         return None
 

@@ -2,21 +2,9 @@
 
 from __future__ import annotations
 
-from typing import Callable, TypeVar
-
-Result = TypeVar("Result")
-
 
 class HistoryError(Exception):
     """A fault that is told to people. Its text is a whole sentence or two."""
-
-
-def plainly(work: Callable[..., Result], *words: object) -> Result:
-    """Does some work for another process, which is told a fault by its words alone."""
-    try:
-        return work(*words)
-    except HistoryError as fault:
-        raise HistoryError(str(fault)) from None
 
 
 class TermError(HistoryError, ValueError):

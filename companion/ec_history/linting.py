@@ -12,7 +12,6 @@ import argparse
 import os
 import sys
 from collections import Counter, defaultdict
-from concurrent.futures import ProcessPoolExecutor
 from dataclasses import dataclass, field
 from difflib import get_close_matches
 from functools import partial
@@ -20,10 +19,11 @@ from typing import Dict, Iterator, List, Optional, Set, Tuple
 
 from .client import Server
 from .common import add_processes
-from .errors import HistoryError, plainly
+from .errors import HistoryError
 from .moments import TICK
 from .parts import Parts, PartsFault, is_parts, open_parts
 from .program import add_program, find_program
+from .processes import in_processes
 from .progress import Progress
 from .reading import Command, Line, LineFault, Reader, as_sent, is_silent
 from .reading import later_commands, lines_in
@@ -343,12 +343,11 @@ def lint_parts(
     """What is found in the lines of the parts of a folder."""
     parts = open_parts(folder, theory_path)
     findings: List[Finding] = []
-    job = partial(plainly, _lint_part, program, theory_path, parts)
-    with ProcessPoolExecutor(min(processes, parts.count)) as pool:
-        with Progress("parts looked through") as progress:
-            for found in pool.map(job, range(parts.count)):
-                findings += found
-                progress.step()
+    job = partial(_lint_part, program, theory_path, parts)
+    with Progress("parts looked through") as progress:
+        for found in in_processes(job, range(parts.count), processes):
+            findings += found
+            progress.step()
     return findings
 
 

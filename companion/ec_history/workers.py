@@ -6,16 +6,15 @@ A worker has one part at a time, so memory does not grow with the whole history.
 
 from __future__ import annotations
 
-from concurrent.futures import ProcessPoolExecutor
-from concurrent.futures.process import BrokenProcessPool
 from functools import partial
 from typing import Any, Callable, Iterable, Iterator, List, Optional, Sequence
 
 from .client import Server
-from .errors import HistoryError, plainly
+from .errors import HistoryError
 from .history import History
 from .parts import Parts, open_parts
 from .playing import play
+from .processes import in_processes, plainly
 from .program import find_program
 from .replies import Event
 from .terms import Term
@@ -125,16 +124,7 @@ class Processes(Workers):
         if len(numbers) == 1:
             yield job(numbers[0])
             return
-        with ProcessPoolExecutor(min(self.count, len(numbers))) as pool:
-            try:
-                yield from pool.map(job, numbers)
-            except BrokenProcessPool:
-                raise HistoryError(
-                    "a process that worked on a part was ended, maybe because memory "
-                    "ran out: take fewer by --processes"
-                ) from None
-            finally:
-                pool.shutdown(cancel_futures=True)
+        yield from in_processes(job, numbers, self.count)
 
 
 class Here(Workers):
