@@ -117,6 +117,6 @@ impl<T: Moment, M: MarkRow<T>, I: SpanRow<T>, X: TimeRow<T>> Sessions<T, M, I, X
         ensures quiet { (result ≡ Handled.WriteFault) ⊎ (K.faults out.new ≡ K.faults out.old) }
         ensures counted { K.faults out.old ≤ K.faults out.new }
     {
-        reply_to_comparison(&self.engine, prefix, comparison, out)
+        reply_to_comparison(self.chronicle.engine(), prefix, comparison, out)
     }
 }
