@@ -1,5 +1,5 @@
 -- The laws of the steps that lines may take, as statements. Each is the contract of a function of the module of laws.
-use Rattle.std.specs.Prelude.{◌≡◌, ℕ, ℤ, Bool, true, false, ◌||◌, List, length, Some, IsTrue, IsFalse}
+use Rattle.std.specs.Prelude.{◌≡◌, ◌+◌, ℕ, ℤ, Bool, true, false, ◌||◌, List, length, Some, IsTrue, IsFalse}
 use Rattle.ec_terms.specs.declared.ground.Ground.{Ground}
 use Rattle.ec_axioms.specs.Changes.{PlainUpdate}
 use Rattle.ec_commands.specs.Commands.{ask_events, ask_why}

@@ -132,6 +132,7 @@ impl<T: Moment, M: MarkRow<T>, I: SpanRow<T>, X: TimeRow<T>> Sessions<T, M, I, X
         ensures told { IsTold T.rank (record { theory = self.old.theory; spelt = T.spelt; canon = T.canon }) session self.old.state (plain_command T.rank command.entry) result self.new.state }
         ensures steps { steps.new ≤ steps.old + most_change_steps self.old.theory session self.old.state (plain_command T.rank command.entry) }
     {
+        let last = self.last;
         match command {
             Command::Silent => Told::Nothing,
             Command::Bad => Told::Answer(Answer::Syntax),
@@ -163,7 +164,7 @@ impl<T: Moment, M: MarkRow<T>, I: SpanRow<T>, X: TimeRow<T>> Sessions<T, M, I, X
                 relation,
                 right,
             }),
-            Command::Last => Told::Answer(Answer::Last(self.last)),
+            Command::Last => Told::Answer(Answer::Last(last)),
             Command::Quit => Told::Answer(Answer::Bye),
         }
     }
