@@ -1,20 +1,22 @@
 -- Each reply ends with a line end, or is empty.
 use Rattle.std.proofs.Common.{◌≡◌, ℕ, Bool, true, false, ltb, length, List, [], ◌∷◌, ◌++◌, ◌+◌, Option, Some, None, Result, Ok, Err, refl, sym, ap, ap₂, ◌∙◌, subst, append-nil}
-use Rattle.std.specs.Prelude.{nat_le}
+use Rattle.std.specs.Prelude.{nat_le, codes, decimal, map}
 use Rattle.std.proofs.lemmas.Bool.{cond_both}
 use Rattle.ec_terms.specs.declared.ground.Ground.{Ground}
 use Rattle.ec_terms.specs.declared.theory.Theory.{Theory}
+use Rattle.ec_terms.specs.Term.{term_text}
+use Rattle.ec_axioms.specs.Timeline.{Interval}
 use Rattle.ec_axioms.specs.declared.event.Cut.{Cut}
 use Rattle.ec_commands.specs.declared.limits.TheConstants.{MOST_DRAFTED, MOST_WATCHED}
 use Rattle.ec_commands.specs.Answers.{answer_ok, answer_bye, answer_drafted, answer_last, answer_text, front_text, refused_commit, refused_full_draft, refused_in_draft, refused_long_line, refused_no_draft, refused_not_watched, refused_full_watches, refused_syntax, refused_update, refused_watched}
-use Rattle.ec_commands.specs.QueryTexts.{Canon, intervals_reply, pairs_reply, related_reply}
-use Rattle.ec_axioms.specs.Calculus.{PlainEvent}
+use Rattle.ec_commands.specs.QueryTexts.{Canon, counted_text, interval_text, intervals_reply, pairs_reply, related_reply}
+use Rattle.ec_axioms.specs.Calculus.{PlainEvent, intervals_of}
 use Rattle.ec_axioms.specs.Changes.{PlacedCut, PlainUpdate, asserting, retracting, has_other_intervals}
 use Rattle.ec_commands.specs.Commands.{PlainCommand, silent, bad, assert_event, retract_event, begin_draft, commit_draft, abort_draft, ask, ask_past, ask_pairs, ask_related, watch_prop, unwatch_prop, ask_last, quit, parsed_of}
 use Rattle.ec_commands.specs.Lines.{CutText, cut_of, is_long, line_feed}
 use Rattle.ec_lines.proofs.CutLines.{behind, cut_of-append}
 use Rattle.ec_replies.specs.Replies.{Language, Reply, noted, past_text, is_watched, reply_to_watch, reply_to_unwatch, commit_reply, command_reply, drafted_reply, query_text, reply_line, reply_of, reply_to_abort, reply_to_begin, reply_to_commit, reply_to_update, session_of, update_reply}
-use Rattle.ec_replies.specs.Notes.{note_between, note_text, notes_from, session_notes}
+use Rattle.ec_replies.specs.Notes.{missing_from, note_between, note_text, notes_from, session_notes}
 use Rattle.ec_replies.specs.Past.{commit_weight}
 use Rattle.ec_replies.specs.State.{Draft, State, draft_of, watched_by}
 use Rattle.ec_replies.specs.Updates.{updated, updated_by}
@@ -53,10 +55,16 @@ IsEnded-append text more first second =
 
 -- ---- notes
 
+note_text_ended : (canon : Canon) (session : ℕ) (p : Ground) (lost gained : List Interval) → IsEnded (note_text canon session p lost gained)
+unfolding note_text
+note_text_ended canon session p lost gained =
+    IsEnded-line (codes "note " ++ decimal session ++ codes " " ++ term_text p ++ codes " lost " ++ counted_text (map (interval_text canon) lost)
+    ++ codes " gained " ++ counted_text (map (interval_text canon) gained))
+
 note_ended : (theory : Theory) (canon : Canon) (session : ℕ) (p : Ground) (old new : List PlainEvent) → IsEnded (note_between theory canon session p old new)
-unfolding note_between note_text
+unfolding note_between
 note_ended theory canon session p old new =
-    cond_both (has_other_intervals theory old new p) _ [] IsEnded (λ _. IsEnded-line _) (λ _. IsEnded-nil)
+    cond_both (has_other_intervals theory old new p) _ [] IsEnded (λ _. note_text_ended canon session p (missing_from (intervals_of theory new p) (intervals_of theory old p)) (missing_from (intervals_of theory old p) (intervals_of theory new p))) (λ _. IsEnded-nil)
 
 session_notes_ended : (theory : Theory) (canon : Canon) (session : ℕ) (watched : List Ground) (old new : List PlainEvent)
     → IsEnded (session_notes theory canon session watched old new)
@@ -148,10 +156,11 @@ module _ (prefix : Option ℕ) where
     unfolding command_reply
     command_ended silent = IsEnded-nil
     command_ended bad = reply_ended (answer_text refused_syntax)
-    command_ended (assert_event id t term) = noted_ended _ (update_ended (asserting (record { id = id; rank = t; term = term })))
-    command_ended (retract_event id) = noted_ended _ (update_ended (retracting id))
+    command_ended (assert_event id t term) =
+        let update = asserting (record { id = id; rank = t; term = term }) in noted_ended (reply_to_update language.theory prefix session state update) (update_ended update)
+    command_ended (retract_event id) = noted_ended (reply_to_update language.theory prefix session state (retracting id)) (update_ended (retracting id))
     command_ended begin_draft = begin_ended
-    command_ended commit_draft = noted_ended _ commit_ended
+    command_ended commit_draft = noted_ended (reply_to_commit language.theory prefix session state) commit_ended
     command_ended abort_draft = abort_ended
     command_ended (ask query) = reply_ended (query_text language state.events query)
     command_ended (ask_past k query) = reply_ended (past_text language state k query)
