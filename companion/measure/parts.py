@@ -38,6 +38,8 @@ from tests.calculus import Calculus  # noqa: E402
 
 BLOCK = 17
 BOOKS, PEOPLE, TIMES = 100_000, 20_000, 20_000_000
+READERS = 3
+"""People who lend the same book, so that most loans are given back."""
 COMPARED = 300
 MOST_SHARE = 0.35
 QUESTIONS = ("count out(_) 10000000", "intervals out(_)")
@@ -62,8 +64,8 @@ def records(count: int) -> Iterator[List[object]]:
         corrects: object = ""
         if number % BLOCK == 0 and number > 60 * BLOCK:
             corrects = number - 50 * BLOCK + draw.randrange(1, BLOCK)
-        time_told = draw.randrange(TIMES)
-        book, who = draw.randrange(BOOKS), draw.randrange(PEOPLE)
+        time_told, book = draw.randrange(TIMES), draw.randrange(BOOKS)
+        who = (31 * book + draw.randrange(READERS)) % PEOPLE
         yield [number, time_told, what, f"b{book}", f"p{who}", corrects]
 
 
