@@ -35,9 +35,12 @@ from .terms import Term
 from .theory import Theory
 from .told_file import ToldFile
 
-MOST_EVENTS = 131_072
-"""Events that a part gets at most where the number of parts is chosen here."""
+MOST_EVENTS = 262_144
 MOST_MENTIONS = 1_048_576
+"""What a part gets at most where the number of parts is chosen here.
+
+An `ec` that takes less refuses a part; then there are twice as many.
+"""
 ALL_PARTS = "*"
 _BEGIN, _COMMIT = "begin", "commit"
 
