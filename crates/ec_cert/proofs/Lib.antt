@@ -1,2 +1,3 @@
 pub mod FileLimits
 pub mod FileLines
+pub mod Differences
