@@ -291,7 +291,7 @@ class Question(NamedTuple):
 
     form: str
     find: Callable[..., Iterator[Found]]
-    order: Callable[[Found], object]
+    order: Callable[[Found], Any]
     tell: Callable[[Telling, Iterable[Found]], Table]
     kind: str = PROPERTY
 

@@ -213,7 +213,7 @@ class Keys:
 
     def obstacle(self, form: Form, place: int) -> Optional[Obstacle]:
         """The first link that no places fit where a form has its key at a place."""
-        domains = {**self.domains, form: (place,)}
+        domains: Domains = {**self.domains, form: (place,)}
         is_narrowed = True
         while is_narrowed:
             is_narrowed = False

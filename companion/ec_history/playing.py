@@ -13,11 +13,10 @@ from .refusals import refusal_words
 
 
 class Refused(NamedTuple):
-    """The first line that was refused, by its number from 1, and how many there are."""
+    """The first line that was refused, by its number from 1, and the reply to it."""
 
     line: int
     reply: str
-    count: int
 
     @property
     def is_full(self) -> bool:
@@ -37,13 +36,11 @@ def play(server: Server, content: bytes) -> Optional[Refused]:
     replies = server.pour(content)
     if b"refused" not in replies:
         return None
-    found = [
-        (number, reply)
+    return next(
+        Refused(number, reply.decode("latin-1"))
         for number, reply in enumerate(replies.split(b"\n"), 1)
         if reply.startswith(b"refused")
-    ]
-    number, reply = found[0]
-    return Refused(number, reply.decode("latin-1"), len(found))
+    )
 
 
 def first_refused(job: Tuple[str, str, str]) -> Optional[Refused]:

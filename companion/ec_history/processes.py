@@ -4,7 +4,7 @@ from __future__ import annotations
 
 from concurrent.futures import ProcessPoolExecutor
 from concurrent.futures.process import BrokenProcessPool
-from functools import partial
+from itertools import repeat
 from typing import Callable, Generator, Sequence, TypeVar
 
 from .errors import HistoryError
@@ -22,7 +22,7 @@ def in_processes(
     """
     with ProcessPoolExecutor(min(count, len(items))) as pool:
         try:
-            yield from pool.map(partial(plainly, work), items)
+            yield from pool.map(plainly, repeat(work), items)  # type: ignore[misc]
         except BrokenProcessPool:
             raise HistoryError(
                 "a process was ended within its work, maybe because memory ran out: "

@@ -54,7 +54,7 @@ class InParts:
     ) -> List[Iterable[Any]]:
         """As `Source.rows`, for the parts that have what fits the pattern."""
         numbers = self.parts.asked(kind, pattern)
-        found = []
+        found: List[Iterable[Any]] = []
         with Progress("parts answered") as progress:
             for rows in self.workers.each(self.parts, numbers, work, *words):
                 found.append(rows)

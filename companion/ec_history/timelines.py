@@ -86,7 +86,7 @@ class Courses(NamedTuple):
     """
 
     courses: List[Tuple[int, Course]]
-    count: int
+    total: int
 
 
 def courses_of(
@@ -109,7 +109,7 @@ def merged(found: Iterable[Courses], most: int) -> Tuple[List[Course], int]:
         (placed for each in all_of_them for placed in each.courses),
         key=lambda placed: (placed[0], placed[1].property.sort_key()),
     )
-    count = sum(each.count for each in all_of_them)
+    count = sum(each.total for each in all_of_them)
     return [course for _, course in courses[:most]], count
 
 

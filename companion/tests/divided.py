@@ -16,7 +16,7 @@ import sys
 import tempfile
 from itertools import chain
 from pathlib import Path
-from typing import Iterable, Iterator, List, Tuple
+from typing import Iterator, List, Tuple
 
 from ec_history.asking import answer
 from ec_history.client import Server
@@ -202,27 +202,24 @@ def compare_answers(drawing: Drawing, whole: History, apart: InParts) -> None:
     """Asks both the same; raises AssertionError at a difference."""
     wording = Wording(whole.theory)
     for question in drawing.questions():
-        wanted, told = (answer(source, wording, question) for source in (whole, apart))
+        wanted = answer(whole, wording, question)
+        told = answer(apart, wording, question)
         assert list(wanted.columns) == list(told.columns)
         assert list(wanted.rows) == list(told.rows), question
     for pattern in ("_", "p0(_,_)", "p1(ann)", "p0(V)"):
-        wanted, told = (
-            _courses(source, [pattern, "_"], 5) for source in (whole, apart)
-        )
-        assert wanted == told, f"draw {pattern}"
+        patterns = [pattern, "_"]
+        assert _courses(whole, patterns, 5) == _courses(apart, patterns, 5), pattern
     for term in whole.candidates()[:5]:
         for instant in (3, 12):
-            wanted, told = (
-                list(chain.from_iterable(reason(source, term, instant)))
-                for source in (whole, apart)
-            )
-            assert wanted == told, f"why {term} {instant}"
+            asked = term, instant
+            assert reason(whole, *asked) == reason(apart, *asked), f"why {asked}"
 
 
-def reason(source: Source, term: Term, instant: int) -> List[Iterable[object]]:
+def reason(source: Source, term: Term, instant: int) -> List[object]:
     """The whole reason of a property."""
     pattern = Pattern(term.name, term.arguments)
-    return source.rows(PROPERTY, pattern, _nodes, term, instant, None)
+    found = source.rows(PROPERTY, pattern, _nodes, term, instant, None)
+    return list(chain.from_iterable(found))
 
 
 def main() -> int:
