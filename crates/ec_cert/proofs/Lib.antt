@@ -1,3 +1,4 @@
 pub mod FileLimits
 pub mod FileLines
 pub mod Differences
+mod ProofTexts
