@@ -8,6 +8,8 @@ mod civil;
 #[cfg(test)]
 mod clauses;
 #[cfg(test)]
+mod compared;
+#[cfg(test)]
 mod dialogue;
 #[cfg(test)]
 mod faults;

@@ -12,7 +12,7 @@ use std::process::Abort;
 use std::string::String;
 
 /// More than any reply or line here has.
-const ROOM: usize = 1 << 20;
+const ROOM: usize = 1 << 22;
 
 /// A run: what it begins with, which calls fail, and what it is to come to. In its texts `|` is a line end, as in a table.
 #[derive(Clone, Copy)]
