@@ -1,18 +1,16 @@
-//! What no clause shows: that an engine is built where memory is given, and that its updates splice the last spans of a long
-//! row alone, and no other row.
+//! What no clause shows: that an update splices the last spans of a long row alone, and no other row.
 //!
 //! Few functions name the type of an engine, since each that does takes long to prove: the others are over what is `Watched`.
 ghost use Rattle.std.specs.Prelude.{◌≡◌, ◌<◌, ◌^◌, length};
 
 use crate::fixtures::{boxed, term_of};
 use ec_axioms::{Event, Steps, Update};
-use ec_block_rows::{BlockMarks, BlockSpans, BlockTimes};
+use ec_block_rows::{BlockMarks, BlockTimes};
 use ec_check::Checked;
 use ec_engine::Engine;
 use ec_layers::tally::TallySpans;
-use ec_lists::NoMemory;
 use ec_moment::Tick;
-use ec_rows::{MarkRow, SpanRow, TimeRow};
+use ec_rows::{MarkRow, TimeRow};
 use ec_terms::{GroundRef, Name};
 use ec_theory::accept;
 use std::alloc::Global;
@@ -22,7 +20,7 @@ use std::sync::ledger::{Blank, Ledger};
 use std::test::Fail;
 
 /// Lamps that have power or not.
-const LAMPS: &[u8] = b"initiates plug(L) powered(L). terminates unplug(L) powered(L).";
+pub(crate) const LAMPS: &[u8] = b"initiates plug(L) powered(L). terminates unplug(L) powered(L).";
 
 /// What takes updates, and has a row of spans for each property.
 trait Watched {
@@ -121,40 +119,6 @@ fn an_update_touches_the_last_spans_of_its_property_alone(rt: HostRuntime) -> Re
     let checked = accept(rt.alloc(), LAMPS)?;
     assert!(rt;
         passes::<BlockMarks<Tick>, BlockTimes<Tick>, Brand>(&rt, rt.alloc(), checked, Blank::new(1))
-    );
-    Ok(())
-}
-
-/// Whether an engine of no event is built.
-fn builds<M: MarkRow<Tick>, I: SpanRow<Tick>, X: TimeRow<Tick>, L: Ledger>(
-    alloc: Global,
-    checked: Checked,
-    blank: Blank,
-) -> bool
-    requires name { blank.name ≡ L.name }
-    requires parts { blank.parts ≡ L.parts }
-    requires some { 0 < L.parts }
-{
-    let mut steps = Steps::<L>::new(blank);
-    let none: [Event<Tick>; 0] = [];
-    let built: Result<Engine<Tick, M, I, X>, NoMemory> = Engine::build(
-        alloc, checked, &none, &mut steps,
-    );
-    match built {
-        Ok(engine) => engine.parts().store.len() == 0,
-        Err(_) => false,
-    }
-}
-
-#[test]
-fn an_engine_is_built(rt: HostRuntime) -> Result<(), Fail> {
-    let checked = accept(rt.alloc(), LAMPS)?;
-    assert!(rt;
-        builds::<BlockMarks<Tick>, BlockSpans<Tick>, BlockTimes<Tick>, Brand>(
-            rt.alloc(),
-            checked,
-            Blank::new(1)
-        )
     );
     Ok(())
 }
