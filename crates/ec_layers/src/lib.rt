@@ -12,7 +12,11 @@ mod block_times;
 #[cfg(test)]
 mod blocks;
 #[cfg(test)]
+mod certificates;
+#[cfg(test)]
 mod cones;
+#[cfg(test)]
+mod event_files;
 #[cfg(test)]
 mod events;
 #[cfg(test)]
@@ -32,6 +36,8 @@ mod rows;
 #[cfg(test)]
 mod soak;
 #[cfg(test)]
+mod splitting;
+#[cfg(test)]
 mod steps;
 pub mod tables;
 pub mod tally;
@@ -39,3 +45,5 @@ pub mod tally;
 mod terms;
 #[cfg(test)]
 mod tokens;
+#[cfg(test)]
+mod watches;
