@@ -4,3 +4,7 @@ pub mod LastRecords
 pub mod RecordLists
 pub mod Kept
 pub mod Refused
+pub mod WayLemmas
+pub mod CopiedEvents
+pub mod HistoryLemmas
+pub mod ViewLemmas

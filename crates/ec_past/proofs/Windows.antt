@@ -1,5 +1,5 @@
 -- The latest updates that there is room for.
-use Rattle.std.proofs.Common.{◌≡◌, ◌≤◌, ◌<◌, ◌+◌, ◌-◌, ℕ, Bool, true, false, cond, List, [], ◌∷◌, ◌++◌, length, map, suc, refl, ap, ◌∙◌, leb, eqb, arith}
+use Rattle.std.proofs.Common.{◌≡◌, ◌≤◌, ◌<◌, ◌+◌, ◌-◌, ℕ, Bool, true, false, cond, List, [], ◌∷◌, ◌++◌, length, map, suc, refl, ap, ap₂, ◌∙◌, leb, eqb, arith}
 use Rattle.std.proofs.lemmas.Bool.{cond-true, cond-false, le-leb, lt-leb, leb-true, ne_eqb}
 use Rattle.std.proofs.lemmas.List.{length-map}
 use Rattle.ec_axioms.specs.Calculus.{PlainEvent}
@@ -77,6 +77,10 @@ module _ {X Y : Type 0} (f : X → Y) where
   pub weight_of-map : (records : List X) → weight_of (map f records) ≡ weight_of records
   weight_of-map [] = refl
   weight_of-map (x ∷ records) = ap (λ n. cond (eqb (suc n) 0) 1 (suc n)) (length-map records f)
+
+  pub weights_of-map : (kept : List (List X)) → weights_of (map (map f) kept) ≡ weights_of kept
+  weights_of-map [] = refl
+  weights_of-map (records ∷ kept) = ap₂ (λ m n. m + n) (weight_of-map records) (weights_of-map kept)
 
   pub latest_within-map : (room : ℕ) (kept : List (List X)) → latest_within room (map (map f) kept) ≡ map (map f) (latest_within room kept)
   unfolding latest_within

@@ -1,18 +1,20 @@
 //! The chronicle.
-ghost use Rattle.std.specs.Prelude.{◌≡◌, ◌+◌, ◌<◌, ◌≤◌, ◌^◌, [], ◌∷◌, List, Ok, IfOk, OnOk, IsTrue, length, map};
+ghost use Rattle.std.specs.Prelude.{◌≡◌, ◌+◌, ◌<◌, ◌≤◌, ◌^◌, [], ◌∷◌, List, None, Ok, IfOk, OnOk, IsTrue, length, map};
 ghost use Rattle.ec_terms.specs.Term.{ground_of, names_are_names};
 ghost use Rattle.ec_axioms.specs.Calculus.{PlainEvent};
 ghost use Rattle.ec_axioms.specs.Changes.{asserting, retracting};
 ghost use Rattle.ec_axioms.specs.Events.{plain_update};
-ghost use Rattle.ec_replies.specs.Past.{commit_weight, empty_past, first_kept};
+ghost use Rattle.ec_replies.specs.Past.{commit_weight, empty_past, first_kept, list_after};
 ghost use Rattle.ec_replies.specs.Updates.{updated_by};
 ghost use Rattle.ec_engine.specs.Revise.{IsRevised, most_steps};
-ghost use Rattle.ec_past.specs.Chronicles.{IsCommitted, IsPastAfter, journal_after};
+ghost use Rattle.ec_past.specs.Chronicles.{IsCommitted, IsPastAfter, IsReadyAt, journal_after, kept_view};
 ghost use Rattle.ec_past.specs.Logged.{plain_records};
 ghost use Rattle.ec_past.specs.Records.{AreRecordsOf, added};
+ghost use Rattle.ec_past.specs.Viewing.{still_kept, way_steps};
 
 use crate::journal::Journal;
 use crate::log_record::LogRecord;
+use crate::past_engine::PastEngine;
 use crate::recording::records_of;
 use crate::refusing::{refused_arrival, refused_batch, refused_departure, store_of};
 use ec_axioms::{Event, Seen, Steps, Update};
@@ -33,24 +35,27 @@ use std::sync::ledger::Ledger;
 pub struct Chronicle<T: Moment, M: MarkRow<T>, I: SpanRow<T>, X: TimeRow<T>> {
     engine: Engine<T, M, I, X>,
     journal: Box<Journal<T>>,
+    /// Stays at the list of the past that was asked last.
+    viewed: Option<Box<PastEngine<T, M, I, X>>>,
     alloc: Global,
 }
 
 impl<T: Moment, M: MarkRow<T>, I: SpanRow<T>, X: TimeRow<T>> Model for Chronicle<T, M, I, X> {
-    ghost use Rattle.ec_past.specs.Chronicles.{IsChronicle, PlainChronicle};
+    ghost use Rattle.std.specs.Prelude.{option_map};
+    ghost use Rattle.ec_past.specs.Chronicles.{IsViewing, PlainChronicle};
     ghost use Rattle.ec_past.specs.Journals.{past_of};
 
     ghost Value = { PlainChronicle };
 
-    ghost view = { λ chronicle. record { theory = chronicle.engine.theory; events = chronicle.engine.events; past = past_of chronicle.engine.events chronicle.journal.value } };
+    ghost view = { λ chronicle. record { theory = chronicle.engine.theory; events = chronicle.engine.events; past = past_of chronicle.engine.events chronicle.journal.value; viewed = option_map (λ view. view.value.at) chronicle.viewed } };
 
-    ghost invariant = { λ chronicle. IsChronicle chronicle.engine.theory chronicle.engine.events chronicle.journal.value.kept };
+    ghost invariant = { λ chronicle. IsViewing chronicle.engine.theory chronicle.engine.events chronicle.journal.value (option_map (λ view. view.value) chronicle.viewed) };
 }
 
 impl<T: Moment, M: MarkRow<T>, I: SpanRow<T>, X: TimeRow<T>> Chronicle<T, M, I, X> {
     /// A chronicle of no event, before the first update. `Err`: memory ran out.
     pub fn new(alloc: Global, checked: Checked) -> Result<Chronicle<T, M, I, X>, NoMemory>
-        ensures { IfOk result (λ chronicle. chronicle ≡ record { theory = checked; events = []; past = empty_past }) }
+        ensures { IfOk result (λ chronicle. chronicle ≡ record { theory = checked; events = []; past = empty_past; viewed = None }) }
     {
         let engine = Engine::new(alloc, checked)?;
         let journal = boxed(alloc, Journal::new(alloc)?)?;
@@ -58,6 +63,7 @@ impl<T: Moment, M: MarkRow<T>, I: SpanRow<T>, X: TimeRow<T>> Chronicle<T, M, I, 
         Ok(Chronicle {
             engine,
             journal,
+            viewed: None,
             alloc,
         })
     }
@@ -84,9 +90,7 @@ impl<T: Moment, M: MarkRow<T>, I: SpanRow<T>, X: TimeRow<T>> Chronicle<T, M, I, 
         ensures { result ≡ first_kept self.now.past }
     {
         let _ = &self.engine;
-        self.journal
-            .count()
-            .saturating_sub(self.journal.len() as u64)
+        self.journal.first()
     }
 
     /// Asserts one event. `Err`: it is refused, or memory ran out; then the list and the past are as they were. What refuses it for
@@ -102,6 +106,7 @@ impl<T: Moment, M: MarkRow<T>, I: SpanRow<T>, X: TimeRow<T>> Chronicle<T, M, I, 
         ensures revised { IsRevised self.old.theory self.old.events (asserting (record { id = id; rank = T.rank at; term = ground_of event.now }) ∷ []) result self.new.events }
         ensures theory { self.new.theory ≡ self.old.theory }
         ensures past { IsPastAfter 1 self.old.events self.old.past result self.new.past }
+        ensures viewed { self.new.viewed ≡ still_kept self.new.past self.old.viewed }
         ensures steps { steps.new ≤ steps.old + most_steps self.old.theory self.old.events (asserting (record { id = id; rank = T.rank at; term = ground_of event.now }) ∷ []) }
     {
         let records = match record_added(self.alloc, &self.journal, &id, at, event) {
@@ -110,6 +115,7 @@ impl<T: Moment, M: MarkRow<T>, I: SpanRow<T>, X: TimeRow<T>> Chronicle<T, M, I, 
         };
         let made = self.engine.assert(id, at, event, steps);
         settle_made(&mut self.journal, records, &made);
+        drop_gone(&mut self.viewed, self.journal.first());
         made
     }
 
@@ -119,6 +125,7 @@ impl<T: Moment, M: MarkRow<T>, I: SpanRow<T>, X: TimeRow<T>> Chronicle<T, M, I, 
         ensures revised { IsRevised self.old.theory self.old.events (retracting id ∷ []) result self.new.events }
         ensures theory { self.new.theory ≡ self.old.theory }
         ensures past { IsPastAfter 1 self.old.events self.old.past result self.new.past }
+        ensures viewed { self.new.viewed ≡ still_kept self.new.past self.old.viewed }
         ensures steps { steps.new ≤ steps.old + most_steps self.old.theory self.old.events (retracting id ∷ []) + 1 }
     {
         let mut batch = match Vec::with_capacity(self.alloc, 1) {
@@ -143,6 +150,7 @@ impl<T: Moment, M: MarkRow<T>, I: SpanRow<T>, X: TimeRow<T>> Chronicle<T, M, I, 
         ensures committed { IsCommitted self.old.theory self.old.events (map (plain_update T.rank) batch.now) result self.new.events }
         ensures theory { self.new.theory ≡ self.old.theory }
         ensures past { IsPastAfter (commit_weight (map (plain_update T.rank) batch.now)) self.old.events self.old.past result self.new.past }
+        ensures viewed { self.new.viewed ≡ still_kept self.new.past self.old.viewed }
         ensures steps { steps.new ≤ steps.old + most_steps self.old.theory self.old.events (map (plain_update T.rank) batch.now) + length batch.now }
     {
         let records = match records_before(self.alloc, &self.journal, &self.engine, batch, steps) {
@@ -151,7 +159,61 @@ impl<T: Moment, M: MarkRow<T>, I: SpanRow<T>, X: TimeRow<T>> Chronicle<T, M, I, 
         };
         let made = self.engine.revise(batch, steps);
         settle_made(&mut self.journal, records, &made);
+        drop_gone(&mut self.viewed, self.journal.first());
         made
+    }
+
+    /// Makes the list after so many accepted updates ready to be asked (`at`). `Err`: memory ran out.
+    ///
+    /// The way goes from the list that was asked last, so that one list is asked again and again without a step.
+    pub fn go_to<L: Ledger>(&mut self, k: u64, steps: &mut Steps<L>) -> Result<(), NoMemory>
+        requires kept { first_kept self.old.past ≤ k }
+        requires past { k ≤ self.old.past.count }
+        ensures ready { OnOk result (IsReadyAt k self.new) }
+        ensures theory { self.new.theory ≡ self.old.theory }
+        ensures events { self.new.events ≡ self.old.events }
+        ensures past { self.new.past ≡ self.old.past }
+        ensures steps { steps.new ≤ steps.old + way_steps self.old.theory self.old.events self.old.past self.old.viewed k }
+    {
+        let count = self.journal.count();
+        if k == count {
+            return Ok(());
+        }
+        let mut view = match self.viewed.take() {
+            Some(view) => view,
+            None => PastEngine::of_present(self.alloc, &self.engine, count, steps)?,
+        };
+        let gone = view.go_to(self.alloc, &self.engine, &self.journal, k, steps);
+        self.viewed = Some(view);
+        gone
+    }
+
+    /// The engine of the list after so many accepted updates, which is ready.
+    pub fn at(&self, k: u64) -> &Engine<T, M, I, X>
+        requires { IsReadyAt k self.now }
+        ensures theory { result.now.theory ≡ self.now.theory }
+        ensures list { result.now.events ≡ list_after k self.now.events self.now.past }
+    {
+        let _ = &self.engine;
+        match &self.viewed {
+            Some(view) if view.at() == k => view.engine(),
+            _ => &self.engine,
+        }
+    }
+}
+
+/// Drops the engine of a list of the past that can be asked about no longer.
+fn drop_gone<T: Moment, M: MarkRow<T>, I: SpanRow<T>, X: TimeRow<T>>(
+    viewed: &mut Option<Box<PastEngine<T, M, I, X>>>,
+    first: u64,
+)
+    ensures { viewed.new ≡ kept_view (λ view. view.value.at) first viewed.old }
+{
+    let Some(view) = &*viewed else {
+        return;
+    };
+    if view.at() < first {
+        *viewed = None;
     }
 }
 

@@ -1,11 +1,15 @@
 //! The journal of a list of events.
-ghost use Rattle.std.specs.Prelude.{◌≡◌, ◌+◌, ◌<◌, ◌≤◌, ◌^◌, [], ◌∷◌, length, map, IfOk, OnOk};
+ghost use Rattle.std.specs.Prelude.{◌≡◌, ◌+◌, ◌-◌, ◌<◌, ◌≤◌, ◌^◌, [], ◌∷◌, drop, length, map, slice_get, take, Some, IfOk, OnOk};
 ghost use Rattle.std.specs.VecDeque.{deque_capacity};
 ghost use Rattle.ec_commands.specs.declared.limits.TheConstants.{MOST_PAST};
+ghost use Rattle.ec_axioms.specs.Events.{plain_update};
 ghost use Rattle.ec_past.specs.Logged.{plain_records};
 ghost use Rattle.ec_past.specs.Journals.{latest_within, weight_of, weights_of, with_records};
+ghost use Rattle.ec_past.specs.Ways.{redos_of_all, undos_of_all, way_between};
 
 use crate::log_record::LogRecord;
+use crate::ways::{push_redos, push_undos};
+use ec_axioms::Update;
 use ec_commands::MOST_PAST;
 use ec_lists::{NoMemory, add_counts};
 use ec_moment::Moment;
@@ -56,11 +60,71 @@ impl<T: Moment> Journal<T> {
         self.count
     }
 
-    /// How many of the latest updates are kept.
-    pub(crate) fn len(&self) -> usize
-        ensures { result ≡ length self.now.kept }
+    /// The least number of accepted updates whose list follows from what is kept.
+    pub(crate) fn first(&self) -> u64
+        ensures { result ≡ self.now.count - length self.now.kept }
     {
-        self.kept.len()
+        self.count.saturating_sub(self.kept.len() as u64)
+    }
+
+    /// The records of the update at a place, from that of the latest, 0, on.
+    pub(crate) fn records(&self, place: usize) -> &[LogRecord<T>]
+        requires { place < length self.now.kept }
+        ensures { slice_get self.now.kept place ≡ Some (plain_records T.rank result.now) }
+    {
+        self.kept[place].as_slice()
+    }
+
+    /// The updates that take back what is kept from one place to another. `Err`: memory ran out.
+    fn undos(&self, alloc: Global, low: usize, high: usize) -> Result<Sequence<Update<T>>, NoMemory>
+        requires order { low ≤ high }
+        requires kept { high ≤ length self.now.kept }
+        ensures { IfOk result (λ way. map (plain_update T.rank) way ≡ undos_of_all (drop low (take high self.now.kept))) }
+    {
+        let mut way = Vec::new(alloc);
+        for place in low..high {
+            push_undos(alloc, &mut way, self.records(place))?;
+        }
+        Ok(Sequence::from_vec(way))
+    }
+
+    /// The updates that make again what is kept from one place to another. `Err`: memory ran out.
+    fn redos(&self, alloc: Global, low: usize, high: usize) -> Result<Sequence<Update<T>>, NoMemory>
+        requires order { low ≤ high }
+        requires kept { high ≤ length self.now.kept }
+        ensures { IfOk result (λ way. map (plain_update T.rank) way ≡ redos_of_all (drop low (take high self.now.kept))) }
+    {
+        let mut way = Vec::new(alloc);
+        let mut place = high;
+        while low < place {
+            place -= 1;
+            push_redos(alloc, &mut way, self.records(place))?;
+        }
+        Ok(Sequence::from_vec(way))
+    }
+
+    /// The updates that lead from the list after so many accepted updates to the list after so many others, where the updates between
+    /// are kept. `Err`: memory ran out.
+    pub(crate) fn way(
+        &self,
+        alloc: Global,
+        from: u64,
+        to: u64,
+    ) -> Result<Sequence<Update<T>>, NoMemory>
+        requires from_kept { self.now.count - length self.now.kept ≤ from }
+        requires from_past { from ≤ self.now.count }
+        requires to_kept { self.now.count - length self.now.kept ≤ to }
+        requires to_past { to ≤ self.now.count }
+        ensures way { IfOk result (λ way. map (plain_update T.rank) way ≡ way_between self.now from to) }
+        ensures few { IfOk result (λ way. length way ≤ MOST_PAST) }
+    {
+        if to <= from {
+            let low = (self.count - from) as usize;
+            self.undos(alloc, low, (self.count - to) as usize)
+        } else {
+            let low = (self.count - to) as usize;
+            self.redos(alloc, low, (self.count - from) as usize)
+        }
     }
 
     /// Asks for room for one update more. `Err`: no number counts it.

@@ -1,5 +1,5 @@
 -- No event, and a journal of no update.
-use Rattle.std.proofs.Common.{ap₂, ◌∙◌}
+use Rattle.std.proofs.Common.{ap₂, ◌∙◌, None}
 use Rattle.ec_replies.specs.Past.{empty_past}
 use Rattle.ec_engine.specs.Standing.{Standing}
 use Rattle.ec_past.specs.Chronicles.{PlainChronicle}
@@ -11,4 +11,4 @@ unfolding empty_past
 returns g c = ap₂ seen c.in_ok-engine.ensures (c.in_ok-journal.ensures ∙ c.in_ok-new.ensures)
   where
     seen : Standing → PlainJournal → PlainChronicle
-    seen engine journal = record { theory = engine.theory; events = engine.events; past = past_of engine.events journal }
+    seen engine journal = record { theory = engine.theory; events = engine.events; past = past_of engine.events journal; viewed = None }
