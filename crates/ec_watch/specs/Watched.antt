@@ -1,5 +1,5 @@
 -- What each session watches, and how that is kept: a row for each watched property, in term order, with the sessions that watch it.
-use Rattle.std.specs.Prelude.{◌≡◌, ◌≤◌, ◌<◌, ◌+◌, ◌&&◌, ◌==◌, ℕ, Bool, true, false, not, List, [], map, filter, length, take, drop, get_or, slice_index_or, slice_set, IsTrue}
+use Rattle.std.specs.Prelude.{◌≡◌, ◌≢◌, ◌≤◌, ◌<◌, ◌+◌, ◌&&◌, ◌==◌, ℕ, Bool, true, false, not, List, [], map, filter, length, take, drop, get_or, slice_get, slice_index_or, slice_set, Some, IsTrue}
 use Rattle.std.specs.List.{range_with_len, list_any, list_all}
 use Rattle.std.specs.Ordering.{is_lt}
 use Rattle.ec_terms.specs.declared.ground.Ground.{Ground}
@@ -72,6 +72,10 @@ pub record IsFree (p : Ground) (rows : List Row) (i : ℕ) : Type 0 where
   pub within : i ≤ length rows
   pub front : IsTrue (list_all (is_below p) (take i rows))
   pub behind : IsTrue (list_all (is_above p) (drop i rows))
+
+-- no row is that of a property
+abbrev pub HasNoRow : Ground → List Row → Type 0
+HasNoRow p rows = (i : ℕ) (row : Row) → slice_get rows i ≡ Some row → row.prop ≢ p
 
 -- ---- what the calls do
 

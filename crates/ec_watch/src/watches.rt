@@ -5,7 +5,7 @@ ghost use Rattle.ec_terms.specs.declared.ground.Ground.{Ground};
 ghost use Rattle.std.specs.Prelude.{◌≡◌, ◌≤◌, ◌<◌, ◌*◌, ℕ, IsTrue, IfOk, IfErr, IfNone, IfSome, OnOk, OnErr, length, replicate, [], false, true};
 ghost use Rattle.ec_terms.specs.Term.{ground_of, names_are_names};
 ghost use Rattle.ec_rows.specs.Ordered.{is_ascending};
-ghost use Rattle.ec_watch.specs.Watched.{AreRows, HasUnwatched, HasWatched, IsFree, IsRefusedWatch, IsThere, comes_first, has_property, is_below, watched_by, watched_by_each};
+ghost use Rattle.ec_watch.specs.Watched.{AreRows, HasNoRow, HasUnwatched, HasWatched, IsFree, IsRefusedWatch, IsThere, comes_first, has_property, is_below, watched_by, watched_by_each};
 
 use crate::row::{ALL, Row};
 use ec_commands::{MOST_WATCHED, SESSIONS};
@@ -44,6 +44,18 @@ fn place_of(rows: &[Row], p: &GroundRef<'_>) -> Result<usize, usize>
         Ok(place)
     } else {
         Err(place)
+    }
+}
+
+/// The place of the row of a property, if there is one.
+pub(crate) fn find_row(rows: &[Row], p: &GroundRef<'_>) -> Option<usize>
+    requires ascend { IsTrue (is_ascending comes_first rows.now) }
+    ensures there { IfSome result (λ i. IsThere (ground_of p.now) rows.now i) }
+    ensures none { IfNone result (HasNoRow (ground_of p.now) rows.now) }
+{
+    match place_of(rows, p) {
+        Ok(place) => Some(place),
+        Err(_) => None,
     }
 }
 
