@@ -4,3 +4,4 @@ pub mod WorkDone
 pub mod StepSums
 pub mod Carried
 pub mod Arrivals
+pub mod WatchedTails

@@ -6,21 +6,20 @@ ghost use Rattle.ec_parts.specs.StandFor.{StandFor, view_of};
 ghost use Rattle.ec_batch.specs.Build.{HaveOwnIds, history_from};
 ghost use Rattle.ec_batch.specs.Limits.{IsWithinLimits};
 
-use crate::carrying::carry_out;
+use crate::carrying::{Room, carry_out};
 use ec_axioms::{Event, Steps};
 use ec_batch::{start, walk_in};
 use ec_lists::NoMemory;
 use ec_moment::Moment;
 use ec_parts::{Parts, Tally};
 use ec_rows::{MarkRow, SpanRow, TimeRow};
-use ec_sweep::Lists;
 use std::alloc::Global;
 use std::sync::ledger::Ledger;
 
 /// Puts a list of events into the parts of no event. `Err`: memory ran out.
 pub(crate) fn fill<T: Moment, M: MarkRow<T>, I: SpanRow<T>, X: TimeRow<T>, L: Ledger>(
     alloc: Global,
-    lists: &mut Lists<T>,
+    room: &mut Room<T>,
     parts: &mut Parts<T, M, I, X>,
     tally: &mut Tally,
     list: &[Event<T>],
@@ -35,6 +34,6 @@ pub(crate) fn fill<T: Moment, M: MarkRow<T>, I: SpanRow<T>, X: TimeRow<T>, L: Le
 {
     let mut walk = start(alloc, parts, tally);
     walk_in(alloc, parts, tally, &mut walk, list)?;
-    carry_out(alloc, lists, parts, tally, walk, steps)?;
+    carry_out(alloc, room, parts, tally, walk, &[], steps)?;
     Ok(())
 }

@@ -4,15 +4,17 @@ ghost use Rattle.ec_terms.specs.Term.{ground_of, names_are_names};
 ghost use Rattle.ec_axioms.specs.Calculus.{PlainEvent};
 ghost use Rattle.ec_axioms.specs.Changes.{asserting, entry_count, has_event, is_history, retracting};
 ghost use Rattle.ec_axioms.specs.Events.{event_of, plain_update};
+ghost use Rattle.ec_rows.specs.Ordered.{is_ascending};
 ghost use Rattle.ec_parts.specs.StandFor.{StandFor, view_of};
 ghost use Rattle.ec_batch.specs.Build.{HaveOwnIds, history_from};
 ghost use Rattle.ec_batch.specs.Limits.{IsWithinLimits};
-ghost use Rattle.ec_engine.specs.Revise.{IsRevised, most_steps};
+ghost use Rattle.ec_engine.specs.Revise.{HasTails, IsRevised, most_steps};
 ghost use Rattle.ec_engine.specs.Standing.{IsStanding};
+ghost use Rattle.ec_watch.specs.Watched.{comes_first};
 
-use crate::arriving::arrive;
+use crate::arriving::{Arrival, arrive};
 use crate::building::fill;
-use crate::carrying::{carry_change, carry_out};
+use crate::carrying::{Listed, Room, carry_change, carry_out};
 use ec_axioms::{Event, Seen, Steps, Update};
 use ec_batch::{Refusal, attempt, attempt_one};
 use ec_check::Checked;
@@ -21,10 +23,11 @@ use ec_lists::NoMemory;
 use ec_moment::Moment;
 use ec_parts::{Parts, Tally, boxed, new_parts};
 use ec_rows::{MarkRow, SpanRow, TimeRow};
-use ec_sweep::Lists;
 use ec_terms::{GroundRef, Name};
+use ec_watch::{Row, Tails};
 use std::alloc::Global;
 use std::marker::Model;
+use std::mem;
 use std::sync::ledger::Ledger;
 
 /// The counts of a change that changed nothing.
@@ -39,11 +42,10 @@ const NO_CHANGE: Seen = Seen {
 /// Contracts see the theory and the list.
 #[derive(Drop)]
 pub struct Engine<T: Moment, M: MarkRow<T>, I: SpanRow<T>, X: TimeRow<T>> {
-    /// In a box, as the lists are, so that an engine is small to move.
+    /// In a box, as the room is, so that an engine is small to move.
     parts: Box<Parts<T, M, I, X>>,
     tally: Tally,
-    /// Room for the lists of a change.
-    lists: Box<Lists<T>>,
+    room: Box<Room<T>>,
     alloc: Global,
 }
 
@@ -68,7 +70,7 @@ impl<T: Moment, M: MarkRow<T>, I: SpanRow<T>, X: TimeRow<T>> Engine<T, M, I, X> 
         Ok(Engine {
             parts,
             tally,
-            lists: boxed(alloc, Lists::new(alloc))?,
+            room: boxed(alloc, Room::new(alloc))?,
             alloc,
         })
     }
@@ -90,12 +92,12 @@ impl<T: Moment, M: MarkRow<T>, I: SpanRow<T>, X: TimeRow<T>> Engine<T, M, I, X> 
         ensures steps { steps.new ≤ steps.old + entry_count checked (history_from (map (event_of T.rank) list.now)) + length list.now }
     {
         let (mut parts, mut tally) = boxed_parts(alloc, checked)?;
-        let mut lists = boxed(alloc, Lists::new(alloc))?;
-        fill(alloc, &mut lists, &mut parts, &mut tally, list, steps)?;
+        let mut room = boxed(alloc, Room::new(alloc))?;
+        fill(alloc, &mut room, &mut parts, &mut tally, list, steps)?;
         Ok(Engine {
             parts,
             tally,
-            lists,
+            room,
             alloc,
         })
     }
@@ -125,6 +127,27 @@ impl<T: Moment, M: MarkRow<T>, I: SpanRow<T>, X: TimeRow<T>> Engine<T, M, I, X> 
         ensures theory { self.new.theory ≡ self.old.theory }
         ensures steps { steps.new ≤ steps.old + most_steps self.old.theory self.old.events (map (plain_update T.rank) batch.now) }
     {
+        let mut tails = Tails::new(self.alloc);
+        self.revise_watched(batch, &[], &mut tails, steps)
+    }
+
+    /// Applies a batch as [`Engine::revise`] does, and leaves the tails of what is watched, from the list that was to the one that
+    /// is. Tails are kept before anything changes, so that want of memory for them refuses the batch. `Err`: no tails are left.
+    pub fn revise_watched<L: Ledger>(
+        &mut self,
+        batch: &[Update<T>],
+        watched: &[Row],
+        tails: &mut Tails<T>,
+        steps: &mut Steps<L>,
+    ) -> Result<Seen, Refusal>
+        requires few { length batch.now < 2 ^ 32 }
+        requires ascend { IsTrue (is_ascending comes_first watched.now) }
+        ensures revised { IsRevised self.old.theory self.old.events (map (plain_update T.rank) batch.now) result self.new.events }
+        ensures theory { self.new.theory ≡ self.old.theory }
+        ensures tails { HasTails T.rank self.old.theory self.old.events self.new.events watched.now tails.new result }
+        ensures steps { steps.new ≤ steps.old + most_steps self.old.theory self.old.events (map (plain_update T.rank) batch.now) }
+    {
+        tails.clear();
         if batch.is_empty() {
             return Ok(NO_CHANGE);
         }
@@ -133,17 +156,21 @@ impl<T: Moment, M: MarkRow<T>, I: SpanRow<T>, X: TimeRow<T>> Engine<T, M, I, X> 
             Ok(walk) => walk,
             Err(refusal) => return Err(refusal),
         };
-        let seen = match carry_out(
+        let room = &mut *self.room;
+        let carried = carry_out(
             self.alloc,
-            &mut self.lists,
+            room,
             parts,
             &mut self.tally,
             walk,
+            watched,
             steps,
-        ) {
+        );
+        let seen = match carried {
             Ok(seen) => seen,
             Err(none) => return Err(Refusal::Memory(none)),
         };
+        mem::swap(&mut room.tails, tails);
         Ok(seen)
     }
 
@@ -161,25 +188,54 @@ impl<T: Moment, M: MarkRow<T>, I: SpanRow<T>, X: TimeRow<T>> Engine<T, M, I, X> 
         ensures theory { self.new.theory ≡ self.old.theory }
         ensures steps { steps.new ≤ steps.old + most_steps self.old.theory self.old.events (asserting (record { id = id; rank = T.rank at; term = ground_of event.now }) ∷ []) }
     {
+        let mut tails = Tails::new(self.alloc);
+        self.assert_watched(id, at, event, &[], &mut tails, steps)
+    }
+
+    /// Asserts one event as [`Engine::assert`] does, and leaves the tails of what is watched, as [`Engine::revise_watched`] does.
+    pub fn assert_watched<L: Ledger>(
+        &mut self,
+        id: Name,
+        at: T,
+        event: &GroundRef<'_>,
+        watched: &[Row],
+        tails: &mut Tails<T>,
+        steps: &mut Steps<L>,
+    ) -> Result<Seen, Refusal>
+        requires named { IsTrue (names_are_names (ground_of event.now)) }
+        requires ascend { IsTrue (is_ascending comes_first watched.now) }
+        ensures revised { IsRevised self.old.theory self.old.events (asserting (record { id = id; rank = T.rank at; term = ground_of event.now }) ∷ []) result self.new.events }
+        ensures theory { self.new.theory ≡ self.old.theory }
+        ensures tails { HasTails T.rank self.old.theory self.old.events self.new.events watched.now tails.new result }
+        ensures steps { steps.new ≤ steps.old + most_steps self.old.theory self.old.events (asserting (record { id = id; rank = T.rank at; term = ground_of event.now }) ∷ []) }
+    {
+        tails.clear();
         let parts = &mut *self.parts;
         let arrived = arrive(self.alloc, parts, &mut self.tally, id, at, event);
         let arrival = match arrived {
             Ok(arrival) => arrival,
             Err(refusal) => return Err(refusal),
         };
+        let Arrival { change, fresh } = arrival;
+        let listed = Listed {
+            fresh: fresh.as_slice(),
+            dying: &[],
+        };
+        let room = &mut *self.room;
         let carried = carry_change(
-            &mut self.lists,
+            room,
             parts,
             &mut self.tally,
-            arrival.change,
-            arrival.fresh.as_slice(),
-            &[],
+            change,
+            &listed,
+            watched,
             steps,
         );
         let seen = match carried {
             Ok(seen) => seen,
             Err(none) => return Err(Refusal::Memory(none)),
         };
+        mem::swap(&mut room.tails, tails);
         Ok(seen)
     }
 
@@ -190,23 +246,46 @@ impl<T: Moment, M: MarkRow<T>, I: SpanRow<T>, X: TimeRow<T>> Engine<T, M, I, X> 
         ensures theory { self.new.theory ≡ self.old.theory }
         ensures steps { steps.new ≤ steps.old + most_steps self.old.theory self.old.events (retracting id ∷ []) }
     {
+        let mut tails = Tails::new(self.alloc);
+        self.retract_watched(id, &[], &mut tails, steps)
+    }
+
+    /// Retracts an event as [`Engine::retract`] does, and leaves the tails of what is watched, as [`Engine::revise_watched`] does.
+    pub fn retract_watched<L: Ledger>(
+        &mut self,
+        id: Name,
+        watched: &[Row],
+        tails: &mut Tails<T>,
+        steps: &mut Steps<L>,
+    ) -> Result<Seen, Refusal>
+        requires ascend { IsTrue (is_ascending comes_first watched.now) }
+        ensures revised { IsRevised self.old.theory self.old.events (retracting id ∷ []) result self.new.events }
+        ensures theory { self.new.theory ≡ self.old.theory }
+        ensures tails { HasTails T.rank self.old.theory self.old.events self.new.events watched.now tails.new result }
+        ensures steps { steps.new ≤ steps.old + most_steps self.old.theory self.old.events (retracting id ∷ []) }
+    {
+        tails.clear();
         let parts = &mut *self.parts;
         let update = Update::Retract(id);
         let walk = match attempt_one(self.alloc, parts, &mut self.tally, &update, steps) {
             Ok(walk) => walk,
             Err(refusal) => return Err(refusal),
         };
-        let seen = match carry_out(
+        let room = &mut *self.room;
+        let carried = carry_out(
             self.alloc,
-            &mut self.lists,
+            room,
             parts,
             &mut self.tally,
             walk,
+            watched,
             steps,
-        ) {
+        );
+        let seen = match carried {
             Ok(seen) => seen,
             Err(none) => return Err(Refusal::Memory(none)),
         };
+        mem::swap(&mut room.tails, tails);
         Ok(seen)
     }
 }

@@ -10,6 +10,7 @@ use Rattle.ec_batch.proofs.Moved.{HasWalkedTo-moved}
 use Rattle.ec_engine.specs.Revise.{steps_between}
 use Rattle.ec_engine.proofs.Standings.{IsWithinLimits-none}
 use Rattle.ec_engine.proofs.StepSums.{sums-filled}
+use Rattle.ec_engine.proofs.WatchedTails.{no_rows-ascend}
 use Rattle.ec_engine.proofs.WorkDone.{steps_between-none}
 use Rattle.ec_engine.proofs.building.fill.Goals as goal
 
@@ -73,3 +74,6 @@ returns-clause-steps g c =
     ∙ ap (λ s. steps_between c.args.parts.now.checked (history_of rank s.events) built) c.walk_in.ensures.store
     ∙ ap (λ es. steps_between c.args.parts.now.checked es built) c.requires.stand.both.caches.events_of in
     sums-filled _ _ _ _ carried from_none (steps_between-none c.args.parts.now.checked built) c.walk_in.ensures.len c.start-walk.ensures.len
+
+pub carry_out-requires-clause-ascend : goal.carry_out-requires-clause-ascend
+carry_out-requires-clause-ascend g c = no_rows-ascend

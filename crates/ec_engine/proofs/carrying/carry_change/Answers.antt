@@ -12,7 +12,7 @@ use Rattle.ec_engine.proofs.StepSums.{sums-undone}
 use Rattle.ec_engine.proofs.carrying.carry_change.Goals as goal
 
 pub make_change-requires : goal.make_change-requires
-make_change-requires g c = record { leads = record { new = c.requires.leads.soon; tally = c.args.tally.now; underway = c.requires.leads.to.underway } }
+make_change-requires g c = record { leads = record { new = c.requires.leads.soon; tally = c.args.tally.now; underway = c.requires.leads.to.underway }; ascend = c.requires.ascend }
 
 pub forget_listed-requires : goal.forget_listed-requires
 forget_listed-requires g c =
@@ -69,7 +69,7 @@ pub undo_change-requires-clause-fresh : goal.undo_change-requires-clause-fresh
 undo_change-requires-clause-fresh g c =
     let rank = g.T.Moment.rank in
     let later = c.make_change.new.parts in
-    subst (λ es. AreLiveOrListed later.checked (history_of rank es) later.props (λ id. has_number id c.args.fresh.now)) (sym c.in-Err.ensures.events)
+    subst (λ es. AreLiveOrListed later.checked (history_of rank es) later.props (λ id. has_number id c.args.listed.now.fresh.now)) (sym c.in-Err.ensures.events)
     (AreLiveOrListed-moved c.args.parts.now.checked later.checked (history_of rank c.args.parts.now.store.events) c.args.parts.now.props later.props _ c.make_change.ensures.theory c.make_change.ensures.table
     c.requires.leads.to.fresh_listed)
 
@@ -83,3 +83,9 @@ returns-in-Err-clause-carried g c soon leads =
 pub returns-in-Err-clause-steps : goal.returns-in-Err-clause-steps
 returns-in-Err-clause-steps g c soon leads =
     sums-undone _ _ _ _ (c.in-Err.ensures.planned soon c.args.tally.now leads.underway) (ap (λ (change : Change _). length change.remove) c.in-Err.ensures.back) c.undo_change.ensures.steps
+
+pub returns-in-Ok-clause-tails : goal.returns-in-Ok-clause-tails
+returns-in-Ok-clause-tails g c soon leads = c.in-Ok.ensures.tails soon c.args.tally.now leads.underway
+
+pub returns-in-Err-clause-tails : goal.returns-in-Err-clause-tails
+returns-in-Err-clause-tails g c soon leads = c.in-Err.ensures.no_tails

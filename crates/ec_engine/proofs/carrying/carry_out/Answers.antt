@@ -47,3 +47,13 @@ returns-clause-steps g c soon walked =
     (LeadsTo-walked g.T.Moment.rank c.args.parts.now.checked (view_of c.args.parts.now) c.args.tally.now c.args.walk soon c.in-Ok.change _ _ walked c.requires.within
     (c.in-Ok.ensures.change soon c.args.tally.now walked)
     (c.as_slice.ensures.value ∙ ap (λ v. v.items) c.net_change.ensures.fresh) (c.as_slice-2.ensures.value ∙ ap (λ v. v.items) c.net_change.ensures.dying)))
+
+pub returns-clause-tails : goal.returns-clause-tails
+returns-clause-tails g c soon walked =
+    c.carry_change.ensures.tails soon
+    (LeadsTo-walked g.T.Moment.rank c.args.parts.now.checked (view_of c.args.parts.now) c.args.tally.now c.args.walk soon c.in-Ok.change _ _ walked c.requires.within
+    (c.in-Ok.ensures.change soon c.args.tally.now walked)
+    (c.as_slice.ensures.value ∙ ap (λ v. v.items) c.net_change.ensures.fresh) (c.as_slice-2.ensures.value ∙ ap (λ v. v.items) c.net_change.ensures.dying))
+
+pub returns-in-Err-clause-tails : goal.returns-in-Err-clause-tails
+returns-in-Err-clause-tails g c soon walked = c.clear.ensures
