@@ -4,3 +4,7 @@ mod Zones
 mod Coverings
 mod Loops
 mod Replies
+mod Walks
+mod Found
+mod Noted
+mod Tailed

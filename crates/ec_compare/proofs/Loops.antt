@@ -1,17 +1,17 @@
 -- What of a stretch, of the pairs and of a text is left behind a place.
-use Rattle.std.proofs.Common.{◌≡◌, ℕ, ◌+◌, ◌-◌, ◌<◌, ◌≤◌, suc, Bool, List, [], ◌∷◌, ◌++◌, map, filter, take, drop, length, Some, refl, ap, ap₂, ◌∙◌, append-nil, append_assoc, arith}
+use Rattle.std.proofs.Common.{◌≡◌, ℕ, ◌+◌, ◌-◌, ◌<◌, ◌≤◌, suc, Bool, List, [], ◌∷◌, ◌++◌, map, filter, take, drop, length, Some, Result, Ok, Err, OnOk, refl, ap, ap₂, subst, ◌∙◌, append-nil, append_assoc, arith}
 use Rattle.std.specs.Prelude.{slice_get, codes}
 use Rattle.std.proofs.lemmas.Grind.{flat_map-append}
 use Rattle.std.proofs.lemmas.List.{length-append, length-map, drop_all}
-use Rattle.std.proofs.lemmas.List.Elements.{filter-append}
 use Rattle.ec_lists.proofs.Fronts.{drop-slice_get}
 use Rattle.ec_axioms.specs.Timeline.{Interval}
 use Rattle.ec_commands.specs.QueryTexts.{Canon, interval_text, pair_text}
 use Rattle.ec_commands.specs.Relations.{stands_in}
 use Rattle.ec_commands.specs.declared.relation.Relation.{Relation}
 use Rattle.ec_query.specs.Members.{members_text}
-use Rattle.ec_query.proofs.WritingLemmas.{members_text-append}
+use Rattle.ec_query.proofs.WritingLemmas.{IsLeft, members_text-append}
 use Rattle.ec_compare.specs.Stretches.{stretch, pairs_between, fronted_text}
+use Rattle.ec_compare.proofs.Walks.{filter-left}
 
 -- ---- stretches
 
@@ -26,27 +26,18 @@ stretch-next xs from to x read within =
 pub stretch-end : {X : Type 0} (xs : List X) (from to : ℕ) → to ≤ from → stretch from to xs ≡ []
 stretch-end xs from to end = let none : to - from ≡ 0 = omega (arith, end) in ap (λ k. take k (drop from xs)) none
 
--- of what is left pass the member at the place, if it does, and those behind it
-pub filter-next : {X : Type 0} (p : X → Bool) (xs : List X) (from to : ℕ) (x : X) → slice_get xs from ≡ Some x → from < to
-    → filter p (stretch from to xs) ≡ filter p (x ∷ []) ++ filter p (stretch (from + 1) to xs)
-filter-next p xs from to x read within = ap (filter p) (stretch-next xs from to x read within) ∙ filter-append p (x ∷ []) (stretch (from + 1) to xs)
-
-pub length-filter_next : {X : Type 0} (p : X → Bool) (xs : List X) (from to : ℕ) (x : X) → slice_get xs from ≡ Some x → from < to
-    → length (filter p (stretch from to xs)) ≡ length (filter p (x ∷ [])) + length (filter p (stretch (from + 1) to xs))
-length-filter_next p xs from to x read within =
-    ap length (filter-next p xs from to x read within) ∙ length-append (filter p (x ∷ [])) (filter p (stretch (from + 1) to xs))
-
-pub filter-end : {X : Type 0} (p : X → Bool) (xs : List X) (from to : ℕ) → to ≤ from → filter p (stretch from to xs) ≡ []
-filter-end p xs from to end = ap (filter p) (stretch-end xs from to end)
-
 -- ---- texts
 
--- of what is left the member at the place is written, if it passes, and those behind it
-pub fronted-next : (front : List ℕ) (canon : Canon) (p : Interval → Bool) (xs : List Interval) (from to : ℕ) (x : Interval) → slice_get xs from ≡ Some x → from < to
-    → fronted_text front canon (filter p (stretch from to xs)) ≡ fronted_text front canon (filter p (x ∷ [])) ++ fronted_text front canon (filter p (stretch (from + 1) to xs))
-fronted-next front canon p xs from to x read within =
-    ap (fronted_text front canon) (filter-next p xs from to x read within)
-    ∙ flat_map-append (λ (i : Interval). front ++ 32 ∷ interval_text canon i) (filter p (x ∷ [])) (filter p (stretch (from + 1) to xs))
+module _ (front : List ℕ) (canon : Canon) (xs : List Interval) (k : ℕ) (x : Interval) (read : slice_get xs k ≡ Some x) where
+  -- of a stretch the member at its place is written, and those behind it
+  pub fronted-stretch : (to : ℕ) → k < to → fronted_text front canon (stretch k to xs) ≡ (front ++ 32 ∷ interval_text canon x) ++ fronted_text front canon (stretch (k + 1) to xs)
+  fronted-stretch to within = ap (fronted_text front canon) (stretch-next xs k to x read within)
+
+  -- of what is left the member at the place is written, if it passes, and those behind it
+  pub fronted-left : (p : Interval → Bool) → fronted_text front canon (filter p (drop k xs)) ≡ fronted_text front canon (filter p (x ∷ [])) ++ fronted_text front canon (filter p (drop (k + 1) xs))
+  fronted-left p =
+      ap (fronted_text front canon) (filter-left p xs k x read)
+      ∙ flat_map-append (λ (i : Interval). front ++ 32 ∷ interval_text canon i) (filter p (x ∷ [])) (filter p (drop (k + 1) xs))
 
 -- one interval is written behind its front
 pub fronted-one : (front : List ℕ) (canon : Canon) (i : Interval) → fronted_text front canon (i ∷ []) ≡ front ++ (32 ∷ interval_text canon i)
@@ -56,6 +47,16 @@ fronted-one front canon i = append-nil (front ++ 32 ∷ interval_text canon i)
 pub fronted-alone : (canon : Canon) (xs : List Interval) → fronted_text [] canon xs ≡ members_text (interval_text canon) xs
 fronted-alone canon [] = refl
 fronted-alone canon (i ∷ xs) = ap (λ all. (32 ∷ interval_text canon i) ++ all) (fronted-alone canon xs)
+
+-- what is left of a text is left of it by its other name
+pub IsLeft-named : {S : Type 0} {stands : S → List ℕ → Type 0} {faults : S → ℕ} {before now : S} {whole other rest : List ℕ} → whole ≡ other → IsLeft stands faults before now whole rest
+    → IsLeft stands faults before now other rest
+IsLeft-named {stands = stands} {faults = faults} {before = before} {now = now} {rest = rest} same left = subst (λ (all : List ℕ). IsLeft stands faults before now all rest) same left
+
+-- what holds anyway
+pub OnOk-anyway : {X E P : Type 0} (r : Result X E) → P → OnOk r P
+OnOk-anyway (Ok x) holds = holds
+OnOk-anyway (Err e) holds = tt
 
 -- ---- pairs
 

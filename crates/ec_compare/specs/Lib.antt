@@ -1,2 +1,4 @@
+pub mod Lists
 pub mod Points
 pub mod Stretches
+pub mod TailNotes

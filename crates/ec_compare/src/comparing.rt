@@ -1,6 +1,8 @@
 //! In which relation two intervals stand.
 ghost use Rattle.std.specs.Prelude.{◌≡◌, IsTrue, true};
-ghost use Rattle.ec_commands.specs.Relations.{begin_point, end_point, point_lt, stands_in};
+ghost use Rattle.ec_axioms.specs.Changes.{interval_eq};
+ghost use Rattle.ec_axioms.specs.Timeline.{Interval as PlainInterval};
+ghost use Rattle.ec_commands.specs.Relations.{begin_point, end_point, is_proper, point_lt, stands_in};
 ghost use Rattle.ec_compare.specs.Points.{point_cmp};
 ghost use Rattle.ec_intervals.specs.Table.{plain_begin, plain_end, plain_interval};
 
@@ -11,7 +13,7 @@ use ec_rows::End;
 use std::cmp::Ordering;
 
 /// Which of two begins comes first.
-fn order_begins<T: Moment>(left: Begin<T>, right: Begin<T>) -> Ordering
+pub(crate) fn order_begins<T: Moment>(left: Begin<T>, right: Begin<T>) -> Ordering
     ensures { result ≡ point_cmp (begin_point (plain_begin T.rank left)) (begin_point (plain_begin T.rank right)) }
 {
     match (left, right) {
@@ -84,4 +86,25 @@ pub fn relation<T: Moment>(left: &Interval<T>, right: &Interval<T>) -> Relation
             Ordering::Greater => overlapping_relation(left, right),
         },
     }
+}
+
+/// Whether an interval that stands in a relation to another one ends later than that. It does so in five of the relations.
+pub(crate) fn ends_later(relation: Relation) -> bool
+    ensures { (i j : PlainInterval) → IsTrue (is_proper i) → IsTrue (stands_in relation i j) → IsTrue result → IsTrue (point_lt (end_point j.until) (end_point i.until)) }
+{
+    match relation {
+        Relation::After => true,
+        Relation::MetBy => true,
+        Relation::OverlappedBy => true,
+        Relation::StartedBy => true,
+        Relation::Contains => true,
+        _ => false,
+    }
+}
+
+/// Whether two intervals begin and end at the same.
+pub(crate) fn are_same<T: Moment>(left: &Interval<T>, right: &Interval<T>) -> bool
+    ensures { result ≡ interval_eq (plain_interval T.rank left.now) (plain_interval T.rank right.now) }
+{
+    order_begins(left.from, right.from).is_eq() && order_ends(left.end, right.end).is_eq()
 }

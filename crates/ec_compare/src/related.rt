@@ -12,7 +12,9 @@ ghost use Rattle.ec_terms.specs.Term.{ground_of};
 ghost use Rattle.ec_terms.specs.declared.theory.Theory.{Theory};
 
 use crate::covering::interval_at;
+use crate::fronted::Shown;
 use crate::standing::{count_standing, write_standing};
+use crate::zone::count_ended;
 use ec_commands::Relation;
 use ec_intervals::{Interval, Intervals};
 use ec_moment::Moment;
@@ -31,15 +33,20 @@ fn write_counted<T: Moment, I: SpanRow<T>, K: Sink>(
 ) -> Result<(), Failed>
     requires proper { IsTrue (is_proper (plain_interval T.rank left.now)) }
     ensures written { IsIntervalRow (plain_intervals T.rank (members_at id.0 intervals.now)) →
-        OnOk result (Appended K.stands out.old out.new (counted_text (map (interval_text T.canon) (filter (stands_in wanted (plain_interval T.rank left.now)) (plain_intervals T.rank (members_at id.0 intervals.now)))))) }
+        OnOk result (Appended K.stands out.old out.new (counted_text (map (interval_text T.canon)
+        (filter (stands_in wanted (plain_interval T.rank left.now)) (plain_intervals T.rank (members_at id.0 intervals.now)))))) }
     ensures part { IsIntervalRow (plain_intervals T.rank (members_at id.0 intervals.now)) →
-        OnErr result (AppendedPart K.stands out.old out.new (counted_text (map (interval_text T.canon) (filter (stands_in wanted (plain_interval T.rank left.now)) (plain_intervals T.rank (members_at id.0 intervals.now)))))) }
+        OnErr result (AppendedPart K.stands out.old out.new (counted_text (map (interval_text T.canon)
+        (filter (stands_in wanted (plain_interval T.rank left.now)) (plain_intervals T.rank (members_at id.0 intervals.now)))))) }
     ensures failed { OnErr result (Rose (K.faults out.old) (K.faults out.new)) }
     ensures quiet { OnOk result (K.faults out.new ≡ K.faults out.old) }
     ensures counted { K.faults out.old ≤ K.faults out.new }
 {
-    write_count(count_standing(intervals, id, left, wanted), out)?;
-    write_standing(intervals, id, left, wanted, b"", out)
+    let first = count_ended(intervals, id, left.from);
+    let mut from = first;
+    write_count(count_standing(intervals, id, left, wanted, &mut from), out)?;
+    from = first;
+    write_standing(intervals, id, left, wanted, &mut from, Shown::Right, out)
 }
 
 /// Writes how many intervals of a property an interval stands in a relation to, and each of them.
@@ -52,9 +59,11 @@ fn write_those<T: Moment, I: SpanRow<T>, K: Sink>(
 ) -> Result<(), Failed>
     requires proper { IsTrue (is_proper (plain_interval T.rank left.now)) }
     ensures written { (theory : Theory) (events : List PlainEvent) → AreHeldOf T.rank theory events held.now.props.now held.now.intervals.now →
-        OnOk result (Appended K.stands out.old out.new (counted_text (map (interval_text T.canon) (filter (stands_in wanted (plain_interval T.rank left.now)) (intervals_of theory events (ground_of q.now)))))) }
+        OnOk result (Appended K.stands out.old out.new (counted_text (map (interval_text T.canon)
+        (filter (stands_in wanted (plain_interval T.rank left.now)) (intervals_of theory events (ground_of q.now)))))) }
     ensures part { (theory : Theory) (events : List PlainEvent) → AreHeldOf T.rank theory events held.now.props.now held.now.intervals.now →
-        OnErr result (AppendedPart K.stands out.old out.new (counted_text (map (interval_text T.canon) (filter (stands_in wanted (plain_interval T.rank left.now)) (intervals_of theory events (ground_of q.now)))))) }
+        OnErr result (AppendedPart K.stands out.old out.new (counted_text (map (interval_text T.canon)
+        (filter (stands_in wanted (plain_interval T.rank left.now)) (intervals_of theory events (ground_of q.now)))))) }
     ensures failed { OnErr result (Rose (K.faults out.old) (K.faults out.new)) }
     ensures quiet { OnOk result (K.faults out.new ≡ K.faults out.old) }
     ensures counted { K.faults out.old ≤ K.faults out.new }

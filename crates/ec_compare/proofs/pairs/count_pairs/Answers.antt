@@ -18,10 +18,10 @@ pub returns-clause-count : goal.returns-clause-count
 returns-clause-count g c = λ theory events held.
     subst (λ pairs. IfSome c.count_between.result (λ count. count ≡ length pairs))
     (pairs_of-kept g.T.Moment.rank theory events c.args.held.now.props.now c.args.held.now.intervals.now held c.in-Some.left.0 c.in-Some-lookup.right.0 (ground_of c.args.p.now) (ground_of c.args.q.now) c.args.wanted c.in-Some.ensures.term c.in-Some-lookup.ensures.term)
-    (c.count_between.ensures.count (IsIntervalRow-kept g.T.Moment.rank theory events c.args.held.now.props.now c.args.held.now.intervals.now held c.in-Some-lookup.right.0 (ground_of c.args.q.now) c.in-Some-lookup.ensures.term))
+    (c.count_between.ensures.count (IsIntervalRow-kept g.T.Moment.rank theory events c.args.held.now.props.now c.args.held.now.intervals.now held c.in-Some.left.0 (ground_of c.args.p.now) c.in-Some.ensures.term) (IsIntervalRow-kept g.T.Moment.rank theory events c.args.held.now.props.now c.args.held.now.intervals.now held c.in-Some-lookup.right.0 (ground_of c.args.q.now) c.in-Some-lookup.ensures.term))
 
 pub returns-clause-many : goal.returns-clause-many
 returns-clause-many g c = λ theory events held.
     subst (λ pairs. IfNone c.count_between.result (MOST_PAIRS < length pairs))
     (pairs_of-kept g.T.Moment.rank theory events c.args.held.now.props.now c.args.held.now.intervals.now held c.in-Some.left.0 c.in-Some-lookup.right.0 (ground_of c.args.p.now) (ground_of c.args.q.now) c.args.wanted c.in-Some.ensures.term c.in-Some-lookup.ensures.term)
-    (c.count_between.ensures.many (IsIntervalRow-kept g.T.Moment.rank theory events c.args.held.now.props.now c.args.held.now.intervals.now held c.in-Some-lookup.right.0 (ground_of c.args.q.now) c.in-Some-lookup.ensures.term))
+    (c.count_between.ensures.many (IsIntervalRow-kept g.T.Moment.rank theory events c.args.held.now.props.now c.args.held.now.intervals.now held c.in-Some.left.0 (ground_of c.args.p.now) c.in-Some.ensures.term) (IsIntervalRow-kept g.T.Moment.rank theory events c.args.held.now.props.now c.args.held.now.intervals.now held c.in-Some-lookup.right.0 (ground_of c.args.q.now) c.in-Some-lookup.ensures.term))

@@ -23,7 +23,7 @@ pub returns-clause-written : goal.returns-clause-written
 returns-clause-written g c = λ theory events held.
     OnOk-renamed g.K.Sink.stands c.args.out.now c.write_between.new.out c.write_between.result
     (ap (members_text (pair_text g.T.Moment.canon)) (pairs_of-kept g.T.Moment.rank theory events c.args.held.now.props.now c.args.held.now.intervals.now held c.in-Some.left.0 c.in-Some-lookup.right.0 (ground_of c.args.p.now) (ground_of c.args.q.now) c.args.wanted c.in-Some.ensures.term c.in-Some-lookup.ensures.term))
-    (c.write_between.ensures.written (IsIntervalRow-kept g.T.Moment.rank theory events c.args.held.now.props.now c.args.held.now.intervals.now held c.in-Some-lookup.right.0 (ground_of c.args.q.now) c.in-Some-lookup.ensures.term))
+    (c.write_between.ensures.written (IsIntervalRow-kept g.T.Moment.rank theory events c.args.held.now.props.now c.args.held.now.intervals.now held c.in-Some.left.0 (ground_of c.args.p.now) c.in-Some.ensures.term) (IsIntervalRow-kept g.T.Moment.rank theory events c.args.held.now.props.now c.args.held.now.intervals.now held c.in-Some-lookup.right.0 (ground_of c.args.q.now) c.in-Some-lookup.ensures.term))
 
 pub returns-in_default-clause-part : goal.returns-in_default-clause-part
 returns-in_default-clause-part g c = λ theory events held.
@@ -41,4 +41,4 @@ pub returns-clause-part : goal.returns-clause-part
 returns-clause-part g c = λ theory events held.
     OnErr-renamed g.K.Sink.stands c.args.out.now c.write_between.new.out c.write_between.result
     (ap (members_text (pair_text g.T.Moment.canon)) (pairs_of-kept g.T.Moment.rank theory events c.args.held.now.props.now c.args.held.now.intervals.now held c.in-Some.left.0 c.in-Some-lookup.right.0 (ground_of c.args.p.now) (ground_of c.args.q.now) c.args.wanted c.in-Some.ensures.term c.in-Some-lookup.ensures.term))
-    (c.write_between.ensures.part (IsIntervalRow-kept g.T.Moment.rank theory events c.args.held.now.props.now c.args.held.now.intervals.now held c.in-Some-lookup.right.0 (ground_of c.args.q.now) c.in-Some-lookup.ensures.term))
+    (c.write_between.ensures.part (IsIntervalRow-kept g.T.Moment.rank theory events c.args.held.now.props.now c.args.held.now.intervals.now held c.in-Some.left.0 (ground_of c.args.p.now) c.in-Some.ensures.term) (IsIntervalRow-kept g.T.Moment.rank theory events c.args.held.now.props.now c.args.held.now.intervals.now held c.in-Some-lookup.right.0 (ground_of c.args.q.now) c.in-Some-lookup.ensures.term))
