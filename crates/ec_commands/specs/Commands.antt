@@ -116,10 +116,10 @@ command_by spelt Related words =
 command_by spelt Last words = of_none ask_last words
 command_by spelt Quit words = of_none quit words
 
--- the command that some words make
-unfoldable pub command_of_words : (List ℕ → Option ℤ) → List (List ℕ) → PlainCommand
-command_of_words spelt [] = bad
-command_of_words spelt (word ∷ words) = if_part (keyword_of word) (λ keyword. command_by spelt keyword words)
+-- the command that some words make which `asof` is not the first of
+unfoldable pub plain_of_words : (List ℕ → Option ℤ) → List (List ℕ) → PlainCommand
+plain_of_words spelt [] = bad
+plain_of_words spelt (word ∷ words) = if_part (keyword_of word) (λ keyword. command_by spelt keyword words)
 
 -- a number of accepted updates: 1 to 20 digits, below 2 ^ 64
 unfoldable pub count_value : List ℕ → Option ℕ
@@ -144,6 +144,16 @@ past_query k (watch_prop p) = bad
 past_query k (unwatch_prop p) = bad
 past_query k ask_last = bad
 past_query k quit = bad
+
+-- what `asof` asks with the words behind it: a number of accepted updates, and the words of a query of one list
+unfoldable pub past_of_words : (List ℕ → Option ℤ) → List (List ℕ) → PlainCommand
+past_of_words spelt [] = bad
+past_of_words spelt (number ∷ words) = if_part (count_value number) (λ k. past_query k (plain_of_words spelt words))
+
+-- the command that some words make
+unfoldable pub command_of_words : (List ℕ → Option ℤ) → List (List ℕ) → PlainCommand
+command_of_words spelt [] = bad
+command_of_words spelt (word ∷ words) = if bytes_eq (codes "asof") word then past_of_words spelt words else plain_of_words spelt (word ∷ words)
 
 -- a digit's value, or none
 unfoldable pub digit_value_of : ℕ → Option ℕ

@@ -1,4 +1,5 @@
 pub mod CutLines
+pub mod Digits
 pub mod FeedLemmas
 pub mod ReplyTexts
 pub mod SplitLines

@@ -4,7 +4,7 @@ use Rattle.ec_terms.specs.Term.{ground_of, names_are_names}
 use Rattle.ec_commands.specs.Commands.{PlainQuery, ask_holds, ask_through, ask_intervals, ask_broken, ask_at, ask_clashes, ask_events, ask_why}
 use Rattle.ec_commands.specs.Commands.{PlainCommand, PlainParsed, silent, bad, assert_event, retract_event, begin_draft, commit_draft, abort_draft, ask, ask_past, ask_pairs, ask_related, watch_prop, unwatch_prop, ask_last, quit}
 use Rattle.ec_lines.specs.declared.command.Command.{Command}
-use Rattle.ec_lines.specs.declared.command.Command.TheVariants.{Silent, Bad, Assert, Retract, Begin, Commit, Abort, Ask, Pairs, Related, Last, Quit}
+use Rattle.ec_lines.specs.declared.command.Command.TheVariants.{Silent, Bad, Assert, Retract, Begin, Commit, Abort, Ask, Past, Pairs, Related, Last, Quit}
 use Rattle.ec_lines.specs.declared.command.Parsed.{Parsed}
 use Rattle.ec_lines.specs.declared.command.Query.{Query}
 use Rattle.ec_lines.specs.declared.command.Query.TheVariants.{Holds, Through, Intervals, Broken, At, Clashes, Events, Why}
@@ -30,6 +30,7 @@ plain_command rank Begin = begin_draft
 plain_command rank Commit = commit_draft
 plain_command rank Abort = abort_draft
 plain_command rank (Ask query) = ask (plain_query rank query)
+plain_command rank (Past count query) = ask_past count (plain_query rank query)
 plain_command rank (Pairs left relation right) = ask_pairs (ground_of left) relation (ground_of right)
 plain_command rank (Related left at relation right) = ask_related (ground_of left) (rank at) relation (ground_of right)
 plain_command rank Last = ask_last

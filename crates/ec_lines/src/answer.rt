@@ -28,6 +28,11 @@ pub enum Answer {
     Order,
     /// More pairs stand in a relation than a reply lists.
     FullPairs,
+    /// A question about the past names more updates than were accepted, which are so many.
+    Future(u64),
+    /// A question about the past names a list that is kept no longer. The first one that is kept is that after so many accepted
+    /// updates.
+    Gone(u64),
     /// Memory ran out: an allocation failed.
     Memory(NoMemory),
     /// An update was refused.

@@ -13,7 +13,7 @@ use ec_terms::{GroundRef, Name, read_ground};
 
 /// The term that a whole word spells.
 #[tactic(auto, unfolding(ec_terms::specs::Term::term_value))]
-fn read_term(word: &[u8]) -> Option<GroundRef<'_>>
+pub fn read_term(word: &[u8]) -> Option<GroundRef<'_>>
     ensures exact { MatchOption result (term_value word.now ≡ None) (λ term. term_value word.now ≡ Some (ground_of term)) }
     ensures names { IfSome result (λ term. IsTrue (names_are_names (ground_of term))) }
 {

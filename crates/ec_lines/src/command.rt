@@ -58,6 +58,11 @@ pub enum Command<'a, T> {
     Abort,
     /// Asks a query of the present events.
     Ask(Query<'a, T>),
+    /// Asks a query of the events after so many accepted updates.
+    Past {
+        count: u64,
+        query: Query<'a, T>,
+    },
     /// Which pairs of an interval of one property and one of another stand in a relation.
     Pairs {
         left: GroundRef<'a>,

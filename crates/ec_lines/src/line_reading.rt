@@ -1,10 +1,11 @@
 //! Reading a line.
-ghost use Rattle.std.specs.Prelude.{◌≡◌, ◌<◌, ◌∷◌, nat_lt, IfSome, None};
-ghost use Rattle.ec_commands.specs.Commands.{parsed_of, prefixed_line, command_of_words, session_of_digits, digit_value_of};
-ghost use Rattle.ec_lines.specs.ShownCommand.{plain_command, plain_parsed, AreNamed};
+ghost use Rattle.std.specs.Prelude.{◌≡◌, ◌<◌, ◌∷◌, bytes_eq, codes, nat_lt, IfSome, None};
+ghost use Rattle.ec_commands.specs.Commands.{parsed_of, prefixed_line, command_of_words, past_of_words, past_query, plain_of_words, session_of_digits, digit_value_of};
+ghost use Rattle.ec_lines.specs.ShownCommand.{plain_command, plain_or_bad, plain_parsed, AreNamed};
 
 use crate::arguments::read_arguments;
 use crate::command::{Command, Parsed};
+use crate::count::read_count;
 use crate::line_words::Words;
 use ec_commands::{SESSIONS, read_keyword};
 use ec_moment::Moment;
@@ -49,15 +50,70 @@ fn read_session(digits: &[u8]) -> Option<u8>
     }
 }
 
+/// Reads the command that begins with `word`, which is not `asof`. Its other words are still to come.
+#[tactic(auto, unfolding(ec_commands::specs::Commands::plain_of_words))]
+fn read_plain<'a, T: Moment>(word: &[u8], words: &mut Words<'a>) -> Command<'a, T>
+    ensures command { plain_command T.rank result ≡ plain_of_words T.spelt (word.now ∷ words.old) }
+    ensures names { AreNamed (plain_command T.rank result) }
+{
+    match read_keyword(word) {
+        Some(keyword) => read_arguments(keyword, words).unwrap_or(Command::Bad),
+        None => Command::Bad,
+    }
+}
+
+/// The question that a command asks about the list after so many accepted updates. `None`: it is no query of one list.
+fn past_of<T: Moment>(count: u64, command: Command<'_, T>) -> Option<Command<'_, T>>
+    requires named { AreNamed (plain_command T.rank command) }
+    ensures command { plain_or_bad T.rank result ≡ past_query count (plain_command T.rank command.entry) }
+    ensures names { AreNamed (plain_or_bad T.rank result) }
+{
+    match command {
+        Command::Ask(query) => Some(Command::Past { count, query }),
+        Command::Silent
+        | Command::Bad
+        | Command::Assert { .. }
+        | Command::Retract { id: _ }
+        | Command::Begin
+        | Command::Commit
+        | Command::Abort
+        | Command::Past { .. }
+        | Command::Pairs { .. }
+        | Command::Related { .. }
+        | Command::Last
+        | Command::Quit => None,
+    }
+}
+
+/// Reads the words behind `asof`: a number of accepted updates, and a query of one list. `None`: they are not these.
+#[tactic(auto, unfolding(ec_commands::specs::Commands::past_of_words))]
+fn read_past<'a, T: Moment>(words: &mut Words<'a>) -> Option<Command<'a, T>>
+    ensures command { plain_or_bad T.rank result ≡ past_of_words T.spelt words.old }
+    ensures names { AreNamed (plain_or_bad T.rank result) }
+{
+    let count = read_count(words.next()?)?;
+    let word = words.next()?;
+    past_of(count, read_plain(word, words))
+}
+
+/// Whether the word stands before a query of the past.
+fn is_asof(word: &[u8]) -> bool
+    ensures { result ≡ bytes_eq (codes "asof") word.now }
+{
+    let asof: &[u8] = b"asof";
+    asof == word
+}
+
 /// Reads the command that begins with `word`. Its other words are still to come.
 #[tactic(auto, unfolding(ec_commands::specs::Commands::command_of_words))]
 fn read_from<'a, T: Moment>(word: &[u8], words: &mut Words<'a>) -> Command<'a, T>
     ensures command { plain_command T.rank result ≡ command_of_words T.spelt (word.now ∷ words.old) }
     ensures names { AreNamed (plain_command T.rank result) }
 {
-    match read_keyword(word) {
-        Some(keyword) => read_arguments(keyword, words).unwrap_or(Command::Bad),
-        None => Command::Bad,
+    if is_asof(word) {
+        read_past(words).unwrap_or(Command::Bad)
+    } else {
+        read_plain(word, words)
     }
 }
 

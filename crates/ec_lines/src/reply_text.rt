@@ -123,6 +123,14 @@ pub(crate) fn push_answer(text: &mut ReplyText, answer: &Answer)
             text.push(b"refused full-pairs ");
             text.push_number(MOST_PAIRS);
         }
+        Answer::Future(count) => {
+            text.push(b"refused future ");
+            text.push_number(*count);
+        }
+        Answer::Gone(first) => {
+            text.push(b"refused gone ");
+            text.push_number(*first);
+        }
         Answer::Memory(_) => text.push(b"refused memory"),
         Answer::Update(cut) => {
             text.push(b"refused ");

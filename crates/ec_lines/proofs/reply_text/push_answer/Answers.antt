@@ -44,3 +44,15 @@ unfolding answer_text
 returns-in-FullPairs-clause-text c =
     two_parts c.args.text.now _ _ c.push-in-FullPairs.ensures.text c.push_number-in-FullPairs.ensures.text
     ∙ ap (λ answer. c.args.text.now ++ answer_text (plain_answer answer)) (sym c.in-FullPairs.is)
+
+pub returns-in-Future-clause-text : goal.returns-in-Future-clause-text
+unfolding answer_text
+returns-in-Future-clause-text c =
+    two_parts c.args.text.now _ _ c.push-in-Future.ensures.text c.push_number-in-Future.ensures.text
+    ∙ ap (λ answer. c.args.text.now ++ answer_text (plain_answer answer)) (sym c.in-Future.is)
+
+pub returns-in-Gone-clause-text : goal.returns-in-Gone-clause-text
+unfolding answer_text
+returns-in-Gone-clause-text c =
+    two_parts c.args.text.now _ _ c.push-in-Gone.ensures.text c.push_number-in-Gone.ensures.text
+    ∙ ap (λ answer. c.args.text.now ++ answer_text (plain_answer answer)) (sym c.in-Gone.is)
