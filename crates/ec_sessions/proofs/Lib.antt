@@ -6,3 +6,4 @@ mod Standings
 mod StepCounts
 mod StepLawProofs
 mod Comparisons
+pub mod PastQuestions

@@ -1,5 +1,5 @@
 -- How many steps an update, a commit and a line may take, where the draft is known.
-use Rattle.std.proofs.Common.{◌≡◌, ◌+◌, ℕ, length, true, false, List, [], ◌∷◌, Some, None}
+use Rattle.std.proofs.Common.{◌≡◌, ◌+◌, ℕ, length, true, false, List, [], ◌∷◌, Option, Some, None}
 use Rattle.ec_terms.specs.declared.theory.Theory.{Theory}
 use Rattle.ec_axioms.specs.Changes.{PlainUpdate}
 use Rattle.ec_commands.specs.Commands.{parsed_of}
@@ -22,11 +22,11 @@ module _ (theory : Theory) (session : ℕ) (state : State) where
   unfolding most_commit_steps
   most_commit_steps-open held opened = rw (opened, most_commit_steps)
 
-pub most_line_steps-short : (language : Language) (state : State) (line : List ℕ) → is_long line ≡ false
-    → most_line_steps language state line ≡ most_parsed_steps language.theory state (parsed_of language.spelt line)
+pub most_line_steps-short : (language : Language) (viewed : Option ℕ) (state : State) (line : List ℕ) → is_long line ≡ false
+    → most_line_steps language viewed state line ≡ most_parsed_steps language.theory viewed state (parsed_of language.spelt line)
 unfolding most_line_steps
-most_line_steps-short language state line short = rw (short, most_line_steps)
+most_line_steps-short language viewed state line short = rw (short, most_line_steps)
 
-pub most_line_steps-long : (language : Language) (state : State) (line : List ℕ) → is_long line ≡ true → most_line_steps language state line ≡ 0
+pub most_line_steps-long : (language : Language) (viewed : Option ℕ) (state : State) (line : List ℕ) → is_long line ≡ true → most_line_steps language viewed state line ≡ 0
 unfolding most_line_steps
-most_line_steps-long language state line long = rw (long, most_line_steps)
+most_line_steps-long language viewed state line long = rw (long, most_line_steps)

@@ -1,5 +1,5 @@
 -- What lines are answered from.
-use Rattle.std.specs.Prelude.{List, [], replicate}
+use Rattle.std.specs.Prelude.{◌≡◌, ◌⊎◌, ℕ, List, [], Option, Some, replicate}
 use Rattle.ec_terms.specs.declared.ground.Ground.{Ground}
 use Rattle.ec_terms.specs.declared.theory.Theory.{Theory}
 use Rattle.ec_axioms.specs.declared.event.Seen.{Seen}
@@ -8,10 +8,16 @@ use Rattle.ec_commands.specs.declared.limits.TheConstants.{SESSIONS}
 use Rattle.ec_replies.specs.Past.{Past}
 use Rattle.ec_replies.specs.State.{Draft, State}
 
--- a theory, and what the lines so far have left
+-- a theory, what the lines so far have left, and the list of the past that is viewed, if there is one: the list after so many accepted
+-- updates, from which the way to the next one goes
 pub record SessionsState : Type 0 where
   pub theory : Theory
   pub state : State
+  pub viewed : Option ℕ
+
+-- the list after so many accepted updates is ready to be asked: it is the present one, or the one that is viewed
+abbrev pub IsReadyAt : ℕ → SessionsState → Type 0
+IsReadyAt k sessions = (k ≡ sessions.state.past.count) ⊎ (sessions.viewed ≡ Some k)
 
 -- no session watches a property
 abbrev pub no_watches : List (List Ground)

@@ -68,7 +68,14 @@ fn write_line<T: Moment, M: MarkRow<T>, I: SpanRow<T>, X: TimeRow<T>, K: Sink, L
 }
 
 /// Answers a query from an engine: writes the whole reply line, and says what follows.
-fn reply_to_query<T: Moment, M: MarkRow<T>, I: SpanRow<T>, X: TimeRow<T>, K: Sink, L: Ledger>(
+pub(crate) fn reply_to_query<
+    T: Moment,
+    M: MarkRow<T>,
+    I: SpanRow<T>,
+    X: TimeRow<T>,
+    K: Sink,
+    L: Ledger,
+>(
     engine: &Engine<T, M, I, X>,
     prefix: Option<u8>,
     query: &Query<'_, T>,

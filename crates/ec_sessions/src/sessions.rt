@@ -7,7 +7,7 @@ ghost use Rattle.ec_lines.specs.ShownCommand.{plain_command, plain_parsed, AreNa
 ghost use Rattle.ec_lines.specs.ShownLine.{ShowsLine};
 ghost use Rattle.ec_outside.specs.Counts.{Rose};
 ghost use Rattle.ec_replies.specs.State.{empty_state};
-ghost use Rattle.ec_sessions.specs.Answering.{IsTold};
+ghost use Rattle.ec_sessions.specs.Answering.{IsReadyFor, IsTold};
 ghost use Rattle.ec_sessions.specs.Handling.{IsHandled};
 ghost use Rattle.ec_sessions.specs.LineSteps.{most_change_steps, most_line_steps, most_parsed_steps};
 
@@ -36,8 +36,8 @@ const NO_CHANGE: Seen = Seen {
 };
 
 /// What lines are answered from: the chronicle, which keeps the present events, what the calculus makes of them, and their past;
-/// what the last accepted update changed; and the draft of each session. Contracts see the theory and the state of the replies, in
-/// which nothing is watched.
+/// what the last accepted update changed; and the draft of each session. Contracts see the theory, the state of the replies, in which
+/// nothing is watched, and which list of the past is viewed.
 #[derive(Drop)]
 pub struct Sessions<T: Moment, M: MarkRow<T>, I: SpanRow<T>, X: TimeRow<T>> {
     pub(crate) chronicle: Chronicle<T, M, I, X>,
@@ -51,7 +51,7 @@ impl<T: Moment, M: MarkRow<T>, I: SpanRow<T>, X: TimeRow<T>> Model for Sessions<
 
     ghost Value = { SessionsState };
 
-    ghost view = { λ s. record { theory = s.chronicle.theory; state = kept_state s.chronicle.events s.chronicle.past s.last s.drafts } };
+    ghost view = { λ s. record { theory = s.chronicle.theory; state = kept_state s.chronicle.events s.chronicle.past s.last s.drafts; viewed = s.chronicle.viewed } };
 }
 
 impl<T: Moment, M: MarkRow<T>, I: SpanRow<T>, X: TimeRow<T>> Sessions<T, M, I, X> {
@@ -71,7 +71,7 @@ impl<T: Moment, M: MarkRow<T>, I: SpanRow<T>, X: TimeRow<T>> Sessions<T, M, I, X
     }
 
     /// Answers a line: does what it says and writes its reply, if it has one. Of a reply that can't be written whole a first
-    /// part is written, and what the line changed stands. Only a well-formed `assert`, `retract` or `commit` takes memory.
+    /// part is written, and what the line changed stands. Only a well-formed `assert`, `retract`, `commit` or `asof` takes memory.
     pub fn handle<K: Sink, L: Ledger>(
         &mut self,
         line: Line<'_>,
@@ -85,7 +85,7 @@ impl<T: Moment, M: MarkRow<T>, I: SpanRow<T>, X: TimeRow<T>> Sessions<T, M, I, X
         ensures quiet { (result ≡ Handled.WriteFault) ⊎ (K.faults out.new ≡ K.faults out.old) }
         ensures counted { K.faults out.old ≤ K.faults out.new }
         ensures steps { (shown : List ℕ) → ShowsLine line.entry shown →
-            steps.new ≤ steps.old + most_line_steps (record { theory = self.old.theory; spelt = T.spelt; canon = T.canon }) self.old.state shown }
+            steps.new ≤ steps.old + most_line_steps (record { theory = self.old.theory; spelt = T.spelt; canon = T.canon }) self.old.viewed self.old.state shown }
     {
         match line {
             Line::Text(bytes) => self.handle_parsed(read_command(bytes), out, steps),
@@ -108,18 +108,20 @@ impl<T: Moment, M: MarkRow<T>, I: SpanRow<T>, X: TimeRow<T>> Sessions<T, M, I, X
         ensures failed { result ≡ Handled.WriteFault → Rose (K.faults out.old) (K.faults out.new) }
         ensures quiet { (result ≡ Handled.WriteFault) ⊎ (K.faults out.new ≡ K.faults out.old) }
         ensures counted { K.faults out.old ≤ K.faults out.new }
-        ensures steps { steps.new ≤ steps.old + most_parsed_steps self.old.theory self.old.state (plain_parsed T.rank parsed.entry) }
+        ensures steps { steps.new ≤ steps.old + most_parsed_steps self.old.theory self.old.viewed self.old.state (plain_parsed T.rank parsed.entry) }
     {
         let prefix = parsed.session;
         match self.answer(prefix.unwrap_or(0), parsed.command, steps) {
             Told::Nothing => Handled::Go,
             Told::Answer(answer) => reply(prefix, &answer, out),
             Told::Query(query) => self.ask(prefix, &query, out, steps),
+            Told::Past { count, query } => self.ask_ready(prefix, count, &query, out, steps),
             Told::Compared(comparison) => self.compare(prefix, &comparison, out),
         }
     }
 
-    /// Does what a command of a session says, and tells its answer, or the query or the comparison that it asks for.
+    /// Does what a command of a session says, and tells its answer, or the query or the comparison that it asks for. What a query of
+    /// the past asks about is ready then.
     fn answer<'a, L: Ledger>(
         &mut self,
         session: u8,
@@ -130,7 +132,8 @@ impl<T: Moment, M: MarkRow<T>, I: SpanRow<T>, X: TimeRow<T>> Sessions<T, M, I, X
         requires session { session < SESSIONS }
         ensures theory { self.new.theory ≡ self.old.theory }
         ensures told { IsTold T.rank (record { theory = self.old.theory; spelt = T.spelt; canon = T.canon }) session self.old.state (plain_command T.rank command.entry) result self.new.state }
-        ensures steps { steps.new ≤ steps.old + most_change_steps self.old.theory session self.old.state (plain_command T.rank command.entry) }
+        ensures ready { IsReadyFor result self.new }
+        ensures steps { steps.new ≤ steps.old + most_change_steps self.old.theory session self.old.viewed self.old.state (plain_command T.rank command.entry) }
     {
         let last = self.last;
         match command {
@@ -144,6 +147,7 @@ impl<T: Moment, M: MarkRow<T>, I: SpanRow<T>, X: TimeRow<T>> Sessions<T, M, I, X
             Command::Commit => Told::Answer(self.commit(session, steps)),
             Command::Abort => Told::Answer(self.abort(session)),
             Command::Ask(query) => Told::Query(query),
+            Command::Past { count, query } => self.ask_past(count, query, steps),
             Command::Pairs {
                 left,
                 relation,

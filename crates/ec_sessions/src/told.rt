@@ -13,6 +13,8 @@ pub(crate) enum Told<'a, T> {
     Answer(Answer),
     /// The reply to a query, which is written from the engine as it is read.
     Query(Query<'a, T>),
+    /// The reply to a query of the list after so many accepted updates, which is ready, and is written from its engine as it is read.
+    Past { count: u64, query: Query<'a, T> },
     /// How the intervals of two properties relate, which is written from the engine as it is read.
     Compared(Comparison<'a, T>),
 }

@@ -4,7 +4,7 @@ use Rattle.std.proofs.lemmas.List.{length-map}
 use Rattle.ec_terms.specs.declared.theory.Theory.{Theory}
 use Rattle.ec_terms.specs.Term.{ground_of}
 use Rattle.ec_axioms.specs.Calculus.{PlainEvent}
-use Rattle.ec_commands.specs.QueryTexts.{intervals_reply, broken_reply, at_reply, clashes_reply, events_reply, why_reply}
+use Rattle.ec_commands.specs.QueryTexts.{broken_reply, clashes_reply, why_reply}
 use Rattle.ec_store.specs.Store.{plain_of}
 use Rattle.ec_parts.specs.StandFor.{view_of}
 use Rattle.ec_query.specs.Marked.{AreMarkedOf}

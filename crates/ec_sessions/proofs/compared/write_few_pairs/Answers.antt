@@ -1,5 +1,5 @@
 -- The count tells whether a reply lists so many pairs.
-use Rattle.std.proofs.Common.{◌≤◌, length, sym, subst}
+use Rattle.std.proofs.Common.{◌≤◌, subst}
 use Rattle.ec_terms.specs.Term.{ground_of}
 use Rattle.ec_commands.specs.declared.limits.TheConstants.{MOST_PAIRS}
 use Rattle.ec_query.proofs.WritingLemmas.{OnErr-renamed, OnOk-renamed}

@@ -35,7 +35,7 @@ pub returns-in-Assert-clause-steps : goal.returns-in-Assert-clause-steps
 unfolding most_change_steps
 returns-in-Assert-clause-steps g c =
     let rank = g.T.Moment.rank in
-    subst (λ (k : PlainCommand). c.assert.new.steps ≤ c.args.steps.now + most_change_steps c.args.self.now.theory c.args.session c.args.self.now.state k) (sym (ap (plain_command rank) c.in-Assert.is))
+    subst (λ (k : PlainCommand). c.assert.new.steps ≤ c.args.steps.now + most_change_steps c.args.self.now.theory c.args.session c.args.self.now.viewed c.args.self.now.state k) (sym (ap (plain_command rank) c.in-Assert.is))
     c.assert.ensures.steps
 
 pub returns-in-Retract-clause-told : goal.returns-in-Retract-clause-told
@@ -49,7 +49,7 @@ pub returns-in-Retract-clause-steps : goal.returns-in-Retract-clause-steps
 unfolding most_change_steps
 returns-in-Retract-clause-steps g c =
     let rank = g.T.Moment.rank in
-    subst (λ (k : PlainCommand). c.retract.new.steps ≤ c.args.steps.now + most_change_steps c.args.self.now.theory c.args.session c.args.self.now.state k) (sym (ap (plain_command rank) c.in-Retract.is))
+    subst (λ (k : PlainCommand). c.retract.new.steps ≤ c.args.steps.now + most_change_steps c.args.self.now.theory c.args.session c.args.self.now.viewed c.args.self.now.state k) (sym (ap (plain_command rank) c.in-Retract.is))
     c.retract.ensures.steps
 
 pub returns-in-Begin-clause-told : goal.returns-in-Begin-clause-told
@@ -70,7 +70,7 @@ pub returns-in-Commit-clause-steps : goal.returns-in-Commit-clause-steps
 unfolding most_change_steps
 returns-in-Commit-clause-steps g c =
     let rank = g.T.Moment.rank in
-    subst (λ (k : PlainCommand). c.commit.new.steps ≤ c.args.steps.now + most_change_steps c.args.self.now.theory c.args.session c.args.self.now.state k) (sym (ap (plain_command rank) c.in-Commit.is))
+    subst (λ (k : PlainCommand). c.commit.new.steps ≤ c.args.steps.now + most_change_steps c.args.self.now.theory c.args.session c.args.self.now.viewed c.args.self.now.state k) (sym (ap (plain_command rank) c.in-Commit.is))
     c.commit.ensures.steps
 
 pub returns-in-Abort-clause-told : goal.returns-in-Abort-clause-told
@@ -93,3 +93,10 @@ returns-in-Quit-clause-told g c =
     let rank = g.T.Moment.rank in
     IsAnswerTo-same language c.args.session c.args.self.now.state _ quit answer_bye c.args.self.now.state (ap (plain_command rank) c.in-Quit.is)
     (IsAnswerTo-quit language c.args.session c.args.self.now.state)
+
+pub returns-in-Past-clause-steps : goal.returns-in-Past-clause-steps
+unfolding most_change_steps
+returns-in-Past-clause-steps g c =
+    let rank = g.T.Moment.rank in
+    subst (λ (k : PlainCommand). c.ask_past.new.steps ≤ c.args.steps.now + most_change_steps c.args.self.now.theory c.args.session c.args.self.now.viewed c.args.self.now.state k) (sym (ap (plain_command rank) c.in-Past.is))
+    c.ask_past.ensures.steps

@@ -14,7 +14,7 @@ returns-in-Text-clause-steps g c = λ shown shows.
     let language : Language = record { theory = c.args.self.now.theory; spelt = g.T.Moment.spelt; canon = g.T.Moment.canon } in
     let line = subst (λ (l : Line). ShowsLine l shown) c.in-Text.is shows in
     let said = c.read_command.ensures.line ∙ ap (parsed_of g.T.Moment.spelt) line.0 in
-    let steps = ap (most_parsed_steps c.args.self.now.theory c.args.self.now.state) said ∙ sym (most_line_steps-short language c.args.self.now.state shown line.1) in
+    let steps = ap (most_parsed_steps c.args.self.now.theory c.args.self.now.viewed c.args.self.now.state) said ∙ sym (most_line_steps-short language c.args.self.now.viewed c.args.self.now.state shown line.1) in
     subst (λ (n : ℕ). c.handle_parsed.new.steps ≤ c.args.steps.now + n) steps c.handle_parsed.ensures.steps
 
 pub returns-in-Long-clause-handled : goal.returns-in-Long-clause-handled

@@ -2,10 +2,11 @@
 use Rattle.std.proofs.Common.{◌≡◌, ℕ, ◌+◌, ◌≤◌, [], false, refl, sym, ap, ◌∙◌, subst, arith}
 use Rattle.ec_terms.specs.declared.theory.Theory.{Theory}
 use Rattle.ec_commands.specs.Answers.{answer_text}
-use Rattle.ec_commands.specs.Commands.{PlainCommand, silent, ask}
+use Rattle.ec_commands.specs.Commands.{PlainCommand, silent, ask, ask_past}
 use Rattle.ec_lines.specs.ShownAnswer.{plain_answer}
 use Rattle.ec_lines.specs.ShownCommand.{plain_command, plain_parsed, plain_query}
 use Rattle.ec_outside.proofs.Streams.{Appended-nil, NothingAppended-refl}
+use Rattle.ec_replies.specs.Past.{list_after}
 use Rattle.ec_replies.specs.State.{State}
 use Rattle.ec_replies.specs.Replies.{Language, query_text, reply_line, session_of}
 use Rattle.ec_replies.specs.Runs.{command_quits}
@@ -13,6 +14,7 @@ use Rattle.ec_sessions.specs.declared.handled.Handled.TheVariants.{Go}
 use Rattle.ec_sessions.specs.Answering.{IsAnswerTo, IsWritten, comparison_text, is_bye, plain_comparison}
 use Rattle.ec_sessions.specs.LineSteps.{most_asked_steps, most_change_steps, most_query_steps}
 use Rattle.ec_sessions.proofs.AnsweredLines.{CommandStep, CommandStep-answer, CommandStep-compared, CommandStep-query, CommandStep-silent, command_quits-compared, IsHandled-written, Step-parsed, is_quit-parsed}
+use Rattle.ec_sessions.proofs.PastQuestions.{CommandStep-past, unless_refused-asked}
 use Rattle.ec_sessions.proofs.sessions.Sessions.handle_parsed.Goals as goal
 
 pub returns-in-Nothing-clause-handled : goal.returns-in-Nothing-clause-handled
@@ -59,6 +61,26 @@ returns-in-Query-clause-handled g c = λ line short is.
     IsHandled-written g.K.Sink.stands language c.args.out.now c.ask.new.out c.ask.result false (Step-parsed language line text parsed before after short is step)
     (is_quit-parsed language line parsed short is ∙ ap command_quits told.0) written
 
+pub returns-in-Past-clause-handled : goal.returns-in-Past-clause-handled
+returns-in-Past-clause-handled g c = λ line short is.
+    let language : Language = record { theory = c.args.self.now.theory; spelt = g.T.Moment.spelt; canon = g.T.Moment.canon } in
+    let parsed = plain_parsed g.T.Moment.rank c.args.parsed in
+    let before = c.args.self.now.state in
+    let after = c.answer.new.self.state in
+    let query = plain_query g.T.Moment.rank c.in-Past.query in
+    let k = c.in-Past.count in
+    let told = c.in-Past.ensures.told in
+    let text = reply_line parsed.session (query_text language (list_after k before.events before.past) query) in
+    let step = subst (λ (command : PlainCommand). CommandStep language parsed.session (session_of parsed) before command text after) (sym told.0)
+    (subst (λ (s : State). CommandStep language parsed.session (session_of parsed) before (ask_past k query) text s) (sym told.2)
+    (CommandStep-past language before k query told.1 parsed.session (session_of parsed))) in
+    let written = subst (λ (t : Theory). IsWritten g.K.Sink.stands c.ask_ready.result false (reply_line parsed.session (query_text (record { theory = t; spelt = g.T.Moment.spelt; canon = g.T.Moment.canon }) (list_after k before.events before.past) query)) c.args.out.now c.ask_ready.new.out)
+    c.answer.ensures.theory
+    (subst (λ (s : State). IsWritten g.K.Sink.stands c.ask_ready.result false (reply_line parsed.session (query_text (record { theory = c.answer.new.self.theory; spelt = g.T.Moment.spelt; canon = g.T.Moment.canon }) (list_after k s.events s.past) query)) c.args.out.now c.ask_ready.new.out)
+    told.2 c.ask_ready.ensures.written) in
+    IsHandled-written g.K.Sink.stands language c.args.out.now c.ask_ready.new.out c.ask_ready.result false (Step-parsed language line text parsed before after short is step)
+    (is_quit-parsed language line parsed short is ∙ ap command_quits told.0) written
+
 pub returns-in-Compared-clause-handled : goal.returns-in-Compared-clause-handled
 returns-in-Compared-clause-handled g c = λ line short is.
     let language : Language = record { theory = c.args.self.now.theory; spelt = g.T.Moment.spelt; canon = g.T.Moment.canon } in
@@ -87,9 +109,27 @@ returns-in-Query-clause-steps g c =
     let command = plain_command g.T.Moment.rank c.args.parsed.command in
     let query = plain_query g.T.Moment.rank c.in-Query.query in
     let told = c.in-Query.ensures.told in
-    let asked : most_query_steps after.theory after.state.events query ≡ most_asked_steps before.theory before.state.events command =
+    let asked : most_query_steps after.theory after.state.events query ≡ most_asked_steps before.theory before.state command =
     ap (λ (t : Theory). most_query_steps t after.state.events query) c.answer.ensures.theory
     ∙ ap (λ (s : State). most_query_steps before.theory s.events query) told.1
-    ∙ sym (ap (most_asked_steps before.theory before.state.events) told.0) in
-    let changed = subst (λ (n : ℕ). c.answer.new.steps ≤ c.args.steps.now + most_change_steps before.theory n before.state command) c.unwrap_or.ensures c.answer.ensures.steps in
+    ∙ sym (ap (most_asked_steps before.theory before.state) told.0) in
+    let changed = subst (λ (n : ℕ). c.answer.new.steps ≤ c.args.steps.now + most_change_steps before.theory n before.viewed before.state command) c.unwrap_or.ensures c.answer.ensures.steps in
     omega (arith, c.ask.ensures.steps, changed, asked)
+
+pub returns-in-Past-clause-steps : goal.returns-in-Past-clause-steps
+unfolding most_asked_steps
+returns-in-Past-clause-steps g c =
+    let language : Language = record { theory = c.args.self.now.theory; spelt = g.T.Moment.spelt; canon = g.T.Moment.canon } in
+    let before = c.args.self.now in
+    let after = c.answer.new.self in
+    let command = plain_command g.T.Moment.rank c.args.parsed.command in
+    let query = plain_query g.T.Moment.rank c.in-Past.query in
+    let k = c.in-Past.count in
+    let told = c.in-Past.ensures.told in
+    let asked : most_query_steps after.theory (list_after k after.state.events after.state.past) query ≡ most_asked_steps before.theory before.state command =
+    ap (λ (t : Theory). most_query_steps t (list_after k after.state.events after.state.past) query) c.answer.ensures.theory
+    ∙ ap (λ (s : State). most_query_steps before.theory (list_after k s.events s.past) query) told.2
+    ∙ sym (unless_refused-asked language before.state k query told.1 _)
+    ∙ sym (ap (most_asked_steps before.theory before.state) told.0) in
+    let changed = subst (λ (n : ℕ). c.answer.new.steps ≤ c.args.steps.now + most_change_steps before.theory n before.viewed before.state command) c.unwrap_or.ensures c.answer.ensures.steps in
+    omega (arith, c.ask_ready.ensures.steps, changed, asked)
