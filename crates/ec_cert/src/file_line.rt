@@ -42,6 +42,7 @@ fn line_of<T: Moment>(command: Command<'_, T>) -> FileLine<'_, T>
         | Command::Commit
         | Command::Abort
         | Command::Ask(_)
+        | Command::Past { .. }
         | Command::Pairs { .. }
         | Command::Related { .. }
         | Command::Last

@@ -15,7 +15,7 @@ use Rattle.ec_outside.proofs.Counts.{Rose-earlier}
 use Rattle.ec_server.specs.declared.ending.Ending.{Ending}
 use Rattle.ec_server.specs.declared.ending.Ending.TheVariants.{End, Quit, Limit, ReadFault, WriteFault as Broken}
 use Rattle.ec_server.specs.Ending.{GoesOn, IsEnding, HasEnded, SaysServed}
-use Rattle.ec_server.specs.ExitStatus.{status_of}
+use Rattle.ec_server.specs.Ending.{status_of}
 use Rattle.ec_server.specs.Serving.{IsLast}
 use Rattle.ec_server.proofs.Serving.{AnswersLines-line, AnswersLines-so_far, AnswersLines-kept, HasQuit-kept}
 use Rattle.ec_server.proofs.PartialReplies.{AnswersPart-all, AnswersPart-kept, AnswersPart-line, AnswersPart-quit}

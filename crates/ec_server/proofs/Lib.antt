@@ -8,11 +8,9 @@ pub mod ToldFaults
 pub mod ServedBytes
 pub mod LineFiles
 pub mod ReplyEnds
-pub mod TheoryTexts
 pub mod SoakTheory
 pub mod Soaks
 pub mod OneSoakLine
-pub mod StatusCodes
-pub mod Digits
+pub mod EndingStatuses
 pub mod CommandEnds
 pub mod RunEnds

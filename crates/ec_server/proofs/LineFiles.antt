@@ -4,9 +4,10 @@ use Rattle.ec_terms.specs.declared.theory.Theory.{Theory}
 use Rattle.ec_outside.specs.Counts.{Rose}
 use Rattle.ec_outside.specs.Files.{Files, IsMissing}
 use Rattle.ec_outside.proofs.Counts.{Rose-earlier}
-use Rattle.ec_server.specs.declared.status.Status.{Status}
-use Rattle.ec_server.specs.declared.status.Status.TheVariants as status
-use Rattle.ec_server.specs.CommandEnds.{SaysReplayed, SaysUnread}
+use Rattle.ec_files.specs.declared.status.Status.{Status}
+use Rattle.ec_files.specs.declared.status.Status.TheVariants as status
+use Rattle.ec_files.specs.CommandEnds.{SaysUnread}
+use Rattle.ec_server.specs.CommandEnds.{SaysReplayed}
 
 module _ {K : Type 0} (stands : K → List ℕ → Type 0) (faults : K → ℕ) (name : List ℕ) (old new : K) (told : Option Files) (before middle after : ℕ) (on : before ≤ middle) where
   unread_earlier : (s : Status) → SaysUnread stands faults told name middle after old new s → SaysUnread stands faults told name before after old new s
@@ -23,6 +24,7 @@ module _ {K : Type 0} (stands : K → List ℕ → Type 0) (faults : K → ℕ) 
       by_cause (inr missing) = inr missing
   unread_earlier status.LimitReached says = says
   unread_earlier status.LongLines says = says
+  unread_earlier status.BadEvents says = says
 
   same_folder : (theory : Theory) (s : Status) → SaysReplayed stands faults told name middle after old new theory s → SaysReplayed stands faults told name before after old new theory s
   same_folder theory s (inl read) = inl read

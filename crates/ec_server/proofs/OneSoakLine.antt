@@ -19,7 +19,7 @@ use Rattle.ec_soak.specs.declared.generated_line.GeneratedLine.TheVariants.{Asse
 use Rattle.ec_soak.specs.Load.{generated_lines, generated_load, line_text}
 use Rattle.ec_soak.specs.Tally.{counts_of, is_memory, summary_line}
 use Rattle.ec_soak.proofs.CutLoads.{lines_of-load}
-use Rattle.ec_server.specs.Answered.{language_of}
+use Rattle.ec_files.specs.Languages.{language_of}
 use Rattle.ec_server.specs.Soaking.{IsSoaked, IsSoakLine, soak_theory}
 use Rattle.ec_server.proofs.ReplyEnds.{IsEnded, ended-append, reply_of-ended}
 

@@ -4,13 +4,13 @@ use Rattle.ec_commands.specs.Lines.{lines_of}
 use Rattle.ec_outside.specs.Counts.{Rose}
 use Rattle.ec_replies.specs.Replies.{Language}
 use Rattle.ec_server.specs.declared.ending.Ending.TheVariants as ending
-use Rattle.ec_server.specs.declared.status.Status.{Status}
-use Rattle.ec_server.specs.declared.status.Status.TheVariants as status
+use Rattle.ec_files.specs.declared.status.Status.{Status}
+use Rattle.ec_files.specs.declared.status.Status.TheVariants as status
 use Rattle.ec_server.specs.Answered.{AnswersPart}
 use Rattle.ec_server.specs.CommandEnds.{SaysBytes}
 use Rattle.ec_server.specs.Ending.{HasEnded, IsBroken, SaysServed}
 use Rattle.ec_server.proofs.PartialReplies.{AnswersPart-longer}
-use Rattle.ec_server.proofs.StatusCodes.{second_of_two}
+use Rattle.ec_files.proofs.StatusCodes.{second_of_two}
 use Rattle.ec_server.proofs.ToldFaults.{write_told}
 use Rattle.ec_server.proofs.WholeInput.{lines_done}
 
@@ -55,3 +55,4 @@ module _ {S K : Type 0} (left : S → Option (List ℕ)) (read_faults : S → �
   SaysBytes-of below fine status.FolderFault says = absurd says
   SaysBytes-of below fine status.LimitReached says = absurd (below_limit below says)
   SaysBytes-of below fine status.LongLines says = absurd says
+  SaysBytes-of below fine status.BadEvents says = absurd says

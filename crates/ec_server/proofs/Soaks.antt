@@ -9,15 +9,16 @@ use Rattle.ec_soak.specs.Load.{ended_text, generated_load, generated_lines, line
 use Rattle.ec_soak.specs.Tally.{Tally, counts_of, stands_for_tally, tally_of}
 use Rattle.ec_soak.proofs.CutLoads.{is_long-line_text, length-drawn_lines}
 use Rattle.ec_theory.specs.Accepted.{IsAccepted}
-use Rattle.ec_server.specs.declared.status.Status.{Status}
-use Rattle.ec_server.specs.declared.status.Status.TheVariants as status
-use Rattle.ec_server.specs.Answered.{AnswersLines, language_of}
+use Rattle.ec_files.specs.declared.status.Status.{Status}
+use Rattle.ec_files.specs.declared.status.Status.TheVariants as status
+use Rattle.ec_server.specs.Answered.{AnswersLines}
+use Rattle.ec_files.specs.Languages.{language_of}
 use Rattle.ec_server.specs.CommandEnds.{SaysBytes}
 use Rattle.ec_server.specs.Ending.{SaysServed}
 use Rattle.ec_server.specs.Soaking.{IsSoaked, soak_text, soak_theory}
 use Rattle.ec_server.proofs.ServedBytes.{SaysBytes-of, zero_stays}
 use Rattle.ec_server.proofs.SoakTheory.{soak_accepted}
-use Rattle.ec_server.proofs.TheoryTexts.{accepted_same}
+use Rattle.ec_files.proofs.TheoryTexts.{accepted_same}
 
 -- ---- how many bytes generated lines have
 

@@ -1,16 +1,17 @@
--- That a call failed is told by the status.
+-- That a call failed is told by the status of a serving.
 use Rattle.std.proofs.Common.{◌≡◌, ◌⊎◌, ℕ, List, Option, ap, inl, inr, refl}
 use Rattle.ec_terms.specs.declared.theory.Theory.{Theory}
 use Rattle.ec_outside.specs.Files.{Files}
 use Rattle.ec_replies.specs.Replies.{Language}
+use Rattle.ec_files.specs.declared.status.Status.{Status}
+use Rattle.ec_files.specs.declared.status.Status.TheVariants as status
+use Rattle.ec_files.specs.Languages.{language_of}
+use Rattle.ec_files.proofs.StatusCodes.{second_of_two}
+use Rattle.ec_files.proofs.ToldFaults.{unread_told}
 use Rattle.ec_server.specs.declared.ending.Ending.{Ending}
 use Rattle.ec_server.specs.declared.ending.Ending.TheVariants as ending
-use Rattle.ec_server.specs.declared.status.Status.{Status}
-use Rattle.ec_server.specs.declared.status.Status.TheVariants as status
-use Rattle.ec_server.specs.Answered.{language_of}
-use Rattle.ec_server.specs.CommandEnds.{SaysBytes, SaysLine, SaysRefused, SaysReplayed, SaysUnread}
+use Rattle.ec_server.specs.CommandEnds.{SaysBytes, SaysReplayed}
 use Rattle.ec_server.specs.Ending.{HasEnded, SaysServed}
-use Rattle.ec_server.proofs.StatusCodes.{second_of_two}
 
 module _ {S K : Type 0} (left : S → Option (List ℕ)) (read_faults : S → ℕ) (stands : K → List ℕ → Type 0) (write_faults : K → ℕ) (language : Language) (limit : ℕ)
     (input_before input : S) (output_before output : K) where
@@ -37,6 +38,7 @@ module _ {S K : Type 0} (left : S → Option (List ℕ)) (read_faults : S → �
   read_told status.FolderFault says = absurd says
   read_told status.LimitReached has = inr (reads_quiet ending.Limit (λ same. cc) has)
   read_told status.LongLines says = absurd says
+  read_told status.BadEvents says = absurd says
 
   pub write_told : (s : Status) → SaysServed left read_faults stands write_faults language limit input_before input output_before output s
       → (s ≡ status.WriteFault) ⊎ (write_faults output ≡ write_faults output_before)
@@ -50,20 +52,9 @@ module _ {S K : Type 0} (left : S → Option (List ℕ)) (read_faults : S → �
   write_told status.FolderFault says = absurd says
   write_told status.LimitReached has = inr (writes_quiet ending.Limit (λ same. cc) has)
   write_told status.LongLines says = absurd says
+  write_told status.BadEvents says = absurd says
 
 module _ {K : Type 0} (stands : K → List ℕ → Type 0) (faults : K → ℕ) (old new : K) where
-  -- so does the writing of one line
-  pub line_told : (IsLine : List ℕ → Type 0) (s : Status) → SaysLine stands faults old new IsLine s → (s ≡ status.WriteFault) ⊎ (faults new ≡ faults old)
-  line_told IsLine status.Done says = inr says.3
-  line_told IsLine status.NoShape says = absurd says
-  line_told IsLine status.BadTheory says = absurd says
-  line_told IsLine status.ReadFault says = absurd says
-  line_told IsLine status.WriteFault says = inl refl
-  line_told IsLine status.NoMemory says = inr (ap faults says)
-  line_told IsLine status.FolderFault says = absurd says
-  line_told IsLine status.LimitReached says = absurd says
-  line_told IsLine status.LongLines says = absurd says
-
   bytes_told : (language : Language) (bytes : List ℕ) (s : Status) → SaysBytes stands faults language old new bytes s → (s ≡ status.WriteFault) ⊎ (faults new ≡ faults old)
   bytes_told language bytes status.Done says = inr says.1
   bytes_told language bytes status.NoShape says = absurd says
@@ -74,33 +65,10 @@ module _ {K : Type 0} (stands : K → List ℕ → Type 0) (faults : K → ℕ) 
   bytes_told language bytes status.FolderFault says = absurd says
   bytes_told language bytes status.LimitReached says = absurd says
   bytes_told language bytes status.LongLines says = absurd says
+  bytes_told language bytes status.BadEvents says = absurd says
 
   module _ (told : Option Files) (name : List ℕ) (before after : ℕ) where
-    -- nothing is written where the file of lines was not read
-    unread_told : (s : Status) → SaysUnread stands faults told name before after old new s → faults new ≡ faults old
-    unread_told status.Done says = absurd says
-    unread_told status.NoShape says = absurd says
-    unread_told status.BadTheory says = absurd says
-    unread_told status.ReadFault says = absurd says
-    unread_told status.WriteFault says = absurd says
-    unread_told status.NoMemory says = ap faults says
-    unread_told status.FolderFault says = ap faults says.0
-    unread_told status.LimitReached says = absurd says
-    unread_told status.LongLines says = ap faults says.0
-
     -- the lines of a file
     pub replay_told : (theory : Theory) (s : Status) → SaysReplayed stands faults told name before after old new theory s → (s ≡ status.WriteFault) ⊎ (faults new ≡ faults old)
     replay_told theory s (inl read) = bytes_told (language_of theory) read.0 s read.2
-    replay_told theory s (inr unread) = inr (unread_told s unread)
-
-    -- without a theory only the one line about it is written
-    pub refusal_told : (s : Status) → SaysRefused stands faults told name before after old new s → (s ≡ status.BadTheory) ⊎ (faults new ≡ faults old)
-    refusal_told status.Done says = absurd says
-    refusal_told status.NoShape says = absurd says
-    refusal_told status.BadTheory says = inl refl
-    refusal_told status.ReadFault says = absurd says
-    refusal_told status.WriteFault says = absurd says
-    refusal_told status.NoMemory says = inr (ap faults says)
-    refusal_told status.FolderFault says = inr (ap faults says.0)
-    refusal_told status.LimitReached says = absurd says
-    refusal_told status.LongLines says = absurd says
+    replay_told theory s (inr unread) = inr (unread_told stands faults old new told name before after s unread)

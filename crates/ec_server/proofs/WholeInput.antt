@@ -9,8 +9,8 @@ use Rattle.ec_server.specs.Answered.{AnswersLines}
 use Rattle.ec_outside.specs.Streams.{Took, IsAtEnd}
 use Rattle.ec_outside.proofs.Streams.{Took-nil}
 use Rattle.ec_server.specs.declared.ending.Ending.TheVariants as ending
-use Rattle.ec_server.specs.declared.status.Status.{Status}
-use Rattle.ec_server.specs.declared.status.Status.TheVariants as status
+use Rattle.ec_files.specs.declared.status.Status.{Status}
+use Rattle.ec_files.specs.declared.status.Status.TheVariants as status
 use Rattle.ec_server.specs.Ending.{HasEnded, SaysServed}
 use Rattle.ec_server.specs.InputLimits.{IsShort}
 use Rattle.ec_server.proofs.Serving.{AnswersLines-quit, whole_lines-append, has_quit-more, has_quit-taken}
@@ -103,3 +103,4 @@ module _ {S K : Type 0} (left : S → Option (List ℕ)) (read_faults : S → �
   taken_within status.FolderFault says = absurd says
   taken_within status.LimitReached has = (has.taken, has.took, has.ended.within)
   taken_within status.LongLines says = absurd says
+  taken_within status.BadEvents says = absurd says

@@ -8,8 +8,8 @@ use Rattle.ec_outside.specs.Counts.{Rose}
 use Rattle.ec_outside.specs.Streams.{IsAtEnd, Took}
 use Rattle.ec_server.specs.declared.ending.Ending.{Ending}
 use Rattle.ec_server.specs.declared.ending.Ending.TheVariants.{End, Quit, Limit, ReadFault, WriteFault}
-use Rattle.ec_server.specs.declared.status.Status.{Status}
-use Rattle.ec_server.specs.declared.status.Status.TheVariants as status
+use Rattle.ec_files.specs.declared.status.Status.{Status}
+use Rattle.ec_files.specs.declared.status.Status.TheVariants as status
 
 module _ {K : Type 0} (stands : K → List ℕ → Type 0) (language : Language) where
   -- the whole lines of the bytes taken are answered, and `quit` is not among them
@@ -63,3 +63,12 @@ module _ {S K : Type 0} (left : S → Option (List ℕ)) (read_faults : S → �
   SaysServed status.FolderFault = ⊥
   SaysServed status.LimitReached = HasEnded Limit
   SaysServed status.LongLines = ⊥
+  SaysServed status.BadEvents = ⊥
+
+-- the status of a run whose serving ended so
+unfoldable pub status_of : Ending → Status
+status_of End = status.Done
+status_of Quit = status.Done
+status_of Limit = status.LimitReached
+status_of ReadFault = status.ReadFault
+status_of WriteFault = status.WriteFault

@@ -3,12 +3,6 @@ pub mod ByShape
 pub mod CommandEnds
 pub mod Ending
 pub mod Ends
-pub mod ExitStatus
 pub mod InputLimits
-pub mod LineFiles
-pub mod Loading
 pub mod Serving
-pub mod ShownShape
 pub mod Soaking
-pub mod TheoryFiles
-pub mod Words

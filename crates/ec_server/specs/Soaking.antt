@@ -7,7 +7,7 @@ use Rattle.ec_replies.specs.Runs.{IsRun}
 use Rattle.ec_soak.specs.declared.counts.Counts.{Counts}
 use Rattle.ec_soak.specs.Load.{generated_load}
 use Rattle.ec_soak.specs.Tally.{counts_of, summary_line}
-use Rattle.ec_server.specs.Answered.{language_of}
+use Rattle.ec_files.specs.Languages.{language_of}
 
 -- the text of the theory: lamps, and people who are at one place each
 unfoldable pub soak_text : List ℕ

@@ -1,18 +1,15 @@
 //! Serving the lines of a file.
 ghost use Rattle.std.specs.Prelude.{◌≡◌, ◌≤◌, ◌⊎◌, IsTrue, length};
-ghost use Rattle.ec_server.specs.Answered.{language_of};
+ghost use Rattle.ec_files.specs.Languages.{language_of};
 ghost use Rattle.ec_server.specs.CommandEnds.{SaysBytes, SaysReplayed};
-ghost use Rattle.ec_server.specs.ExitStatus.{hands_on};
+ghost use Rattle.ec_files.specs.ExitStatus.{hands_on};
 
 use crate::file_source::FileSource;
 use crate::served::{MOST_INPUT, serve};
-use crate::status::Status;
 use ec_check::Checked;
+use ec_files::{MOST_REPLAYED, Status};
 use ec_outside::{Folder, FolderAnswer, Sink};
 use std::alloc::Global;
-
-/// The most bytes that a file of lines has.
-pub const MOST_REPLAYED: usize = 67_108_864;
 
 /// Serves the lines of bytes with a theory.
 fn serve_bytes<K: Sink>(alloc: Global, checked: Checked, bytes: Vec<u8>, output: &mut K) -> Status
@@ -25,7 +22,7 @@ fn serve_bytes<K: Sink>(alloc: Global, checked: Checked, bytes: Vec<u8>, output:
 }
 
 /// Serves the lines of a file with a theory.
-#[tactic(auto, unfolding(crate::specs::ExitStatus::hands_on))]
+#[tactic(auto, unfolding(ec_files::specs::ExitStatus::hands_on))]
 pub(crate) fn replay_with<F: Folder, K: Sink>(
     alloc: Global,
     checked: Checked,

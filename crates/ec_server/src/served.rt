@@ -2,17 +2,17 @@
 ghost use Rattle.std.specs.Prelude.{◌≡◌, ◌<◌, ◌≤◌, ◌⊎◌, IsTrue};
 ghost use Rattle.ec_outside.specs.Counts.{Rose};
 ghost use Rattle.ec_outside.specs.Streams.{NothingAppended};
-ghost use Rattle.ec_server.specs.Answered.{language_in, language_of};
+ghost use Rattle.ec_files.specs.Languages.{language_in, language_of};
 ghost use Rattle.ec_terms.specs.declared.theory.TimeKind.TheVariants as kind;
 ghost use Rattle.ec_server.specs.Ending.{SaysServed};
-ghost use Rattle.ec_server.specs.ExitStatus.{hands_on};
+ghost use Rattle.ec_files.specs.ExitStatus.{hands_on};
 
 use crate::input::serve_input;
-use crate::status::Status;
 use ec_axioms::Steps;
 use ec_block_rows::{BlockMarks, BlockSpans, BlockTimes};
 use ec_check::Checked;
 use ec_civil::Civil;
+use ec_files::Status;
 use ec_lines::Feed;
 use ec_moment::{Moment, Tick};
 use ec_outside::{Sink, Source};
@@ -27,7 +27,7 @@ use std::sync::ledger::{Blank, Ledger};
 pub const MOST_INPUT: u64 = 1_099_511_627_776;
 
 /// Serves the lines of an input, with times and rows of any kind, and steps that are counted on the ledger of the blank.
-#[tactic(auto, unfolding(crate::specs::ExitStatus::hands_on))]
+#[tactic(auto, unfolding(ec_files::specs::ExitStatus::hands_on))]
 fn serve_counted<
     S: Source,
     K: Sink,

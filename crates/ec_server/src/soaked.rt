@@ -1,13 +1,11 @@
 //! Serving generated lines.
-ghost use Rattle.std.specs.Prelude.{◌≡◌, ◌<◌, ◌≤◌, ◌⊎◌, IfOk, IsTrue, OnErr, length};
-ghost use Rattle.ec_outside.specs.Counts.{Rose};
-ghost use Rattle.ec_outside.specs.Streams.{NothingAppended};
+ghost use Rattle.std.specs.Prelude.{◌≡◌, ◌<◌, ◌≤◌, IfOk, IsTrue, OnErr, length};
 ghost use Rattle.ec_server.specs.CommandEnds.{SaysSoaked};
-ghost use Rattle.ec_server.specs.ExitStatus.{hands_on};
+ghost use Rattle.ec_files.specs.ExitStatus.{hands_on};
 ghost use Rattle.ec_server.specs.Soaking.{IsSoaked, soak_text};
 
 use crate::served::serve;
-use crate::status::Status;
+use ec_files::{Status, hand_on_line};
 use ec_outside::Sink;
 use ec_soak::{Counts, SoakSource, TallySink, write_summary};
 use ec_theory::accept;
@@ -63,22 +61,8 @@ fn without_refusals(counts: Counts) -> Result<Counts, Unsoaked>
     }
 }
 
-/// Hands on the one line of a run.
-#[tactic(auto, unfolding(crate::specs::ExitStatus::hands_on))]
-fn hand_on_line<K: Sink>(output: &mut K) -> Status
-    ensures kept { NothingAppended K.stands output.old output.new }
-    ensures either { (result ≡ Status.Done) ⊎ ((result ≡ Status.WriteFault) × Rose (K.faults output.old) (K.faults output.new)) }
-    ensures quiet { (result ≡ Status.WriteFault) ⊎ (K.faults output.new ≡ K.faults output.old) }
-    ensures handed_on { IsTrue (hands_on result) → K.waiting output.new ≡ 0 }
-{
-    match output.flush() {
-        Ok(()) => Status::Done,
-        Err(_) => Status::WriteFault,
-    }
-}
-
 /// Writes the line that sums up a run, and hands it on.
-#[tactic(auto, unfolding(crate::specs::ExitStatus::hands_on))]
+#[tactic(auto, unfolding(ec_files::specs::ExitStatus::hands_on))]
 fn tell_summary<K: Sink>(lines: u32, seed: u64, counts: &Counts, output: &mut K) -> Status
     requires { IsSoaked lines seed counts.now }
     ensures says { SaysSoaked K.stands K.faults output.old output.new lines seed result }
@@ -94,7 +78,7 @@ fn tell_summary<K: Sink>(lines: u32, seed: u64, counts: &Counts, output: &mut K)
 ///
 /// The status is `Done` if the line was written, `WriteFault` if the output failed, and `NoMemory` if memory ran out, be it for one
 /// line; then nothing was written.
-#[tactic(auto, unfolding(crate::specs::ExitStatus::hands_on))]
+#[tactic(auto, unfolding(ec_files::specs::ExitStatus::hands_on))]
 pub fn soak_command<K: Sink>(alloc: Global, lines: u32, seed: u64, output: &mut K) -> Status
     ensures says { SaysSoaked K.stands K.faults output.old output.new lines seed result }
     ensures handed_on { IsTrue (hands_on result) → K.waiting output.new ≡ 0 }

@@ -1,8 +1,8 @@
 -- The lines of a file are served with the theory that was loaded; where there is none, this is said.
 use Rattle.std.proofs.Common.{inl, inr}
 use Rattle.ec_server.proofs.LineFiles.{SaysReplayed-earlier}
-use Rattle.ec_server.proofs.TheoryTexts.{SaysRefused-of, refused_told}
-use Rattle.ec_server.proofs.StatusCodes.{quiet-then, second_of_two}
+use Rattle.ec_files.proofs.TheoryTexts.{SaysRefused-of, refused_told}
+use Rattle.ec_files.proofs.StatusCodes.{quiet-then, second_of_two}
 use Rattle.ec_server.proofs.commands.replay.Goals as goal
 
 pub returns-in-Ok-clause-replayed : goal.returns-in-Ok-clause-replayed

@@ -1,7 +1,7 @@
 -- An input is served with the theory that was loaded; where there is none, this is said.
 use Rattle.std.proofs.Common.{inl, inr, refl}
-use Rattle.ec_server.proofs.TheoryTexts.{SaysRefused-of, refused_told}
-use Rattle.ec_server.proofs.StatusCodes.{second_of_two}
+use Rattle.ec_files.proofs.TheoryTexts.{SaysRefused-of, refused_told}
+use Rattle.ec_files.proofs.StatusCodes.{second_of_two}
 use Rattle.ec_server.proofs.commands.serve_command.Goals as goal
 
 pub returns-in-Ok-clause-served : goal.returns-in-Ok-clause-served

@@ -1,7 +1,7 @@
 -- Where the sink did not fail, all lines are answered.
 use Rattle.ec_commands.specs.Lines.{lines_of}
 use Rattle.ec_server.proofs.Endings.{answered_and_handed_on, ending_either, ending_fault}
-use Rattle.ec_server.proofs.StatusCodes.{quiet-then, second_of_two}
+use Rattle.ec_files.proofs.StatusCodes.{quiet-then, second_of_two}
 use Rattle.ec_server.proofs.input.finish.Goals as goal
 
 pub returns-in_default : goal.returns-in_default

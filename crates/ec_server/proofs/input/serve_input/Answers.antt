@@ -11,7 +11,8 @@ use Rattle.ec_server.proofs.PartialReplies.{AnswersPart-broken, AnswersPart-so_f
 use Rattle.ec_server.proofs.InputTurns.{IsTaking-start, IsTaking-kept, IsTaking-next, Took-none, Took-same, from_err, from_no_err, less_left, none_within, piece_fits, piece_shorter, piece_size, piece_within, reads_begun, some_left, taken_below, taken_within, unread_kept}
 use Rattle.ec_server.proofs.Endings.{IsEnding-broken, IsEnding-last, IsEnding-limit, IsEnding-quit, IsEnding-unread, either_fault}
 use Rattle.ec_server.proofs.PieceSteps.{bye_is_quiet, go_is_quiet}
-use Rattle.ec_server.proofs.StatusCodes.{Rose-since, either-no_read_fault, ended_or_broken-no_read_fault, no_read_fault, no_write_fault, quiet-then, second_of_two}
+use Rattle.ec_files.proofs.StatusCodes.{Rose-since, quiet-then, second_of_two}
+use Rattle.ec_server.proofs.EndingStatuses.{either-no_read_fault, ended_or_broken-no_read_fault, no_read_fault, no_write_fault}
 use Rattle.ec_server.proofs.input.serve_input.Goals as goal
 
 pub loop-buffer-init : goal.loop-buffer-init

@@ -5,7 +5,7 @@ use Rattle.ec_lines.specs.FeedState.{Advances}
 use Rattle.ec_server.specs.Answered.{IsServing}
 use Rattle.ec_server.specs.Serving.{IsAt, IsPieceHandled}
 use Rattle.ec_server.proofs.PieceSteps.{IsUnderWay-start, IsUnderWay-next, IsUnderWay-stop, IsUnderWay-end, empty_list, go_is_quiet}
-use Rattle.ec_server.proofs.StatusCodes.{Rose-since, counted-same, counted-since, quiet-then, second_of_two}
+use Rattle.ec_files.proofs.StatusCodes.{Rose-since, counted-same, counted-since, quiet-then, second_of_two}
 use Rattle.ec_server.proofs.piece.answer_piece.Goals as goal
 
 pub loop-rest-init : goal.loop-rest-init

@@ -1,6 +1,6 @@
 -- The source has the bytes, never fails, and they are fewer than the limit.
 use Rattle.std.proofs.Common.{List, ℕ, Some, ap, arith}
-use Rattle.ec_server.specs.Answered.{language_of}
+use Rattle.ec_files.specs.Languages.{language_of}
 use Rattle.ec_server.specs.InputLimits.{most_input}
 use Rattle.ec_server.proofs.ServedBytes.{SaysBytes-of, zero_stays}
 use Rattle.ec_server.proofs.replayed.serve_bytes.Goals as goal

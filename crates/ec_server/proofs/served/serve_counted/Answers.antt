@@ -1,11 +1,11 @@
 -- What the ending of the serving says is what the status says.
 use Rattle.std.proofs.Common.{IsTrue, sym, subst, ◌∙◌}
 use Rattle.ec_terms.specs.declared.theory.Theory.{Theory}
-use Rattle.ec_server.specs.declared.status.Status.{Status}
+use Rattle.ec_files.specs.declared.status.Status.{Status}
 use Rattle.ec_server.specs.Ending.{IsEnding, SaysServed}
-use Rattle.ec_server.specs.ExitStatus.{hands_on}
+use Rattle.ec_files.specs.ExitStatus.{hands_on}
 use Rattle.ec_server.proofs.Endings.{SaysServed-of}
-use Rattle.ec_server.proofs.StatusCodes.{hands_on-ending, write_fault-ending}
+use Rattle.ec_server.proofs.EndingStatuses.{hands_on-ending, write_fault-ending}
 use Rattle.ec_server.proofs.served.serve_counted.Goals as goal
 
 pub returns-clause-handed_on : goal.returns-clause-handed_on

@@ -2,7 +2,7 @@
 use Rattle.std.proofs.Common.{refl}
 use Rattle.ec_soak.specs.Tally.{summary_line}
 use Rattle.ec_server.specs.Soaking.{IsSoakLine}
-use Rattle.ec_server.proofs.CommandEnds.{line_handed_on}
+use Rattle.ec_files.proofs.CommandEnds.{line_handed_on}
 use Rattle.ec_server.proofs.soaked.tell_summary.Goals as goal
 
 pub returns-in-Ok-clause-says : goal.returns-in-Ok-clause-says

@@ -1,7 +1,7 @@
 -- What the status says is what the exit status says.
-use Rattle.ec_server.specs.ShownShape.{asked}
-use Rattle.ec_server.proofs.RunEnds.{IsRan, accepted, completes, ended, files_told, finds_long, folder_fault, input_told, limit, long_lines, long_theory, no_shape, output_told, part, read_fault, refused, refuses, replies, rest, serves_alone, soaks, stops, unasked, unread, untouched, usage, whole, within, write_fault}
-use Rattle.ec_server.proofs.StatusCodes.{fault_status, hands_on-code}
+use Rattle.ec_files.specs.ShownShape.{asked}
+use Rattle.ec_server.proofs.RunEnds.{IsRan, accepted, completes, ended, files_told, finds_long, folder_fault, input_told, limit, long_lines, long_theory, no_shape, no_time, output_told, part, proves, read_fault, refused, refused_events, refuses, refuses_events, replies, rest, serves_alone, soaks, stops, unasked, unread, untouched, usage, verifies, whole, why_usage, within, write_fault}
+use Rattle.ec_files.proofs.StatusCodes.{fault_status, hands_on-code}
 use Rattle.ec_server.proofs.top.run.Goals as goal
 
 -- the run ended with the status that its code is of
@@ -85,11 +85,29 @@ returns-clause-unread g c = unread (ran g c)
 pub returns-clause-serves_alone : goal.returns-clause-serves_alone
 returns-clause-serves_alone g c = serves_alone (ran g c)
 
+pub returns-clause-proves : goal.returns-clause-proves
+returns-clause-proves g c = proves (ran g c)
+
+pub returns-clause-verifies : goal.returns-clause-verifies
+returns-clause-verifies g c = verifies (ran g c)
+
+pub returns-clause-no_time : goal.returns-clause-no_time
+returns-clause-no_time g c = no_time (ran g c)
+
+pub returns-clause-why_usage : goal.returns-clause-why_usage
+returns-clause-why_usage g c = why_usage (ran g c)
+
+pub returns-clause-refused_events : goal.returns-clause-refused_events
+returns-clause-refused_events g c = refused_events (ran g c)
+
+pub returns-clause-refuses_events : goal.returns-clause-refuses_events
+returns-clause-refuses_events g c = refuses_events (ran g c)
+
 pub returns-clause-handed_on : goal.returns-clause-handed_on
 returns-clause-handed_on g c = λ either. c.obey.ensures.handed_on (hands_on-code c.obey.result c.code.ensures either)
 
 pub returns-clause-no_file : goal.returns-clause-no_file
-returns-clause-no_file g c = λ two. c.obey.ensures.no_words ((no_shape (ran g c)).0 two)
+returns-clause-no_file g c = c.obey.ensures.no_words
 
 pub returns-clause-input_told : goal.returns-clause-input_told
 returns-clause-input_told g c = input_told (ran g c)

@@ -1,0 +1,11 @@
+pub mod Answering
+pub mod Claims
+pub mod Certifying
+pub mod CommandEnds
+pub mod ExitStatus
+pub mod Languages
+pub mod LineFiles
+pub mod Loading
+pub mod ShownShape
+pub mod TheoryFiles
+pub mod Words
