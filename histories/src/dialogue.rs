@@ -24,8 +24,8 @@ pub struct Dialogue {
 }
 
 impl Dialogue {
-    /// That of a seed: random commands, behind each of them all questions by one random stretch, and at the end by stretches from
-    /// each time.
+    /// That of a seed: random commands, behind each of them all questions by one random stretch, about the present and about a random
+    /// list of the past, and at the end about the present by stretches from each time.
     pub fn of(seed: u64) -> Dialogue {
         let mut draws = Draws::new(seed);
         let theory = theory(&mut draws);
@@ -36,7 +36,9 @@ impl Dialogue {
         let mut server = Server::new(&theory);
         for _ in 0..COMMANDS {
             dialogue.add_command(&mut draws, &mut server);
-            dialogue.ask_all(&server, &[stretch(&mut draws, theory.time)]);
+            let stretches = [stretch(&mut draws, theory.time)];
+            dialogue.ask_all(&server, &stretches);
+            dialogue.ask_past(&mut draws, &server, &stretches);
         }
         let from = |number| theory.time.instant(number);
         let stretches = TIMES.map(|number| (from(number), stretch(&mut draws, theory.time).1));
@@ -71,6 +73,27 @@ impl Dialogue {
             self.add(query.to_string(), query.reply(&history));
         }
         self.add("last".to_string(), server.last.to_string());
+    }
+
+    /// Asks all that can be asked of one list about the events after a random number of accepted updates, which may be one too great.
+    fn ask_past(
+        &mut self,
+        draws: &mut Draws,
+        server: &Server<'_>,
+        stretches: &[(Instant, Instant)],
+    ) {
+        let count = draws.below(server.accepted() as u64 + 2) as usize;
+        let history = server.history_after(count);
+        for query in queries(server, stretches) {
+            if query.is_of_one_list() {
+                let reply = match &history {
+                    Some(history) => query.reply(history),
+                    None if query.is_backwards() => "refused order".to_string(),
+                    None => format!("refused future {}", server.accepted()),
+                };
+                self.add(format!("asof {count} {query}"), reply);
+            }
+        }
     }
 }
 

@@ -1,9 +1,10 @@
 //! Random histories, answered by the program `ec` as it is built and by a plain one that derives each reply afresh from the
-//! events. The two must give the same replies.
+//! events. The two must give the same replies, and of random claims the same certificates.
 //!
 //!     histories PROGRAM [COUNT]
 //!
 //! PROGRAM is the built program, and COUNT is how many histories are tried. A difference is told, and ends it with status 1.
+mod certificates;
 mod changes;
 mod dialogue;
 mod drawn_commands;
@@ -19,6 +20,7 @@ mod terms;
 mod theory;
 mod times;
 
+use certificates::Claim;
 use dialogue::Dialogue;
 use served::Folder;
 use std::env;
@@ -45,6 +47,11 @@ fn try_some(
         if let Some(difference) = folder.difference(program, &dialogue)? {
             return Err(
                 format!("the history of seed {seed} has other replies\n{difference}").into(),
+            );
+        }
+        if let Some(difference) = folder.claim_difference(program, &Claim::of(seed))? {
+            return Err(
+                format!("the claim of seed {seed} has another certificate\n{difference}").into(),
             );
         }
         lines += dialogue.exchanges.len();

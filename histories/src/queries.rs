@@ -40,6 +40,16 @@ impl fmt::Display for Query {
 }
 
 impl Query {
+    /// Whether it can be asked of a list of the past too.
+    pub fn is_of_one_list(&self) -> bool {
+        !matches!(self, Query::Pairs(..) | Query::Related(..))
+    }
+
+    /// Whether it asks about a stretch whose end comes before its beginning.
+    pub fn is_backwards(&self) -> bool {
+        matches!(self, Query::Through(_, from, until) if until < from)
+    }
+
     /// The reply by a history.
     pub fn reply(&self, history: &History<'_>) -> String {
         match self {

@@ -1,4 +1,5 @@
-//! Lines that the built program answers, and the first place at which its replies are not the plain program's.
+//! Lines and claims that the built program answers, and the first place at which its replies are not the plain program's.
+use crate::certificates::Claim;
 use crate::dialogue::Dialogue;
 use std::fs::{self, File};
 use std::io::{self, ErrorKind};
@@ -65,6 +66,75 @@ impl Folder {
             "theory:\n{theory}lines:\n{lines}reply:    {reply}\nexpected: {expected}\nended:    {status}"
         )))
     }
+
+    /// What the program writes of a claim, by these lines: with a certificate, what that comes to, and else a
+    /// certificate. It is told with its status where this is not 0.
+    fn certified(
+        &self,
+        program: &Path,
+        claim: &Claim,
+        lines: &[String],
+        certificate: Option<&[String]>,
+    ) -> io::Result<String> {
+        let (theory, events) = (self.path.join("theory.ec"), self.path.join("events"));
+        fs::write(&theory, &claim.theory)?;
+        fs::write(&events, ended(lines))?;
+        let mut command = Command::new(program);
+        match certificate {
+            None => command.arg("prove").arg(&theory).arg(&events),
+            Some(lines) => {
+                let file = self.path.join("certificate");
+                fs::write(&file, ended(lines))?;
+                command.arg("verify").arg(&theory).arg(&events).arg(&file)
+            }
+        };
+        command
+            .arg(claim.prop.to_string())
+            .arg(claim.at.to_string());
+        let output = command
+            .stdin(Stdio::null())
+            .stderr(Stdio::inherit())
+            .output();
+        let output = output.map_err(|error| told(program, &error))?;
+        let text = String::from_utf8_lossy(&output.stdout).into_owned();
+        Ok(match output.status.code() {
+            Some(0) => text,
+            _ => format!("{text}{}", output.status),
+        })
+    }
+
+    /// What is not as it should be where the program decides a claim, if anything is. A certificate is written and
+    /// verified, by all events and by those alone that it names, and another one is found to be bad.
+    pub fn claim_difference(&self, program: &Path, claim: &Claim) -> io::Result<Option<String>> {
+        let (proof, verdict) = match claim.holds {
+            true => (ended(&claim.label), "yes\n".to_string()),
+            false => ("none\n".to_string(), "no\n".to_string()),
+        };
+        let bad = format!("bad {}\n", claim.bad);
+        let spoilt = claim.spoilt();
+        let tries = [
+            (&claim.lines, None, proof.clone()),
+            (&claim.needed, None, proof),
+            (&claim.lines, Some(claim.label.as_slice()), verdict),
+            (&claim.lines, Some(spoilt.as_slice()), bad),
+        ];
+        for (lines, certificate, wanted) in tries {
+            let said = self.certified(program, claim, lines, certificate)?;
+            if said != wanted {
+                let (theory, prop, at) = (&claim.theory, &claim.prop, claim.at);
+                let (events, certificate) = (ended(lines), ended(certificate.unwrap_or(&[])));
+                return Ok(Some(format!(
+                    "theory:\n{theory}events:\n{events}claim:    {prop} {at}\ncertificate:\n{certificate}said:\n{said}\nexpected:\n{wanted}"
+                )));
+            }
+        }
+        Ok(None)
+    }
+}
+
+/// Lines with their line ends.
+fn ended(lines: &[String]) -> String {
+    lines.iter().map(|line| format!("{line}\n")).collect()
 }
 
 /// A fault of running a program, with the program's name.

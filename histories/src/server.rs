@@ -22,10 +22,13 @@ pub enum Sender {
     Drafting,
 }
 
-/// The present events in order of time and identity, what the last update changed, and the draft of session 1 while it is open.
+/// The present events in order of time and identity, those after each number of accepted updates, what the last update changed, and the
+/// draft of session 1 while it is open.
 pub struct Server<'a> {
     theory: &'a Theory,
     pub events: Vec<Event>,
+    /// The last of them are the present ones.
+    past: Vec<Vec<Event>>,
     pub last: Counts,
     pub draft: Option<Vec<Update>>,
 }
@@ -36,6 +39,7 @@ impl<'a> Server<'a> {
         Server {
             theory,
             events: Vec::new(),
+            past: vec![Vec::new()],
             last: Counts::default(),
             draft: None,
         }
@@ -49,6 +53,17 @@ impl<'a> Server<'a> {
     /// What follows from the present events, derived afresh.
     pub fn history(&self) -> History<'a> {
         History::of(self.theory, &self.events)
+    }
+
+    /// How many updates were accepted.
+    pub fn accepted(&self) -> usize {
+        self.past.len() - 1
+    }
+
+    /// What follows from the events after so many accepted updates, derived afresh, if there were so many.
+    pub fn history_after(&self, count: usize) -> Option<History<'a>> {
+        let events = self.past.get(count)?;
+        Some(History::of(self.theory, events))
     }
 
     /// The present event that the last update of the draft retracts.
@@ -107,6 +122,7 @@ impl<'a> Server<'a> {
     fn make(&mut self, updates: &[Update]) -> Result<(), (usize, Cut)> {
         let old = self.history();
         self.events = updated(&self.events, updates)?;
+        self.past.push(self.events.clone());
         self.last = Counts::between(&old, &self.history());
         Ok(())
     }

@@ -1,5 +1,8 @@
-//! The calls of the tables and caches that the engine keeps, each used as the engine uses it; and what an engine writes of its rows
-//! of spans.
+//! Tests: the calls of the tables and caches that the engine keeps, each used as the engine uses
+//! it.
+//!
+//! A module for each; and an engine over rows that count their splices, so that it is seen how
+//! little an update writes of its spans. Nothing here has a contract that others rest on.
 #![tactic(auto)]
 
 #[cfg(test)]

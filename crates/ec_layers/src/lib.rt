@@ -1,4 +1,7 @@
-//! Calls of the layers below the server, each used as the layers above use it.
+//! Tests: calls of the layers below the server, each used as the layers above use it.
+//!
+//! A module for each kind of call. [`tables`] reads the table of a test from a text; [`tally`] is a
+//! span row that counts what its splices touched. Nothing here has a contract that others rest on.
 #![tactic(auto)]
 
 #[cfg(test)]

@@ -15,8 +15,8 @@
 //! A line without `=>` says what all runs behind it have, where they say nothing else; a line that begins with `#` is a heading.
 //! A part is a word and its value:
 //!
-//! - `words`, `theory`, `lines`, `input`, `reads`, `writes` and `limit` are the fields of a `Case`; in their texts `|` is a line
-//!   end, and `{12 text}` the text twelve times;
+//! - `words`, `theory`, `lines`, `certificate`, `input`, `reads`, `writes` and `limit` are the fields of a `Case`; in their texts `|`
+//!   is a line end, and `{12 text}` the text twelve times;
 //! - `file 1 fails`, `read 2 fails`, `write 3 fails` and `flush 4 fails` name a call that fails;
 //! - `gives` is what stands behind the `=>` of rows that have nothing there.
 use crate::whole::{Case, SERVED, comes_out};
@@ -59,6 +59,7 @@ fn set<'a>(rt: &impl Abort, case: &mut Case<'a>, part: &'a str) {
         "words" => case.words = value,
         "theory" => case.theory = value,
         "lines" => case.lines = value,
+        "certificate" => case.certificate = value,
         "input" => case.input = value,
         "reads" => case.reads = value,
         "gives" => set_told(rt, case, value),

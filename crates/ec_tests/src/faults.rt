@@ -8,7 +8,7 @@ use std::process::Abort;
 
 const SHAPELESS: &str = "\
 theory LAMP ; input assert p 5 plug|holds powered 6|quit|holds powered 6|
-gives 2 usage: ec check THEORY / serve THEORY / replay THEORY LINES / soak N SEED|
+gives 2 usage: ec check THEORY / serve THEORY / replay THEORY LINES / soak N SEED / prove THEORY LINES P T / verify THEORY LINES CERT P T|
 # too few files or too many, or no command
 words =>
 words serve =>
@@ -33,6 +33,16 @@ words soak,1,1\x20 =>
 words soak,1,18446744073709551616 =>
 words soak,1,000000000000000000000 =>
 words soak,1,1,1 =>
+# no property, too few words or too many
+words prove,t.ec,a.lines,lit(a),11,11 =>
+words prove,t.ec,a.lines,lit(a) =>
+words prove,t.ec,a.lines,Lit(a),11 =>
+words prove,t.ec,a.lines,lit(,11 =>
+words prove,t.ec,a.lines,lit(a)\x20,11 =>
+words prove,t.ec,a.lines,,11 =>
+words verify,t.ec,a.lines,lit(a),11 =>
+words verify,t.ec,a.lines,a.cert,lit,11,11 =>
+words verify,t.ec,a.lines,a.cert,lit(),11 =>
 ";
 
 #[test]

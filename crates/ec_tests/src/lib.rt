@@ -1,8 +1,13 @@
-//! Whole runs of the program's top call, over folders, sources and sinks in memory.
+//! Tests: whole runs of the program's top call, over folders, sources and sinks in memory.
+//!
+//! A row of a table is a run (`cases.rt`), or a line beside its reply (`dialogue.rt`). Nothing here
+//! has a contract that others rest on.
 #![tactic(auto)]
 
 #[cfg(test)]
 mod cases;
+#[cfg(test)]
+mod certificates;
 #[cfg(test)]
 mod civil;
 #[cfg(test)]
@@ -25,6 +30,8 @@ mod limits;
 mod lines;
 #[cfg(test)]
 mod matching;
+#[cfg(test)]
+mod past;
 #[cfg(test)]
 mod replayed;
 #[cfg(test)]

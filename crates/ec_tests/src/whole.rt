@@ -23,6 +23,8 @@ pub struct Case<'a> {
     pub theory: &'a str,
     /// What the file `a.lines` has.
     pub lines: &'a str,
+    /// What the file `a.cert` has.
+    pub certificate: &'a str,
     /// The lines that are read, or the name of a text in `texts` and what stands behind it.
     pub input: &'a str,
     /// How many bytes of the input a read gives at most. There is a run for each of these numbers, which are parted by commas.
@@ -51,6 +53,7 @@ pub const SERVED: Case<'static> = Case {
     words: "serve,t.ec",
     theory: "",
     lines: "",
+    certificate: "",
     input: "",
     reads: "4096",
     writes: ROOM,
@@ -77,16 +80,18 @@ fn words_of(rt: &impl Abort, alloc: Global, text: &str) -> Vec<String> {
     words
 }
 
-/// A folder with a theory, named `t.ec`, and lines, named `a.lines`, whose calls of these numbers fail.
+/// A folder with a theory, named `t.ec`, lines, named `a.lines`, and a certificate, named `a.cert`, whose calls of these numbers fail.
 fn folder(
     alloc: Global,
     theory: &[u8],
     lines: &[u8],
+    certificate: &[u8],
     failing: &[u64],
 ) -> Result<MemFolder, NoMemory> {
     let mut files = MemFolder::new(alloc, failing)?;
     files.add("t.ec", theory)?;
     files.add("a.lines", lines)?;
+    files.add("a.cert", certificate)?;
     Ok(files)
 }
 
@@ -120,7 +125,8 @@ fn ran(
     let words = words_of(rt, alloc, case.words);
     let theory = text_of(rt, alloc, case.theory);
     let lines = bytes_of(alloc, case.lines).expect(rt, "memory");
-    let files = folder(alloc, &theory, &lines, &[case.failing.file]);
+    let certificate = bytes_of(alloc, case.certificate).expect(rt, "memory");
+    let files = folder(alloc, &theory, &lines, &certificate, &[case.failing.file]);
     let mut files = files.expect(rt, "memory");
     run(alloc, &words, &mut files, input, output)
 }
