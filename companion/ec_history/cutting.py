@@ -21,9 +21,12 @@ class Cutter:
 
         A line of over 4,096 bytes comes with over 4,096 of its bytes.
         """
-        *lines, rest = (self._rest + piece).split(b"\n")
+        content = self._rest + piece
+        *lines, rest = content.split(b"\n")
         self._rest = rest[:_CUT_OFF]
-        return [line[:-1] if line.endswith(b"\r") else line for line in lines]
+        if b"\r" in content:
+            lines = [line[:-1] if line.endswith(b"\r") else line for line in lines]
+        return lines
 
     def end(self) -> Optional[bytes]:
         """What stands behind the last line feed, where that is something."""

@@ -24,7 +24,7 @@ APPLICATION = 0x65634B70
 VERSION = 1
 """`user_version`: the number of this form of the tables."""
 
-_SETTINGS = ("synchronous = FULL", "fullfsync = ON", "wal_autocheckpoint = 4000")
+_SETTINGS = ("synchronous = FULL", "fullfsync = ON")
 _TABLES = """
 CREATE TABLE theory (
     number INTEGER PRIMARY KEY CHECK (number = 1),

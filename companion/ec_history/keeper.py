@@ -16,10 +16,11 @@ from datetime import datetime, timezone
 from typing import Callable, Dict, List, NamedTuple, Optional, Sequence, Set, Tuple
 from typing import Union
 
-from .database import Database, NotKept, Update
-from .engine import Engine, EngineEnded, Reply
+from .cutting import words_of
+from .database import Database, NotKept, Update, instant_text
+from .engine import Engine, EngineEnded
 from .errors import HistoryError, TermError
-from .lines import LONGEST_LINE
+from .lines import LONGEST_LINE, MOST_SESSIONS, UPDATES
 from .moments import CIVIL
 from .progress import Progress
 
@@ -27,7 +28,13 @@ _INSTANT = re.compile(rb"[0-9]{4}-[0-9]{2}-[0-9]{2}T[0-9]{2}:[0-9]{2}:[0-9]{2}Z"
 _REPLAYED = 4096
 _LONGEST_COMMAND = LONGEST_LINE - len(b"@63 ")
 """A command without superfluous blanks is far shorter than that."""
-UPDATES = (b"assert", b"retract", b"commit")
+_SINGLE = (b"assert", b"retract")
+_PLAIN = re.compile(rb"(assert|retract)(?: [!-~]+)+").fullmatch
+"""An update with one blank between its words, as most are."""
+_SINGLE_UPDATE = "(?:assert|retract) [!-~ ]+"
+_KEPT = re.compile(f"{_SINGLE_UPDATE}|begin\n(?:{_SINGLE_UPDATE}\n)*commit").fullmatch
+_PREFIXES = [b"@%d " % session for session in range(MOST_SESSIONS)]
+_ACCEPTED = [prefix + b"ok" for prefix in _PREFIXES]
 Clock = Callable[[], datetime]
 
 
@@ -36,10 +43,20 @@ class Differs(HistoryError):
 
 
 class Request(NamedTuple):
-    """A command of a session, as its words."""
+    """A command of a session: its first word, and its words with a blank between each.
+
+    Where there is an instant, the line is a query about the updates told by then.
+    """
 
     session: int
-    words: Sequence[bytes]
+    name: bytes
+    line: bytes
+    instant: Optional[datetime] = None
+
+    @property
+    def is_update(self) -> bool:
+        """Whether it is an update, or part of one."""
+        return self.name in UPDATES
 
 
 class Answer(NamedTuple):
@@ -49,12 +66,12 @@ class Answer(NamedTuple):
     notes: Sequence[Tuple[int, bytes]] = ()
 
 
+OK = Answer(b"ok")
+REFUSED_AS_OF = Answer(b"refused as-of")
 REFUSED_SYNTAX = Answer(b"refused syntax")
 REFUSED_LONG = Answer(b"refused long-line")
 REFUSED_TORN = Answer(b"refused torn-line")
 """A last line without line feed: if it was cut off, it is another line."""
-LEAVE = (b"leave",)
-"""The words of a request that ends a session's draft and its watches."""
 
 
 def _now() -> datetime:
@@ -104,6 +121,8 @@ class Keeper:
         self.drafts: Dict[int, List[bytes]] = {}
         self.watches: Dict[int, Set[bytes]] = {}
         self.failing = ""
+        self._told: List[Request] = []
+        self._sent = 0
         self._folder = tempfile.TemporaryDirectory(prefix="ec-history-")
         self._theory = os.path.join(self._folder.name, "theory.ec")
         with open(self._theory, "wb") as file:
@@ -119,9 +138,9 @@ class Keeper:
         """An `ec` with all updates that are kept."""
         engine = Engine(self.program, self._theory)
         try:
-            (first,) = engine.ask([b"last"])
-            if not first.text.startswith(b"last "):
-                text = first.text.decode("ascii", "replace")
+            (first,) = engine.ask([b"last"]).texts
+            if not first.startswith(b"last "):
+                text = first.decode("ascii", "replace")
                 raise Differs(f"this ec does not accept the kept theory: {text}")
             waiting: List[Update] = []
             with Progress("updates played") as progress:
@@ -130,6 +149,11 @@ class Keeper:
                         raise Differs(
                             f"update {number} is missing: somebody has changed the "
                             "file; nothing was changed"
+                        )
+                    if not _is_accepted(update):
+                        raise Differs(
+                            f"update {number} is not what is kept of an update: "
+                            "somebody has changed the file; nothing was changed"
                         )
                     waiting.append(update)
                     if len(waiting) == _REPLAYED:
@@ -143,16 +167,56 @@ class Keeper:
         return engine
 
     def round(self, requests: Sequence[Request]) -> List[Answer]:
-        """The answers to commands, in order, once their updates are kept.
+        """The answers to commands, in order, once their updates are kept."""
+        self.tell(requests)
+        return self.answers()
+
+    def tell(self, requests: Sequence[Request]) -> None:
+        """Hands commands to `ec`, which works on them until `answers` is called."""
+        self._told += requests
+        waiting = self._told[self._sent :]
+        if not self.failing and all(request.instant is None for request in waiting):
+            self._engine.tell([_PREFIXES[r.session] + r.line for r in waiting])
+            self._sent += len(waiting)
+
+    def answers(self) -> List[Answer]:
+        """The answers to all that was told, in order, once its updates are kept.
 
         Where the database does not take the updates, all of them are refused, and the
         commands are answered as if these had not been told.
+        """
+        told, self._told = self._told, []
+        sent, self._sent = self._sent, 0
+        if not told:
+            return []
+        answers: List[Answer] = []
+        group = told[:sent]
+        for request in told[sent:]:
+            if request.instant is not None:
+                if not self._is_over(request.instant):
+                    answers += self._round(group, sent)  # these count as well
+                    group, sent = [], 0
+                number = self.database.count_by(request.instant)
+                line = b"asof %d %s" % (number, request.line)
+                request = Request(request.session, request.name, line)
+            group.append(request)
+        return answers + self._round(group, sent)
+
+    def _is_over(self, instant: datetime) -> bool:
+        """Whether each update from now on is told later than that."""
+        now = max(instant_text(self.now()), self.database.last_told)
+        return instant_text(instant) < now
+
+    def _round(self, requests: Sequence[Request], sent: int) -> List[Answer]:
+        """The answers to commands, once their updates are kept.
+
+        So many of them were handed to `ec` before.
         """
         if self.failing:
             self._try_again(requests)
         before = self._before()
         try:
-            asked = self._asked(requests)
+            asked = self._asked(requests, sent)
         except EngineEnded:
             self._restart(before)
             asked = self._asked(requests)
@@ -165,6 +229,18 @@ class Keeper:
                 asked = self._asked(requests)
         return asked.answers
 
+    def leave(self, session: int) -> None:
+        """Ends a session's draft and its watches."""
+        lines = [b"abort"] if session in self.drafts else []
+        lines += [b"unwatch " + term for term in sorted(self.watches.get(session, ()))]
+        self.drafts.pop(session, None)
+        self.watches.pop(session, None)
+        if lines:
+            try:
+                self._engine.ask([_PREFIXES[session] + line for line in lines])
+            except EngineEnded:
+                self._restart(self._before())
+
     def _before(self) -> Before:
         """The drafts and watches as they are now."""
         drafts = {s: (held, len(held)) for s, held in self.drafts.items()}
@@ -173,8 +249,7 @@ class Keeper:
 
     def _try_again(self, requests: Sequence[Request]) -> None:
         """Finds out whether the database takes updates again."""
-        sizes = (sum(map(len, r.words)) for r in requests if r.words[0] in UPDATES)
-        size = sum(sizes)
+        size = sum(len(request.line) for request in requests if request.is_update)
         if size:
             try:
                 self.database.probe(4 * size + 4096)
@@ -190,110 +265,127 @@ class Keeper:
         self.watches = {s: set(terms) for s, terms in before.watches.items()}
         lines: List[bytes] = []
         for session, held in self.drafts.items():
-            prefix = b"@%d " % session
-            lines += [prefix + line for line in [b"begin", *held]]
+            lines += [_PREFIXES[session] + line for line in [b"begin", *held]]
         for session, terms in self.watches.items():
             lines += [b"@%d watch %s" % (session, term) for term in sorted(terms)]
         self._engine.ask(lines)
 
-    def _asked(self, requests: Sequence[Request]) -> Round:
-        """The answers of `ec` to commands, and the updates that it accepted."""
-        asked = Round()
+    def _asked(self, requests: Sequence[Request], sent: int = 0) -> Round:
+        """The answers to commands, and the updates among them that `ec` accepted."""
+        if not self.failing:
+            return self._asked_of_ec(requests, sent)
+        back = self._kept_back(requests)
+        asked = self._asked_of_ec(
+            [r for r, is_back in zip(requests, back) if not is_back], 0
+        )
         refused = Answer(b"refused not-kept " + self.failing.encode("utf-8", "replace"))
-        back = self._kept_back(requests) if self.failing else [False] * len(requests)
-        lines: List[bytes] = []
-        counts: List[int] = []
-        for request, is_back in zip(requests, back):
-            before = len(lines)
-            if request.words is LEAVE:
-                lines += self._farewell(request.session, requests)
-            elif not is_back:
-                lines.append(b"@%d %s" % (request.session, b" ".join(request.words)))
-            counts.append(len(lines) - before)
-        replies = iter(self._engine.ask(lines))
-        for request, count in zip(requests, counts):
-            if request.words is LEAVE:
-                for _ in range(count):
-                    next(replies)
-                self.drafts.pop(request.session, None)
-                self.watches.pop(request.session, None)
-                asked.answers.append(Answer(b""))
-                continue
-            answer = _answer(next(replies)) if count else refused
-            asked.answers.append(answer)
-            told = self._follow(request, answer.reply)
-            if told is not None:
-                text = b"\n".join(told).decode("ascii")
-                reply = answer.reply.decode("ascii")
-                asked.accepted.append((request.session, text, reply))
+        answers = iter(asked.answers)
+        asked.answers = [refused if is_back else next(answers) for is_back in back]
         return asked
 
-    def _follow(self, request: Request, reply: bytes) -> Optional[List[bytes]]:
-        """Keeps up with a session; the lines of an update that was accepted."""
-        session, words = request
-        name = words[0]
+    def _asked_of_ec(self, requests: Sequence[Request], sent: int) -> Round:
+        """The answers of `ec` to commands, and the updates that it accepted.
+
+        Most are single updates that are accepted, so these take the shortest way.
+        """
+        asked = Round()
+        answers, accepted = asked.answers, asked.accepted
+        self._engine.tell([_PREFIXES[r.session] + r.line for r in requests[sent:]])
+        watched = any(self.watches.values())
+        replies = self._engine.replies(
+            with_notes=watched or any(r.name == b"watch" for r in requests)
+        )
+        for request, text in zip(requests, replies.texts):
+            session, name, line, _ = request
+            if text == _ACCEPTED[session] and name in _SINGLE:
+                answers.append(OK)
+                accepted.append((session, line.decode("ascii"), "ok"))
+                continue
+            reply = text.partition(b" ")[2]
+            answers.append(Answer(reply))
+            draft = self._follow(request, reply)
+            if draft is not None:
+                accepted.append((session, draft.decode("ascii"), "ok"))
+        for place, notes in replies.notes.items():
+            told = [(int(note.split(b" ", 2)[1]), note) for note in notes]
+            answers[place] = Answer(answers[place].reply, told)
+        return asked
+
+    def _follow(self, request: Request, reply: bytes) -> Optional[bytes]:
+        """Keeps up with a session; the lines of a draft that was accepted."""
+        session, name, line, _ = request
         if reply == b"ok":
-            if name in (b"assert", b"retract"):
-                return [b" ".join(words)]
             if name == b"begin":
                 self.drafts[session] = []
             elif name == b"abort":
                 self.drafts.pop(session, None)
             elif name == b"commit":
-                return [b"begin", *self.drafts.pop(session), b"commit"]
+                return b"\n".join([b"begin", *self.drafts.pop(session), b"commit"])
             elif name == b"unwatch":
-                self.watches[session].discard(words[1])
+                self.watches[session].discard(line[len(b"unwatch ") :])
         elif reply.startswith(b"drafted "):
-            self.drafts[session].append(b" ".join(words))
+            self.drafts[session].append(line)
         elif name == b"watch" and not reply.startswith(b"refused"):
-            self.watches.setdefault(session, set()).add(words[1])
+            self.watches.setdefault(session, set()).add(line[len(b"watch ") :])
         return None
 
     def _kept_back(self, requests: Sequence[Request]) -> List[bool]:
         """Which commands are updates, while the database takes none."""
         drafted = set(self.drafts)
         found = []
-        for session, words in requests:
-            if list(words) == [b"begin"]:
-                drafted.add(session)
-            elif list(words) == [b"abort"] or words is LEAVE:
-                drafted.discard(session)
-            held = session in drafted and words[0] != b"commit"
-            found.append(words[0] in UPDATES and not held)
+        for request in requests:
+            if request.line == b"begin":
+                drafted.add(request.session)
+            elif request.line == b"abort":
+                drafted.discard(request.session)
+            held = request.session in drafted and request.name != b"commit"
+            found.append(request.is_update and not held)
         return found
 
-    def _farewell(self, session: int, requests: Sequence[Request]) -> List[bytes]:
-        """Lines that end a session's draft and its watches; some may be refused."""
-        terms = set(self.watches.get(session, ()))
-        for other, words in requests:
-            if other == session and words[0] == b"watch":
-                terms.update(words[1:2])
-        lines = [b"@%d abort" % session]
-        return lines + [b"@%d unwatch %s" % (session, term) for term in sorted(terms)]
+    def request(self, session: int, line: bytes) -> Union[Request, Answer, None]:
+        """What is asked of `ec` by a line without prefix; None by a silent one.
 
-    def request(self, session: int, words: Sequence[bytes]) -> Union[Request, Answer]:
-        """What is asked of `ec` for a command; or the answer, where that is known."""
-        if self.most is not None and (words[0] in UPDATES or words[0] == b"begin"):
-            return Answer(b"refused as-of")
-        if sum(map(len, words)) + len(words) > _LONGEST_COMMAND:
+        Where the answer is known without `ec`, that.
+        """
+        if self.most is None and len(line) <= _LONGEST_COMMAND:
+            plain = _PLAIN(line)
+            if plain is not None:
+                return Request(session, plain[1], line)
+        if len(line) > LONGEST_LINE:
+            return REFUSED_LONG
+        words = words_of(line)
+        if not words or words[0].startswith(b"%"):
+            return None
+        return self.command(session, words)
+
+    def command(self, session: int, words: Sequence[bytes]) -> Union[Request, Answer]:
+        """What is asked of `ec` by the words of a command; or the answer, if known."""
+        name, line = words[0], b" ".join(words)
+        if self.most is not None and (name in UPDATES or name == b"begin"):
+            return REFUSED_AS_OF
+        if len(line) > _LONGEST_COMMAND:
             return REFUSED_SYNTAX
-        if words[-1].endswith(b"\r"):
+        if line.endswith(b"\r"):
             return REFUSED_SYNTAX  # it would be dropped with the line's end
-        if words[0] == b"asof" and len(words) > 1 and _INSTANT.fullmatch(words[1]):
+        if name == b"asof" and len(words) > 2 and _INSTANT.fullmatch(words[1]):
             try:
                 instant = CIVIL.read(words[1].decode("ascii"))
             except TermError:
                 return REFUSED_SYNTAX
             assert isinstance(instant, datetime)
-            number = b"%d" % self.database.count_by(instant)
-            words = [words[0], number, *words[2:]]
-        return Request(session, words)
+            return Request(session, name, b" ".join(words[2:]), instant)
+        return Request(session, name, line)
+
+
+def _is_accepted(update: Update) -> bool:
+    """Whether a row of the database has the form of an accepted update."""
+    is_of_session = update.session in range(MOST_SESSIONS)
+    is_ok = update.reply == "ok" and isinstance(update.lines, str)
+    return is_ok and is_of_session and _KEPT(update.lines) is not None
 
 
 def play(engine: Engine, updates: Sequence[Update]) -> None:
     """Plays kept updates into an `ec`; raises Differs at the first other reply."""
-    if not updates:
-        return
     lines: List[bytes] = []
     last_lines = []
     for update in updates:
@@ -301,23 +393,13 @@ def play(engine: Engine, updates: Sequence[Update]) -> None:
         parts = update.lines.encode("ascii", "replace").split(b"\n")
         lines += [prefix + part for part in parts]
         last_lines.append(len(lines) - 1)
-    replies = engine.ask(lines)
+    replies = engine.ask(lines).texts
     for update, place in zip(updates, last_lines):
         prefix = b"@%d " % update.session
-        text = replies[place].text[len(prefix) :].decode("ascii", "replace")
+        text = replies[place][len(prefix) :].decode("ascii", "replace")
         if text != update.reply:
             raise Differs(
                 f"update {update.number} (told {update.told}): ec answers {text!r}, "
                 f"and {update.reply!r} is kept. Either this is another version of ec, "
                 "or somebody has changed the file; nothing was changed"
             )
-
-
-def _answer(reply: Reply) -> Answer:
-    _, _, text = reply.text.partition(b" ")
-    if reply.text == b"refused long-line":
-        text = reply.text
-    if not reply.notes:
-        return Answer(text)
-    notes = [(int(note.split(b" ", 2)[1]), note) for note in reply.notes]
-    return Answer(text, notes)

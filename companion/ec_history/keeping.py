@@ -198,7 +198,7 @@ class Conversation:
             self.ended = True
             return prefix, Answer(b"bye")
         assert session is not None
-        return prefix, self.keeper.request(session, words)
+        return prefix, self.keeper.command(session, words)
 
 
 def serve(keeper: Keeper, source: int, sink: int) -> None:
@@ -258,7 +258,7 @@ def _export_events(path: str, program: str) -> int:
     """Writes the events that are present, by `ec`'s own list of them."""
     database = Database.open(path)
     keeper = Keeper(database, program)
-    (answer,) = keeper.round([Request(0, [b"events"])])
+    (answer,) = keeper.round([Request(0, b"events", b"events")])
     words = answer.reply.decode("ascii").split(" ")[1:]
     for row in zip(words[::3], words[1::3], words[2::3]):
         sys.stdout.write(f"assert {' '.join(row)}\n")

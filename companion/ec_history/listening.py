@@ -7,6 +7,9 @@ next line ready at once, so the next round waits for these a little. No client c
 others up: lines are taken in turn, replies are written as fast as their reader takes
 them, and a connection that does not read, or sends more than is answered, is not read
 from.
+
+`asyncio` accepts connections, and says when one is ready. All that are ready are read
+at once, and are written without its transports, which take their time for each line.
 """
 
 from __future__ import annotations
@@ -14,19 +17,19 @@ from __future__ import annotations
 import asyncio
 import gc
 import os
+import selectors
 import signal
 import socket
-import stat
 import sys
 from collections import deque
-from typing import Callable, Deque, Dict, List, Optional, Sequence, Set, Tuple
-from typing import Union, cast
+from typing import Any, Callable, Deque, Dict, List, Optional, Sequence, Set, Tuple
+from typing import Union
 
+from .addresses import opened
 from .cutting import Cutter, words_of
 from .errors import HistoryError
-from .keeper import LEAVE, REFUSED_LONG, REFUSED_SYNTAX, REFUSED_TORN, Answer, Keeper
-from .keeper import Request
-from .lines import LONGEST_LINE, MOST_SESSIONS
+from .keeper import REFUSED_SYNTAX, REFUSED_TORN, Answer, Keeper, Request
+from .lines import MOST_SESSIONS
 
 MOST_WAITING = 1024
 """Lines of a connection that may wait; it is not read from while there are more."""
@@ -41,194 +44,264 @@ MOST_UNREAD = 1 << 25
 _SHORT = {b"assert", b"retract", b"begin", b"commit", b"abort", b"holds", b"through"}
 _SHORT |= {b"why", b"last", b"unwatch"}
 _FULL = b"refused full-sessions %d\n" % MOST_SESSIONS
+_PIECE = 1 << 16
+_TORN = b"\n"
+"""Stands behind the lines of a connection for a last one without line feed."""
+_BYE = Answer(b"bye")
 
-Waiting = Union[Request, Answer]
+Asked = Union[Request, Answer]
 
 
-class Connection(asyncio.BufferedProtocol):
-    """A client: the lines of it that wait, and where its replies go."""
+class Connection:
+    """A client: its socket, the lines of it that wait, and what it did not read yet."""
 
-    def __init__(self, hub: "Hub") -> None:
+    def __init__(self, hub: "Hub", link: socket.socket, session: int) -> None:
         self.hub = hub
-        self.session = -1
-        self.waiting: Deque[Sequence[bytes]] = deque()
-        self.blocked = False
+        self.session = session
+        self.waiting: Deque[bytes] = deque()
         self.at_end = False
         self.gone = False
+        self._link = link
         self._cutter = Cutter()
-        self._paused = False
-        self._transport: Optional[asyncio.Transport] = None
+        self._unsent = bytearray()
+        self._is_read = False
+        self._read_on()
 
     @property
-    def transport(self) -> asyncio.Transport:
-        assert self._transport is not None
-        return self._transport
+    def blocked(self) -> bool:
+        """Whether it has replies to read before it gets more of them."""
+        return bool(self._unsent)
 
-    def connection_made(self, transport: asyncio.BaseTransport) -> None:
-        self._transport = cast(asyncio.Transport, transport)
-        if not self.hub.join(self):
-            self.at_end = self.gone = True
-            self.transport.write(_FULL)
-            self.transport.close()
-
-    def get_buffer(self, sizehint: int) -> memoryview:
-        return self.hub.buffer
-
-    def buffer_updated(self, nbytes: int) -> None:
-        if self.at_end:
+    def read(self) -> None:
+        """Takes up what the client has sent."""
+        try:
+            piece = self._link.recv(_PIECE)
+        except BlockingIOError:
             return
-        for line in self._cutter.feed(bytes(self.hub.buffer[:nbytes])):
-            if len(line) > LONGEST_LINE:
-                self.waiting.append((b"", b"long"))
-                continue
-            words = words_of(line)
-            if words and not words[0].startswith(b"%"):
-                self.waiting.append(words)
-        if len(self.waiting) > MOST_WAITING and not self._paused:
-            self._paused = True
-            self.transport.pause_reading()
-        self.hub.awaited.discard(self.session)
-        self.hub.wake()
+        except OSError:
+            self.close()
+            return
+        if piece:
+            self.waiting.extend(self._cutter.feed(piece))
+            if len(self.waiting) > MOST_WAITING:
+                self._stop_reading()
+        else:
+            self._end_input()
+        self.hub.hear(self)
 
-    def eof_received(self) -> bool:
+    def _end_input(self) -> None:
         rest = self._cutter.end()
         if rest is not None and words_of(rest):
-            self.waiting.append((b"", b"torn"))
+            self.waiting.append(_TORN)
+        self.end()
+
+    def end(self) -> None:
+        """Takes no more lines; the connection is closed once its replies are read."""
         self.at_end = True
-        self.hub.wake()
-        return True
+        self._stop_reading()
 
-    def pause_writing(self) -> None:
-        self.blocked = True
+    def _read_on(self) -> None:
+        self._is_read = True
+        self.hub.sockets.register(self._link, selectors.EVENT_READ, self)
 
-    def resume_writing(self) -> None:
-        self.blocked = False
-        self.hub.wake()
+    def _stop_reading(self) -> None:
+        if self._is_read:
+            self._is_read = False
+            self.hub.sockets.unregister(self._link)
 
-    def connection_lost(self, fault: Optional[Exception]) -> None:
-        if not self.gone:
-            self.gone = True
-            self.hub.leave(self)
+    def write(self, lines: Sequence[bytes]) -> None:
+        """Writes whole lines, given without their ends, behind all that is unread."""
+        if not lines or self.gone:
+            return
+        content = b"\n".join([*lines, b""])
+        if self._unsent:
+            self._unsent += content
+            return
+        sent = self._send(content)
+        if sent < len(content) and not self.gone:
+            self._unsent += content[sent:]
+            self.hub.loop.add_writer(self._link.fileno(), self._write_on)
 
-    def read_on(self) -> None:
-        """Reads from the client again, once few of its lines wait."""
-        if self._paused and len(self.waiting) <= MOST_WAITING // 2:
-            self._paused = False
-            if not self.gone and not self.transport.is_closing():
-                self.transport.resume_reading()
+    def _send(self, content: Union[bytes, bytearray]) -> int:
+        """Sends what goes now, and closes a connection that takes nothing any more."""
+        try:
+            return self._link.send(content)
+        except BlockingIOError:
+            return 0
+        except OSError:
+            self.close()
+            return 0
 
-    def write(self, content: bytes) -> None:
-        if not self.gone and not self.transport.is_closing():
-            self.transport.write(content)
+    def _write_on(self) -> None:
+        del self._unsent[: self._send(self._unsent)]
+        if not self._unsent and not self.gone:
+            self.hub.loop.remove_writer(self._link.fileno())
+            self.hub.hear(self)
 
     def note(self, note: bytes) -> None:
-        """Writes a note, or ends a connection that reads none."""
-        if not self.gone:
-            if self.transport.get_write_buffer_size() > MOST_UNREAD:
-                self.transport.abort()
-            else:
-                self.write(note + b"\n")
+        """Writes a note, or closes a connection that reads none."""
+        if len(self._unsent) > MOST_UNREAD:
+            self.close()
+        else:
+            self.write([note])
 
-    def finish(self) -> None:
-        """Ends the connection once its replies are read."""
-        self.at_end = True
-        self.waiting.clear()
-        self.transport.close()
+    def go_on(self) -> None:
+        """Goes on behind a round: has more lines answered, reads on, or closes."""
+        if self._unsent:
+            return
+        if self.waiting:
+            self.hub.hear(self)
+        elif self.at_end:
+            self.close()
+        if not (self._is_read or self.at_end):
+            if len(self.waiting) <= MOST_WAITING // 2:
+                self._read_on()
+
+    def close(self) -> None:
+        """Closes the connection, whatever is unread; its session ends."""
+        if not self.gone:
+            self.gone = self.at_end = True
+            self._stop_reading()
+            self.hub.loop.remove_writer(self._link.fileno())
+            self._unsent.clear()
+            self.waiting.clear()
+            _part(self._link)
+            self.hub.leave(self)
+
+
+def _part(link: socket.socket) -> None:
+    """Closes a socket; what it has sent arrives, though some input may be unread."""
+    try:
+        link.shutdown(socket.SHUT_WR)
+        link.recv(_PIECE)
+    except OSError:
+        pass  # there is no more input, or no other end
+    link.close()
 
 
 class Taken:
-    """What a round has taken: of each connection so many lines, with what they ask."""
+    """What a round has taken: of each connection some lines, as what they ask.
+
+    `long` are those among them whose reply may be long.
+    """
 
     def __init__(self) -> None:
-        self.lines: List[Tuple[Optional[Connection], Waiting]] = []
-        self.counts: Dict[int, int] = {}
-        self.leaving: List[int] = []
+        self.parts: Dict[Connection, List[Asked]] = {}
         self.long = 0
 
 
 class Hub:
     """All connections, and the rounds in which their lines are answered.
 
-    `awaited` has the sessions that were answered in the last round, and that may be
-    about to tell more.
+    `heard` has those with something to answer, in the order in which it came.
+    `awaited` has those that were answered in the last round, and that may be about to
+    tell more.
     """
 
     def __init__(self, keeper: Keeper) -> None:
         self.keeper = keeper
         self.connections: Dict[int, Connection] = {}
-        self.buffer = memoryview(bytearray(1 << 16))  # what is read goes on at once
         self.loop = asyncio.get_running_loop()
+        self.loop.set_exception_handler(self._fail)
+        self.sockets = selectors.DefaultSelector()
+        ready = self.sockets.fileno()  # type: ignore[attr-defined]
+        self.loop.add_reader(ready, self._read)
         self.ended: "asyncio.Future[None]" = self.loop.create_future()
-        self.awaited: Set[int] = set()
+        self.heard: Dict[Connection, None] = {}
+        self.awaited: Set[Connection] = set()
         self._awaited_until = 0.0
         self._waking: Optional[asyncio.TimerHandle] = None
+        self._taken = Taken()
         self._free = list(range(MOST_SESSIONS - 1, -1, -1))
         self._leaving: List[int] = []
-        self._turn = 0
         self._scheduled = False
 
-    def join(self, connection: Connection) -> bool:
-        """Gives a connection its session, where one is free."""
+    def join(self, link: socket.socket) -> Optional[Connection]:
+        """Gives a client its session; where none is free, tells it so."""
+        link.setblocking(False)
+        if link.family != socket.AF_UNIX:
+            link.setsockopt(socket.IPPROTO_TCP, socket.TCP_NODELAY, 1)
         if not self._free:
-            return False
-        connection.session = self._free.pop()
-        self.connections[connection.session] = connection
-        return True
+            link.send(_FULL)
+            _part(link)
+            return None
+        session = self._free.pop()
+        self.connections[session] = Connection(self, link, session)
+        return self.connections[session]
 
     def leave(self, connection: Connection) -> None:
         """Ends a connection's session with the next round."""
         self.connections.pop(connection.session, None)
-        self.awaited.discard(connection.session)
+        self.heard.pop(connection, None)
+        self.awaited.discard(connection)
         self._leaving.append(connection.session)
-        self.wake()
+        self._wake()
 
-    def wake(self) -> None:
+    def end(self) -> None:
+        """Ends the server."""
+        if not self.ended.done():
+            self.ended.set_result(None)
+
+    def _fail(self, _: asyncio.AbstractEventLoop, context: Dict[str, Any]) -> None:
+        """Ends the server, which tells the fault."""
+        if not self.ended.done():
+            fault = context.get("exception") or HistoryError(context["message"])
+            self.ended.set_exception(fault)
+
+    def _read(self) -> None:
+        """Reads each socket that has something."""
+        for key, _ in self.sockets.select(0):
+            key.data.read()
+
+    def hear(self, connection: Connection) -> None:
+        """Has lines of a connection, or its end, answered with the next round."""
+        self.heard[connection] = None
+        self.awaited.discard(connection)
+        self._wake()
+
+    def _wake(self) -> None:
         """Has a round made once what has come in by now is read."""
         if not self._scheduled:
             self._scheduled = True
-            self.loop.call_soon(self._guarded, self._round)
-
-    def _guarded(self, work: Callable[[], None]) -> None:
-        """Does some work; a fault of it ends the server, which tells it."""
-        try:
-            if not self.ended.done():
-                work()
-        except Exception as fault:
-            if not self.ended.done():
-                self.ended.set_exception(fault)
+            self.loop.call_soon(self._round)
 
     def _round(self) -> None:
         """Answers what waits, unless more of it may come in a moment."""
         self._scheduled = False
         if self.awaited and self.loop.time() < self._awaited_until:
+            self._take()  # ec answers it meanwhile
             if self._waking is None:
                 until = self._awaited_until
-                self._waking = self.loop.call_at(
-                    until, self._guarded, self._wait_no_more
-                )
+                self._waking = self.loop.call_at(until, self._answer)
             return
-        self._wait_no_more()
+        self._answer()
 
-    def _wait_no_more(self) -> None:
+    def _answer(self) -> None:
         """Answers what waits, and hands the replies on once all updates are kept."""
         if self._waking is not None:
             self._waking.cancel()
             self._waking = None
+        if self.ended.done():
+            return
         self.awaited.clear()
+        self._take()
+        taken, self._taken = self._taken, Taken()
         begun, count = self.loop.time(), self.keeper.database.count
-        taken = Taken()
-        requests = self._take(taken)
-        self._write(taken, self.keeper.round(requests) if requests else [])
-        self._free += taken.leaving  # no note to one of them is on its way any more
+        self._write(taken, self.keeper.answers())
+        self._let_go()
         if self.keeper.database.count > count:
             self._await(taken, self.loop.time() - begun)
-        for connection in list(self.connections.values()):
-            connection.read_on()
-            if connection.waiting:
-                if not connection.blocked:
-                    self.wake()
-            elif connection.at_end:
-                connection.finish()
+        for connection in taken.parts:
+            connection.go_on()
+        if self.heard:
+            self._wake()
+
+    def _let_go(self) -> None:
+        """Ends the sessions whose connections are closed; they are free again."""
+        for session in self._leaving:
+            self.keeper.leave(session)
+        self._free += self._leaving
+        self._leaving = []
 
     def _await(self, taken: Taken, spent: float) -> None:
         """Has the next round wait for who was answered, half as long as this one took.
@@ -237,75 +310,78 @@ class Hub:
         others wait for that and for another sync.
         """
         self.awaited = {
-            session
-            for session in taken.counts
-            if session in self.connections
-            and not self.connections[session].waiting
-            and not self.connections[session].at_end
+            connection
+            for connection in taken.parts
+            if not (connection.waiting or connection.at_end)
         }
         self._awaited_until = self.loop.time() + min(spent / 2, LONGEST_WAIT)
 
-    def _take(self, taken: Taken) -> List[Request]:
-        """Takes lines of each connection whose replies are read, in turn."""
-        leaving, self._leaving = self._leaving, []
-        taken.lines += [(None, Request(session, LEAVE)) for session in leaving]
-        requests = [Request(session, LEAVE) for session in leaving]
-        taken.leaving += leaving
-        sessions = sorted(self.connections)
-        start = self._turn % len(sessions) if sessions else 0
-        self._turn += 1
-        for session in sessions[start:] + sessions[:start]:
-            connection = self.connections[session]
-            while connection.waiting and not connection.blocked:
-                count = taken.counts.get(session, 0)
-                is_long = connection.waiting[0][0] not in _SHORT
-                if count >= MOST_A_ROUND or (is_long and taken.long >= LONG_A_ROUND):
-                    break
-                taken.long += is_long
-                taken.counts[session] = MOST_A_ROUND if is_long else count + 1
-                what = self._asked(connection)
-                taken.lines.append((connection, what))
-                if isinstance(what, Request):
-                    requests.append(what)
-        return requests
+    def _take(self) -> None:
+        """Takes lines of each connection that was heard, once in a round.
 
-    def _asked(self, connection: Connection) -> Waiting:
-        """What the next line of a connection asks."""
-        words = connection.waiting.popleft()
-        if words[0] == b"":
-            return REFUSED_LONG if words[1] == b"long" else REFUSED_TORN
-        if words[0].startswith(b"@"):
-            return REFUSED_SYNTAX
-        if list(words) == [b"quit"]:
-            connection.at_end = True
-            connection.waiting.clear()
-            return Answer(b"bye")
-        return self.keeper.request(connection.session, words)
+        One whose turn has not come yet stays in front of those that are heard later.
+        """
+        parts = self._taken.parts
+        requests: List[Request] = []
+        for connection in [each for each in self.heard if each not in parts]:
+            part = self._taken_of(connection, requests)
+            if part or connection.blocked or not connection.waiting:
+                del self.heard[connection]
+                parts[connection] = part
+        self.keeper.tell(requests)
+
+    def _taken_of(self, connection: Connection, requests: List[Request]) -> List[Asked]:
+        """Takes lines of a connection: many, or one whose reply may be long."""
+        part: List[Asked] = []
+        waiting = connection.waiting
+        while waiting and not connection.blocked and len(part) < MOST_A_ROUND:
+            what = self._asked(connection, waiting[0])
+            is_long = isinstance(what, Request) and what.name not in _SHORT
+            if is_long and self._taken.long >= LONG_A_ROUND:
+                break
+            waiting.popleft()
+            if what is not None:
+                part.append(what)
+            if isinstance(what, Request):
+                requests.append(what)
+            if what is _BYE:
+                waiting.clear()
+                connection.end()
+            if is_long:
+                self._taken.long += 1
+                break
+        return part
+
+    def _asked(self, connection: Connection, line: bytes) -> Optional[Asked]:
+        """What a line of a connection asks; None for a silent one."""
+        if line == _TORN:
+            return REFUSED_TORN
+        what = self.keeper.request(connection.session, line)
+        if isinstance(what, Request):
+            if what.name.startswith(b"@"):
+                return REFUSED_SYNTAX
+            if what.line == b"quit":
+                return _BYE
+        return what
 
     def _write(self, taken: Taken, answered: Sequence[Answer]) -> None:
         """Writes each reply to its connection, and each note to who watches."""
         answers = iter(answered)
-        pieces: Dict[Connection, List[bytes]] = {}
-        for connection, what in taken.lines:
-            answer = next(answers) if isinstance(what, Request) else what
-            if connection is not None:
-                pieces.setdefault(connection, []).append(answer.reply + b"\n")
-            if answer.notes:
-                _flush(pieces)
-                self._note(answer.notes)
-        _flush(pieces)
+        for connection, part in taken.parts.items():
+            replies: List[bytes] = []
+            for what in part:
+                answer = next(answers) if isinstance(what, Request) else what
+                replies.append(answer.reply)
+                if answer.notes:
+                    connection.write(replies)
+                    replies = []
+                    self._note(answer.notes)
+            connection.write(replies)
 
     def _note(self, notes: Sequence[Tuple[int, bytes]]) -> None:
         for session, note in notes:
             if session in self.connections:
                 self.connections[session].note(note)
-
-
-def _flush(pieces: Dict[Connection, List[bytes]]) -> None:
-    """Writes what there is for each connection."""
-    for connection, content in pieces.items():
-        connection.write(b"".join(content))
-    pieces.clear()
 
 
 def listen(keeper: Keeper, address: str, tell: Callable[[str], None]) -> None:
@@ -322,65 +398,29 @@ def listen(keeper: Keeper, address: str, tell: Callable[[str], None]) -> None:
 
 async def _listen(keeper: Keeper, address: str, tell: Callable[[str], None]) -> None:
     hub = Hub(keeper)
-    server, where = await _server(hub, address)
+    listening, where = opened(address)
+    listening.setblocking(False)
     tell(f", listening at {where}")
     print(f"ec-history: listening at {where}", file=sys.stderr, flush=True)
-    loop = asyncio.get_running_loop()
     for number in (signal.SIGINT, signal.SIGTERM):
-        loop.add_signal_handler(number, _end, hub)
+        hub.loop.add_signal_handler(number, hub.end)
+    accepting = hub.loop.create_task(_accept(hub, listening))
     try:
         await hub.ended
     finally:
-        server.close()
+        accepting.cancel()
+        listening.close()
         for connection in list(hub.connections.values()):
-            connection.transport.close()
+            connection.close()
         if where.startswith("/"):
             os.unlink(where)
 
 
-def _end(hub: Hub) -> None:
-    if not hub.ended.done():
-        hub.ended.set_result(None)
-
-
-async def _server(hub: Hub, address: str) -> Tuple[asyncio.AbstractServer, str]:
-    """A server at an address, and where it listens."""
-    loop = asyncio.get_running_loop()
-    host, _, port = address.rpartition(":")
-    try:
-        if port.isdigit() and "/" not in address:
-            if host not in ("", "localhost", "127.0.0.1", "[::1]"):
-                raise HistoryError(
-                    f"{address}: a port of the loopback is served and no other: name "
-                    "the port alone, or a path for a Unix socket"
-                )
-            host = "::1" if host == "[::1]" else "127.0.0.1"
-            server = await loop.create_server(lambda: Connection(hub), host, int(port))
-            place = server.sockets[0].getsockname()
-            return server, f"{host if ':' not in host else '[::1]'}:{place[1]}"
-        path = os.path.abspath(address)
-        _free_path(path)
-        mask = os.umask(0o177)
+async def _accept(hub: Hub, listening: socket.socket) -> None:
+    """Has each client that comes join."""
+    while True:
         try:
-            unix = await loop.create_unix_server(lambda: Connection(hub), path)
-        finally:
-            os.umask(mask)
-        return unix, path
-    except (OSError, OverflowError) as fault:
-        raise HistoryError(f"can't listen at {address}: {fault}") from None
-
-
-def _free_path(path: str) -> None:
-    """Takes away a socket at which nobody listens any more."""
-    try:
-        if not stat.S_ISSOCK(os.stat(path).st_mode):
-            raise HistoryError(f"can't listen at {path}: a file stands there")
-    except FileNotFoundError:
-        return
-    with socket.socket(socket.AF_UNIX) as trial:
-        try:
-            trial.connect(path)
+            link, _ = await hub.loop.sock_accept(listening)
+            hub.join(link)
         except OSError:
-            os.unlink(path)
-            return
-    raise HistoryError(f"can't listen at {path}: another process does")
+            await asyncio.sleep(LONGEST_WAIT)  # it has gone, or too many files are open

@@ -1,14 +1,18 @@
 #!/usr/bin/env python3
 """Synced updates a second of `ec-history keep --listen`, beside Redis.
 
-    companion/measure/kept_speed.py [--program PATH] [--clients 32] [--seconds 5]
-                                    [--turns 2]
+    companion/measure/kept_speed.py [--program PATH] [--clients 32] [--seconds 3]
+                                    [--turns 9]
 
 Each client tells one update, waits for its `ok`, and tells the next, over the loopback.
 Where `redis-server` is on the PATH, it does the same with `SET` under `appendfsync
-always`, on the same disk; the two take turns, and the best turn of each counts. `keep`
-should reach at least half of it. Of each the processor time for an update is told as
-well, of all its processes: it hardly depends on what else the machine does.
+always`, on the same disk. The two take turns, so that each turn of one has one of the
+other beside it; in the median of these pairs `keep` should reach at least half of it.
+Of each the processor time for an update is told as well, of all its processes.
+
+Where the machine is at other work, who syncs waits for a processor each time, and the
+figures tell of that more than of the two. `chrt -r 1 python3 ..` puts both, and their
+clients, in front of all else for the time of the measure.
 """
 
 from __future__ import annotations
@@ -31,6 +35,7 @@ sys.path.insert(0, os.path.join(os.path.dirname(os.path.abspath(__file__)), ".."
 from ec_history.program import add_program, find_program  # noqa: E402  (path first)
 
 THEORY = "initiates plug(Lamp) powered(Lamp).\nterminates unplug(Lamp) powered(Lamp).\n"
+LEAST_SHARE = 0.5
 Command = Callable[[int, int], bytes]
 
 
@@ -146,8 +151,8 @@ def words_of(name: str, rates: List[Rate]) -> str:
 def main() -> int:
     parser = argparse.ArgumentParser(description=(__doc__ or "").splitlines()[0])
     parser.add_argument("--clients", type=int, default=32)
-    parser.add_argument("--seconds", type=float, default=5)
-    parser.add_argument("--turns", type=int, default=2)
+    parser.add_argument("--seconds", type=float, default=3)
+    parser.add_argument("--turns", type=int, default=9)
     add_program(parser)
     args = parser.parse_args()
     program = find_program(args.program)
@@ -165,12 +170,13 @@ def main() -> int:
         print("redis-server is not on the PATH, so nothing was compared")
         return 0
     print(words_of("redis", redis))
-    share = max(kept).commands / max(redis).commands
-    middle = statistics.median(k.commands / r.commands for k, r in zip(kept, redis))
+    shares = sorted(k.commands / r.commands for k, r in zip(kept, redis))
+    middle = statistics.median(shares)
     print(
-        f"keep reaches {share:.2f} of it at best, {middle:.2f} in the median of turns"
+        f"keep reaches {middle:.2f} of it in the median of {len(shares)} pairs of "
+        f"turns, {shares[0]:.2f} in the worst and {shares[-1]:.2f} in the best"
     )
-    return 0 if share >= 0.5 else 1
+    return 0 if middle >= LEAST_SHARE else 1
 
 
 if __name__ == "__main__":

@@ -96,7 +96,7 @@ def compare(path: str, loads: List[Load], accepted: Dict[Load, Set[str]]) -> int
         taken = load.refused & kept
         assert not taken, f"refused, and kept: {sorted(taken)[:3]}"
     keeper = Keeper(database, program())
-    (events,) = keeper.round([Request(0, [b"events"])])
+    (events,) = keeper.round([Request(0, b"events", b"events")])
     keeper.close()
     database.close()
     lines = "".join(f"{update.lines}\n" for update in updates) + "events\n"

@@ -23,7 +23,7 @@ def program() -> str:
 
 def example_names() -> List[str]:
     """The names of the examples, which have a theory, lines and replies each."""
-    return sorted(path.stem for path in EXAMPLES.glob("*.ec"))
+    return sorted(path.stem for path in EXAMPLES.glob("*.lines"))
 
 
 def theory_of(name: str) -> str:

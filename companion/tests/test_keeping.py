@@ -15,13 +15,18 @@ from typing import List
 from unittest import mock
 
 from ec_history.database import Database, NotKept
-from ec_history.keeper import LEAVE, Keeper, Request
+from ec_history.keeper import Keeper, Request
 from ec_history.moments import TICK
 from ec_history.reading import later_commands
 from tests.keep import Folder, words
 from tests.setting import EXAMPLES, TOP, example_names, lines_of, program, theory_of
 
 LOANS = theory_of("loans")
+
+
+def asked_by(session: int, line: str) -> Request:
+    """What a session asks with a line."""
+    return Request(session, line.encode().split(b" ")[0], line.encode())
 
 
 class ConversationTest(Folder):
@@ -47,6 +52,18 @@ class ConversationTest(Folder):
             self.assertTrue(all(e.startswith("assert ") for e in events.splitlines()))
             asked = self.served(theory_of(name), events + "events\nclashes\n")
             self.assertEqual(asked.splitlines()[-2:], out.splitlines())
+
+    def test_the_exported_events_are_a_file_to_prove_from(self) -> None:
+        lines = "assert l1 10 lend(dune,ann)\nassert l2 5 lend(emma,bob)\nretract l2\n"
+        self.keep(self.file, "--theory", LOANS, lines=lines)
+        events = self.write("events", self.keep(self.file, "--export", "--events")[1])
+        self.assertEqual(Path(events).read_text(), "assert l1 10 lend(dune,ann)\n")
+        for thing, wanted in (("dune", "certificate out(dune) 12"), ("emma", "none")):
+            words = [program(), "prove", LOANS, events, f"out({thing})", "12"]
+            ran = subprocess.run(words, capture_output=True, text=True, check=False)
+            if ran.stdout.startswith("usage:"):
+                self.skipTest("this ec has no prove yet")
+            self.assertEqual(ran.stdout.splitlines()[0], wanted, ran.stderr)
 
     def served(self, theory: str, lines: str) -> str:
         serve = [program(), "serve", theory]
@@ -201,6 +218,29 @@ class FileTest(Folder):
         self.assertEqual(status, 2)
         self.assertIn("update 5 is missing", err)
 
+    def test_what_no_update_is_stops_the_start(self) -> None:
+        changes = [
+            ("lines", "'quit'"),
+            ("lines", "'% e1 1 lend(b,c)'"),
+            ("lines", "'begin'"),
+            ("lines", "'assert a 1 lend(b,c)' || char(10) || 'quit'"),
+            ("lines", "x'00ff'"),
+            ("session", "64"),
+            ("session", "'x'"),
+            ("reply", "'drafted 1'"),
+        ]
+        for number, (column, value) in enumerate(changes):
+            file = self.path(f"kept{number}.db")
+            lines = "assert a 1 lend(b,c)\nassert d 1 lend(e,f)\n"
+            self.keep(file, "--theory", LOANS, lines=lines)
+            with closing(sqlite3.connect(file)) as connection:
+                statement = f"UPDATE updates SET {column} = {value} WHERE number = 2"
+                connection.execute(statement)
+                connection.commit()
+            status, out, err = self.keep(file)
+            self.assertEqual((status, out), (2, ""))
+            self.assertIn("update 2 is not what is kept of an update", err, value)
+
     def test_a_file_that_can_not_be_written_is_told(self) -> None:
         self.keep(self.file, "--theory", LOANS, lines="assert a 1 lend(b,c)\n")
         status, _, err = self.keep(self.path("none/kept.db"), "--theory", LOANS)
@@ -211,13 +251,8 @@ class FileTest(Folder):
             status, _, err = self.keep(self.path(name))
             self.assertEqual(status, 2, err)
 
-    def test_the_past_by_the_clock(self) -> None:
-        database = Database.create(self.file, Path(LOANS).read_bytes())
-        with closing(database):
-            for day in (1, 2, 3):
-                row = (0, f"assert e{day} {day} lend(b{day},c)", "ok")
-                told = datetime(2024, 3, day, 12, tzinfo=timezone.utc)
-                database.append([row], told)
+    def test_a_copy_as_it_was_at_an_instant(self) -> None:
+        self.told_on_three_days()
         instants = [("2024-03-01T11:59:59Z", 0), ("2024-03-02T12:00:00Z", 2)]
         for instant, count in instants:
             lines = "events\nassert x 1 lend(y,z)\nbegin\nretract e1\nevents\n"
@@ -228,15 +263,79 @@ class FileTest(Folder):
             self.assertEqual(replies[1:4], ["refused as-of"] * 3)
             self.assertEqual(replies[4], replies[0])
             self.assertIn(f"{count} of 3 updates were told by {instant}", err)
-            line = f"asof {instant} events\n"
-            out = self.keep(self.file, lines=line)[1].strip()
-            if "asof" in later_commands(program(), LOANS, TICK):
-                self.assertEqual(out, replies[0])
-            else:
-                self.assertEqual(out, "refused syntax")
         self.assertEqual(self.keep(self.file, "--as-of", "yesterday")[0], 2)
-        bad = "asof 2024-02-30T00:00:00Z events\n"
-        self.assertEqual(self.keep(self.file, lines=bad)[1], "refused syntax\n")
+
+    def told_on_three_days(self) -> None:
+        """A kept history, of which an update was told on each of three days."""
+        database = Database.create(self.file, Path(LOANS).read_bytes())
+        with closing(database):
+            for day in (1, 2, 3):
+                row = (0, f"assert e{day} {day} lend(b{day},c)", "ok")
+                told = datetime(2024, 3, day, 12, tzinfo=timezone.utc)
+                database.append([row], told)
+
+    def test_an_instant_becomes_the_number_of_updates_told_by_then(self) -> None:
+        self.told_on_three_days()
+        database = Database.open(self.file, writing=True)
+        keeper = Keeper(database, program())
+        self.addCleanup(database.close)
+        self.addCleanup(keeper.close)
+        lines = [
+            b"asof 2024-03-01T11:59:59Z events",
+            b"asof  2024-03-02T12:00:00Z holds out(b1) 5",
+            b"assert x 1 lend(y,z)",
+            b"asof 2024-03-03T12:00:00Z at 5",
+            b"asof 2124-01-01T00:00:00Z at 5",  # not over, so x counts
+            b"assert w 1 lend(y,v)",
+            b"asof 2124-01-01T00:00:00Z at 5",
+            b"asof 3 at 5",
+        ]
+        requests = [keeper.request(2, line) for line in lines]
+        engine = keeper._engine
+        with mock.patch.object(engine, "tell", wraps=engine.tell) as tell:
+            answers = keeper.round([r for r in requests if isinstance(r, Request)])
+        self.assertEqual(len(answers), len(lines))
+        told = [line for call in tell.call_args_list for line in call.args[0]]
+        wanted = [
+            b"@2 asof 0 events",
+            b"@2 asof 2 holds out(b1) 5",
+            b"@2 assert x 1 lend(y,z)",
+            b"@2 asof 3 at 5",
+            b"@2 asof 4 at 5",
+            b"@2 assert w 1 lend(y,v)",
+            b"@2 asof 5 at 5",
+            b"@2 asof 3 at 5",
+        ]
+        self.assertEqual([line for line in told if line != b"last"], wanted)
+        self.assertEqual([update.number for update in database.updates()][-1], 5)
+
+    def test_what_is_no_instant_is_refused(self) -> None:
+        lines = (
+            "asof 2024-02-30T00:00:00Z events\nasof 2024-03-01 events\n"
+            "asof 2024-03-01T00:00:00Z\nasof 2024-03-01T00:00:00Z last\n"
+            "asof 2024-03-01T00:00:00Z asof 0 events\nasof\n"
+        )
+        out = self.keep(self.file, "--theory", LOANS, lines=lines)[1]
+        self.assertEqual(out, "refused syntax\n" * 6)
+
+    def test_the_past_by_the_clock(self) -> None:
+        if "asof" not in later_commands(program(), LOANS, TICK):
+            self.skipTest("this ec has no asof yet")
+        self.told_on_three_days()
+        lines = (
+            "asof 2024-03-01T11:59:59Z events\nasof 2024-03-01T12:00:00Z events\n"
+            "@5 asof 2024-03-02T23:00:00Z holds out(b3) 5\nasof 2 holds out(b2) 5\n"
+            "asof 2024-03-04T00:00:00Z holds out(b3) 5\nretract e1\n"
+            "asof 2024-03-04T00:00:00Z holds out(b1) 5\n"
+            "asof 2124-01-01T00:00:00Z holds out(b1) 5\nholds out(b1) 5\n"
+        )
+        wanted = "0\n1 e1 1 lend(b1,c)\n@5 no\nyes\nyes\nok\nyes\nno\nno\n"
+        self.assertEqual(self.keep(self.file, lines=lines), (0, wanted, ""))
+        line = "asof 2024-03-01T12:00:00Z events\n"
+        past = self.keep(self.file, "--as-of", "2024-03-02T12:00:00Z", lines=line)
+        self.assertEqual(past[:2], (0, "1 e1 1 lend(b1,c)\n"))
+        with self.begin(self.file).client() as client:
+            self.assertEqual(client.ask(line.strip()), "1 e1 1 lend(b1,c)")
 
 
 class EndingTest(Folder):
@@ -250,7 +349,7 @@ class EndingTest(Folder):
         return keeper
 
     def ask(self, keeper: Keeper, *lines: str) -> List[str]:
-        asked = [Request(1, line.encode().split(b" ")) for line in lines]
+        asked = [asked_by(1, line) for line in lines]
         return [answer.reply.decode() for answer in keeper.round(asked)]
 
     def test_ec_is_started_anew_where_it_ends(self) -> None:
@@ -291,10 +390,10 @@ class EndingTest(Folder):
     def test_what_was_told_behind_a_refused_update_is_answered_anew(self) -> None:
         keeper = self.keeper()
         self.ask(keeper, "assert a 1 lend(b,c)", "begin", "assert d 2 lend(e,f)")
-        asked = [Request(2, [b"retract", b"a"]), Request(1, [b"commit"])]
-        words = [b"assert x 3 lend(y,z)", b"events", b"begin", b"retract a"]
-        asked += [Request(3, word.split(b" ")) for word in words]
-        asked += [Request(1, LEAVE), Request(1, [b"commit"])]
+        asked = [asked_by(2, "retract a"), asked_by(1, "commit")]
+        lines = ["assert x 3 lend(y,z)", "events", "begin", "retract a"]
+        asked += [asked_by(3, line) for line in lines]
+        asked += [asked_by(1, "commit")]
         fails = mock.patch.object(
             keeper.database, "append", side_effect=NotKept("no room")
         )
@@ -302,21 +401,22 @@ class EndingTest(Folder):
             answers = keeper.round(asked)
         self.assertEqual([row[0] for row in append.call_args.args[0]], [2, 1, 3])
         refused = b"refused not-kept no room"
-        wanted = [refused] * 3 + [b"1 a 1 lend(b,c)", b"ok", b"drafted 1", b"", refused]
+        wanted = [refused] * 3 + [b"1 a 1 lend(b,c)", b"ok", b"drafted 1", refused]
         self.assertEqual([answer.reply for answer in answers], wanted)
+        keeper.leave(1)
         self.assertEqual(self.ask(keeper, "commit"), ["refused no-draft"])
-        replies = keeper.round([Request(3, [b"commit"]), Request(3, [b"events"])])
+        replies = keeper.round([asked_by(3, "commit"), asked_by(3, "events")])
         self.assertEqual([answer.reply for answer in replies], [b"ok", b"0"])
         kept = [update.lines for update in keeper.database.updates()]
         self.assertEqual(kept[1:], ["begin\nretract a\ncommit"])
 
     def test_ec_ends_between_two_rounds(self) -> None:
         keeper = self.keeper()
-        keeper.round([Request(1, [b"assert", b"a", b"1", b"lend(b,c)"])])
-        keeper.round([Request(2, [b"begin"])])
+        keeper.round([asked_by(1, "assert a 1 lend(b,c)")])
+        keeper.round([asked_by(2, "begin")])
         keeper._engine.process.kill()
         keeper._engine.process.wait()
-        asked = [Request(2, [b"retract", b"a"]), Request(1, [b"events"])]
+        asked = [asked_by(2, "retract a"), asked_by(1, "events")]
         answers = [answer.reply for answer in keeper.round(asked)]
         self.assertEqual(answers, [b"drafted 1", b"1 a 1 lend(b,c)"])
 

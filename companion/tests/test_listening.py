@@ -10,7 +10,7 @@ import threading
 import time
 import unittest
 from pathlib import Path
-from typing import Any, List, cast
+from typing import Any, Callable, Dict, List
 from unittest import mock
 
 from ec_history.database import Database
@@ -212,7 +212,7 @@ class ListeningTest(Folder):
 
 
 class HubTest(Folder):
-    """The groups of lines, with connections that are no sockets."""
+    """The rounds of a hub, which are made by hand."""
 
     def setUp(self) -> None:
         super().setUp()
@@ -220,45 +220,65 @@ class HubTest(Folder):
         self.keeper = Keeper(self.database, program())
         self.addCleanup(self.database.close)
         self.addCleanup(self.keeper.close)
+        self.ends: Dict[Connection, socket.socket] = {}
+        self.received: Dict[Connection, bytes] = {}
+
+    def play(self, work: Callable[[Hub], None]) -> None:
+        """Does some work with a hub, whose connections end behind it."""
+
+        async def playing() -> None:
+            hub = Hub(self.keeper)
+            work(hub)
+            for connection in list(hub.connections.values()):
+                connection.close()
+
+        asyncio.run(playing())
 
     def joined(self, hub: Hub) -> Connection:
-        transport = mock.Mock()
-        transport.is_closing.return_value = False
-        transport.get_write_buffer_size.return_value = 0
-        connection = Connection(hub)
-        connection.connection_made(transport)
+        ours, theirs = socket.socketpair()
+        self.addCleanup(theirs.close)
+        connection = hub.join(ours)
+        assert connection is not None
+        self.ends[connection], self.received[connection] = theirs, b""
+        theirs.setblocking(False)
         return connection
 
-    def tell(self, connection: Connection, line: bytes) -> None:
-        connection.hub.buffer[: len(line)] = line
-        connection.buffer_updated(len(line))
+    def tell(self, connection: Connection, lines: bytes) -> None:
+        self.ends[connection].sendall(lines)
+        connection.hub._read()
 
     def written(self, connection: Connection) -> bytes:
-        writes = cast(mock.Mock, connection.transport).write.call_args_list
-        return b"".join(call.args[0] for call in writes)
+        """All that a client was sent so far."""
+        try:
+            self.received[connection] += self.ends[connection].recv(1 << 16)
+        except BlockingIOError:
+            pass
+        return self.received[connection]
 
-    def test_a_session_is_free_once_no_note_to_it_is_on_its_way(self) -> None:
-        async def play() -> None:
-            hub = Hub(self.keeper)
+    def test_a_session_is_free_once_its_watches_have_ended(self) -> None:
+        def work(hub: Hub) -> None:
             ann, bob = self.joined(hub), self.joined(hub)
-            self.tell(ann, b"watch out(b)\n")
+            self.tell(ann, b"watch out(b)\nbegin\n")
             hub._round()
             self.tell(bob, b"assert a 1 lend(b,c)\n")
-            ann.connection_lost(None)
+            ann.close()
             cid = self.joined(hub)
             self.assertNotEqual(cid.session, ann.session)
             hub._round()
             self.assertEqual(self.written(bob), b"ok\n")
             self.assertEqual(self.written(cid), b"")
-            self.assertEqual(self.joined(hub).session, ann.session)
+            dan = self.joined(hub)
+            self.assertEqual(dan.session, ann.session)
+            self.tell(dan, b"commit\n")
+            hub._answer()
+            self.assertEqual(self.written(dan), b"refused no-draft\n")
 
-        asyncio.run(play())
+        self.play(work)
 
     def test_nothing_is_written_before_it_is_kept(self) -> None:
         append = self.database.append
 
-        async def play() -> None:
-            hub = Hub(self.keeper)
+        def work(hub: Hub) -> None:
             ann, bob = self.joined(hub), self.joined(hub)
 
             def kept(*words: Any) -> None:
@@ -274,16 +294,15 @@ class HubTest(Folder):
             self.assertEqual(self.written(bob), b"2 has(c,b) out(b)\n")
             self.assertEqual(self.database.count, 1)
 
-        asyncio.run(play())
+        self.play(work)
 
     def test_who_was_answered_shares_the_next_sync(self) -> None:
-        async def play() -> None:
-            hub = Hub(self.keeper)
+        def work(hub: Hub) -> None:
             ann, bob = self.joined(hub), self.joined(hub)
             for name, client in ((b"a", ann), (b"b", bob)):
                 self.tell(client, b"assert %s 1 lend(b,c)\n" % name)
             hub._round()
-            self.assertEqual(hub.awaited, {ann.session, bob.session})
+            self.assertEqual(hub.awaited, {ann, bob})
             hub._awaited_until += 60
             self.tell(ann, b"retract a\n")
             hub._round()
@@ -296,23 +315,64 @@ class HubTest(Folder):
             hub._round()
             self.assertEqual(self.written(ann).count(b"\n"), 3)
 
-        asyncio.run(play())
+        self.play(work)
 
     def test_a_connection_gives_way_to_others(self) -> None:
-        async def play() -> None:
-            hub = Hub(self.keeper)
+        def work(hub: Hub) -> None:
             ann, bob = self.joined(hub), self.joined(hub)
             self.tell(ann, b"at 1\n" * 300)
             self.tell(bob, b"last\n" * 300)
             hub._round()
             self.assertEqual(len(ann.waiting), 299)  # its reply may be long
             self.assertEqual(len(bob.waiting), 300 - 64)
-            ann.pause_writing()
+            ann.write([b"x" * 10_000_000])  # which she does not read
+            self.assertTrue(ann.blocked)
             hub._round()
             self.assertEqual(len(ann.waiting), 299)
             self.assertEqual(len(bob.waiting), 300 - 128)
 
-        asyncio.run(play())
+        self.play(work)
+
+    def test_who_waits_for_long_replies_is_answered_in_turn(self) -> None:
+        def work(hub: Hub) -> None:
+            clients = [self.joined(hub) for _ in range(8)]
+            for client in clients:
+                self.tell(client, b"at 1\n" * 5)
+            for wanted in ([1] * 4 + [0] * 4, [1] * 8, [2] * 4 + [1] * 4):
+                hub._round()
+                found = [self.written(client).count(b"\n") for client in clients]
+                self.assertEqual(found, wanted)
+
+        self.play(work)
+
+    def test_what_is_not_read_at_once_comes_whole_and_in_order(self) -> None:
+        def work(hub: Hub) -> None:
+            ann = self.joined(hub)
+            long = [b"%d" % number * 100_000 for number in range(9)]
+            for line in long:
+                ann.write([line])
+            self.assertTrue(ann.blocked)
+            wanted = b"".join(line + b"\n" for line in long)
+            while len(self.written(ann)) < len(wanted):
+                ann._write_on()
+            self.assertEqual(self.written(ann), wanted)
+            self.assertFalse(ann.blocked)
+
+        self.play(work)
+
+    def test_a_client_that_has_gone_ends_its_own_connection_alone(self) -> None:
+        def work(hub: Hub) -> None:
+            ann, bob = self.joined(hub), self.joined(hub)
+            self.tell(ann, b"assert a 1 lend(b,c)\n")
+            self.tell(bob, b"at 2\n")
+            self.ends[ann].close()
+            hub._round()
+            self.assertEqual((ann.gone, bob.gone), (True, False))
+            self.assertEqual(self.written(bob)[:2], b"2 ")
+            hub._round()
+            self.assertEqual(list(hub.connections.values()), [bob])
+
+        self.play(work)
 
 
 class AddressTest(Folder):
