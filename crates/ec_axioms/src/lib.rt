@@ -1,4 +1,13 @@
-//! The event calculus: its definitions and their laws, and the types of events, updates and steps.
+//! The event calculus: its definitions and their laws.
+//!
+//! What is current and what holds, which intervals a property has and why, over a plain list of
+//! events: no cache, no order of arrival. The types of events, updates and refusals stand here too,
+//! since definitions and code share them, and [`Steps`], by which work is counted.
+//!
+//! **Proved**: the laws of the calculus (`laws_*.rt`); the definitions on worked examples
+//! (`worked_rows.rt`); a plain slow program answers by them ([`holds_plain`]). **Not said**: that
+//! the definitions mean what is wanted, which a reader has to judge. Start at
+//! `specs/Timeline.antt`, then `specs/Calculus.antt`; `specs/Laws.antt` has the laws.
 #![tactic(auto)]
 
 mod currency;

@@ -1,5 +1,13 @@
-//! The trial of a batch of updates in the tables alone: a walk from list to list, what goes and what comes by it, and the way
-//! back. The caches stay as they are.
+//! The trial of a batch of updates in the tables alone.
+//!
+//! [`attempt`] walks from list to list, one update after the other; the caches stay as they are. So
+//! a refusal is told before anything else changes. [`net_change`] then finds what goes and what
+//! comes, and [`undo`] goes all the way back.
+//!
+//! **Proved**: the walk comes to the list after all updates, or the batch is refused for the first
+//! one that is, with its place, and the parts stand for the list of the store as before (`attempt`:
+//! `goes`); the steps are at most twice the updates. **Not said**: which update memory ran out at.
+//! Start at `attempting.rt`, then `walk.rt`; `specs/Walk.antt` says what a walk has come to.
 #![tactic(auto)]
 
 mod attempting;

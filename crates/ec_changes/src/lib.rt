@@ -1,5 +1,12 @@
-//! The laws of change: how the calculus of one list of events comes from that of another, at each whole number.
-//! There is no code here: each function's contract is a law over every theory and over any two lists.
+//! The laws of change: how the calculus of one list of events comes from that of another.
+//!
+//! No code: each function's contract is a law over every theory and any two lists, at each whole
+//! number. A sweep between two lists rests on them: what is quiet passes on, only what sees a
+//! change turns, marks follow turns, the past stays.
+//!
+//! **Proved**: 34 laws, in `laws_*.rt`, and what the words say of two examples
+//! (`worked_changes.rt`). Start at `specs/Differences.antt`, which says when two lists differ and
+//! what is quiet, and `specs/Turns.antt`.
 #![tactic(auto)]
 
 mod laws_counts;

@@ -1,4 +1,14 @@
-//! The maximal validity intervals of each property, by its number, made from its row of marks alone.
+//! The maximal validity intervals of each property, by its number, made from its row of marks
+//! alone.
+//!
+//! [`Intervals`] makes them anew (`rebuild`), or mends them from the first changed mark to the
+//! first unchanged one behind the last (`splice_from`), and tells whether they differ.
+//!
+//! **Proved**: the intervals are those that the row spells, after either call, without memory
+//! (`intervals`, `differs`), and whether a property holds at a time. **Tested**: that mending
+//! touches little of a long row. **Not said**: how long it takes. Start at `intervals.rt`;
+//! `specs/Drafts.antt` and `specs/ChangedRows.antt` say how marks are read and what a changed
+//! instant does.
 #![tactic(auto)]
 
 mod broken;

@@ -1,5 +1,12 @@
-//! What the crates above share of lists: the want of memory for one, members that are had again without any, and lemmas on truth
-//! values, numbers, options and lists.
+//! What all lists share: copies, the want of memory, and lemmas.
+//!
+//! The lowest crate. [`Copied`] is a copy that takes memory and may fail; [`NoMemory`] is the one
+//! answer for that, made here alone; [`add_counts`] adds two counts of members. Most of the crate
+//! is lemmas on truth values, numbers, options and lists (`proofs/`), stated once for all crates.
+//!
+//! **Proved**: a copy is equal; two counts are added, or their sum is past 64 bits (`many`). **Not
+//! said**: that there is memory where a call says that there was none. `specs/Reserved.antt` says
+//! what a list with room is.
 #![tactic(auto)]
 
 mod copied;

@@ -1,4 +1,12 @@
-//! Points of time: what a number is, and the trait of everything that can tell when an event happened.
+//! Kinds of time.
+//!
+//! A kind of time is a type that implements [`Moment`]: the calculus sees a time by its rank alone,
+//! a whole number. [`Tick`] is the one here; civil times are in ec_civil. What a number is, and how
+//! it is spelt, is defined here for terms and tokens as well.
+//!
+//! **Proved**: a number is read exactly ([`read_number`]), and its text is read back. **Not said**:
+//! how many bytes a text has, but that it has at most [`LONGEST_MOMENT`]. Start at `moment.rt`;
+//! `specs/Number.antt` and `specs/Moment.antt` say what a number and a kind of time are.
 #![tactic(auto)]
 
 mod laws;

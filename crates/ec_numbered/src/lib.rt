@@ -1,5 +1,13 @@
-//! What is kept by number: rows, each found at once under its number; ascending sets of numbers; maps by number, and
-//! maps that mostly have few rows; and the agenda, which tells the numbers that are due at a time, the earliest first.
+//! What is kept by number.
+//!
+//! Properties and slots are numbers. [`ByNumber`] has a row for each, [`PropSet`] is an ascending
+//! set, [`NumberMap`] and [`SmallMap`] are maps that a sweep fills and empties at each visit, and
+//! [`Agenda`] tells the numbers that are due at a time, the earliest first.
+//!
+//! **Proved**: each call is exact on what it is seen as, a list of optional rows, a set, a map in
+//! which a key stands in one row; after memory ran out all is as it was. **Not said**: how long a
+//! search takes. Start at `by_number.rt` and `agenda.rt`; `specs/ByNumber.antt` and
+//! `specs/Due.antt` have the words.
 #![tactic(auto)]
 
 mod agenda;

@@ -1,5 +1,14 @@
-//! The world outside: what is read, what is written and a folder of files, as three traits whose
-//! contracts say what each call does where the object tells its contents, and when a call fails.
+//! The world outside: what is read, what is written, and a folder of files.
+//!
+//! Three traits, [`Source`], [`Sink`] and [`Folder`], whose contracts say what each call does where
+//! the object tells its contents, and when a call fails. Each has an object in memory and a real
+//! one. [`Text`] puts a short text together in place before it is written.
+//!
+//! **Proved**: the objects in memory keep their traits and fail where they were told to;
+//! [`write_all`] writes a whole text, or a first part of it where a write fails; a call that does
+//! not fail counts no fault. **Not said**: which bytes the real input, output and files pass, since
+//! std does not tell. Start at `source.rt` and `sink.rt`; `specs/Streams.antt` and
+//! `specs/Files.antt` have the words.
 #![tactic(auto)]
 
 mod buffered;

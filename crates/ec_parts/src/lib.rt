@@ -1,4 +1,14 @@
 //! The parts of the engine, and what it is that they stand for a list of events.
+//!
+//! [`Parts`] has the store, the tables of properties and neighbours, the entries, the marks and the
+//! intervals. The tables can be ahead of the caches by some events: so an update is tried in them
+//! first.
+//!
+//! **Proved**: what an event's entries name newly joins all parts ([`enter`]), its mentions come
+//! and go ([`mention_all`], [`release_all`]), and what nothing mentions is forgotten ([`forget`]),
+//! while the parts go on standing for the lists that they stood for. **Not said**: how much memory
+//! the parts take. Start at `parts.rt`; `specs/StandFor.antt` says what the parts stand for,
+//! `specs/Caches.antt` what each cache holds.
 #![tactic(auto)]
 
 mod adopting;

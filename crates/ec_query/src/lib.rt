@@ -1,5 +1,13 @@
-//! Queries and reasons, answered from the caches without memory: the replies that list what holds, broke and clashed, and why
-//! a property holds at a time, or why it does not.
+//! Queries and reasons, answered from the caches without memory.
+//!
+//! Each query has a file that writes its reply: what holds, what broke, what clashed, which events
+//! there are. [`why`] finds the reason why a property holds at a time or does not, with its first
+//! causes.
+//!
+//! **Proved**: each reply is that of the definitions, byte for byte, or a first part of it where
+//! the output fails; a reason is that of the calculus, found in at most two steps for each event at
+//! its instants (`why`: `reason`, `steps`). **Not said**: how long a search takes. Start at
+//! `held.rt` and `explaining.rt`; `specs/Held.antt` says what the caches must hold.
 #![tactic(auto)]
 
 mod begin_text;

@@ -1,4 +1,13 @@
-//! The replies of a state to lines, and the runs that lines make: definitions, and the laws over them.
+//! The replies of a state to lines, and the runs that lines make.
+//!
+//! No code: definitions and laws. A state is the present events, what the last update changed, a
+//! draft for each session, the past, and what each session watches. A line is answered by a reply
+//! and leaves a state; a run takes the lines in order, up to `quit`.
+//!
+//! **Proved**: a refused line changes nothing; a commit is all or nothing; a session sees its own
+//! draft alone; queries change nothing; the past is remembered as long as it is kept; notes tell
+//! the intervals (`laws_*.rt`). **Not said**: how a program finds a reply. Start at
+//! `specs/State.antt`, `specs/Replies.antt` and `specs/Runs.antt`.
 #![tactic(auto)]
 
 mod laws_notes;

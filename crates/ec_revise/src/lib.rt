@@ -1,4 +1,14 @@
-//! The forward sweep: how the caches of one list of events become those of another.
+//! The forward sweep, as laws: how the caches of one list of events become those of another.
+//!
+//! A sweep goes over the instants from the first event of one list alone on, and finds which
+//! properties differ, which marks change and which entries turn. Here are its invariant, the laws
+//! by which it starts, passes quiet instants, visits one and ends, and its smallest steps in code.
+//! ec_sweep does the walk.
+//!
+//! **Proved**: where nothing is left to visit, what was found is what the new list has
+//! (`sweep_ends_law`); a property settled at an instant has its new mark ([`settle`]: `mark`,
+//! `dirty`). **Not said**: in which order a program looks at things. Start at `specs/Sweep.antt`,
+//! then `laws.rt`.
 #![tactic(auto)]
 
 mod change;

@@ -1,7 +1,12 @@
 //! Ordered rows: the marks of a property, the intervals that it held over, and the times of events.
 //!
-//! Each kind of row is a trait, seen by contracts as an ordered list with `spare`, the number of further
-//! members that it takes without memory. A row over `Vec` implements each.
+//! Each kind of row is a trait ([`MarkRow`], [`SpanRow`], [`TimeRow`]), seen by contracts as an
+//! ordered list with `spare`, the number of further members that it takes without memory. A row
+//! over `Vec` implements each; rows over lists in blocks are in ec_block_rows.
+//!
+//! **Proved**: each call is exact on the list; a call with room takes no memory; two rows with the
+//! same mark at each time are equal ([`rows_ext`]). **Not said**: how much an edit moves. Start at
+//! `mark_row.rt`.
 #![tactic(auto)]
 
 mod edits;

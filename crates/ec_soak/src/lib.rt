@@ -1,4 +1,11 @@
-//! The input and the output of a soak run: generated lines as a source, and a sink that counts replies.
+//! The input and the output of a soak run.
+//!
+//! [`SoakSource`] gives the lines that a seed makes, one after the other, and [`TallySink`] counts
+//! replies in place of writing them. So a run of a hundred thousand lines needs no file.
+//!
+//! **Proved**: the bytes are those of the definition, and the counts are those of what was written
+//! ([`write_summary`]: `written`). **Not said**: that the generated lines try much. Start at
+//! `soak_source.rt`; `specs/Load.antt` and `specs/Tally.antt` are the definitions.
 #![tactic(auto)]
 
 mod counts;

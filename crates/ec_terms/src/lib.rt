@@ -1,4 +1,14 @@
-//! Ground terms, patterns and the types of a theory.
+//! Names, ground terms, patterns, and the types of a theory.
+//!
+//! A term is a name with up to 8 arguments, each a number or a name. A pattern has variables too,
+//! and fits a term under a binding. A theory is its rules and declarations as values; ec_theory
+//! reads one.
+//!
+//! **Proved**: terms are read as the longest run and never cut; their order is total, and their
+//! text is read back; matching finds the one binding under which a pattern fits ([`matches`]:
+//! `fits`, `binding`); which properties are exclusive, strong and initial. **Not said**: how long
+//! matching takes. Start at `ground.rt` and `theory.rt`; `specs/Term.antt`, `specs/Matching.antt`
+//! and `specs/Domain.antt` are the definitions.
 #![tactic(auto)]
 
 mod binding;

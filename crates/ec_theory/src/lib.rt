@@ -1,4 +1,13 @@
 //! The text of a theory: its tokens, and the theory that they read as.
+//!
+//! [`tokens`] cuts a text, [`read_theory`] reads the tokens by the clause grammar, and [`accept`]
+//! makes a checked theory of the bytes of a file, or tells their first fault with its place.
+//!
+//! **Proved**: the tokens are the longest at each place; there is at most one reading, and it is
+//! found; a fault of syntax is the first token that no readable list goes on with (`laws.rt`:
+//! `one_reading_law`, `stop_law`). **Not said**: how long it takes. Start at `text.rt`;
+//! `specs/Grammar.antt` and `specs/Reading.antt` say what a reading is, `specs/Walk.antt` has the
+//! table by which it is found.
 #![tactic(auto)]
 
 mod clause;
