@@ -18,7 +18,7 @@ if [ -x "$program" ]; then
 fi
 
 if [ $# -eq 0 ]; then
-    echo "usage: ec check THEORY / serve THEORY / replay THEORY LINES / soak N SEED"
+    echo "usage: ec check THEORY / serve THEORY / replay THEORY LINES / soak N SEED / prove THEORY LINES P T / verify THEORY LINES CERT P T"
     say "the program is not built. ./build proves and builds it once, in about an hour; until then a command runs its sources."
     exit 2
 fi
@@ -55,12 +55,17 @@ words=("$@")
 case "$#:$1" in
     2:check | 2:serve) words=("$1" theory) ;;
     3:replay) words=("$1" theory lines) ;;
+    5:prove) words=("$1" theory lines "$4" "$5") ;;
+    6:verify) words=("$1" theory lines certificate "$5" "$6") ;;
 esac
 if [ "${words[1]-}" = theory ]; then
     hand_over theory "$2" 1048576
 fi
 if [ "${words[2]-}" = lines ]; then
     hand_over lines "$3" 67108864
+fi
+if [ "${words[3]-}" = certificate ]; then
+    hand_over certificate "$4" 67108864
 fi
 if [ "$#:$1" = 2:serve ]; then
     if ! cat > "$work/input"; then
